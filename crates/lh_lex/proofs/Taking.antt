@@ -1,6 +1,6 @@
 -- The token in front of bytes, and the tokens behind it.
-use Rattle.std.proofs.Common.{◌≡◌, ℕ, ◌+◌, ◌-◌, zero, suc, Bool, List, [], ◌∷◌, length, take, drop, nat_eq, nat_lt, Some, None, Result, Ok, Err, true, false, refl, ap, sym, ◌∙◌, subst, arith}
-use Rattle.lh_unit.specs.Lexemes.{Lexeme, word, local, lexemes, lexemes_after, front, first_lexeme, run_len, fits_name, is_white, is_comment}
+use Rattle.std.proofs.Common.{◌≡◌, ℕ, ◌+◌, ◌-◌, ◌||◌, zero, suc, Bool, List, [], ◌∷◌, length, take, drop, nat_eq, nat_lt, Some, None, Result, Ok, Err, true, false, refl, ap, sym, ◌∙◌, subst, arith, add-one}
+use Rattle.lh_unit.specs.Lexemes.{Lexeme, word, local, lexemes, lexemes_after, front, first_lexeme, run_len, fits_name, is_white, is_comment, is_punct}
 use Rattle.lh_names.specs.Names.{is_name_byte, IsName}
 use Rattle.lh_unit.specs.Tokens.{tokens, tokens_after, front_token, first_token, fault_place, lexeme_of, lexemes_of, IsSpelling}
 use Rattle.lh_unit.specs.declared.token.Token.{Token}
@@ -8,8 +8,10 @@ use Rattle.lh_unit.specs.declared.token.TokenKind.{TokenKind}
 use Rattle.lh_unit.specs.declared.token.TokenKind.TheVariants as kind
 use Rattle.std.proofs.lemmas.Grind.{common_steps}
 use Rattle.lh_unit.proofs.Lexing.{lexemes-tokens, tokens-spelled}
+use Rattle.std.proofs.lemmas.Bool.{false≢true}
 use Rattle.std.proofs.lemmas.List.{take_rest}
 use Rattle.lh_lex.specs.Front.{length_of, lexemes_in, HasTokens, IsSettled}
+use Rattle.lh_lex.proofs.Classes.{no-name, no-mark}
 use Rattle.lh_lex.proofs.Joined.{tokens_after-drop}
 
 fault-front : (t : Token) (r : Result (List Token) ℕ) → fault_place (front_token t r) ≡ fault_place r
@@ -119,3 +121,50 @@ pub word-taken : (text bs us : List ℕ) (b n : ℕ) → text ≡ b ∷ bs → I
     → lexemes text ≡ front (word (take (1 + n) text)) (lexemes us)
 word-taken text bs us b n e s h v q =
     split-taken text b bs kind.Word n us e (subst IsSettled e s) (subst (λ m. Some (lexeme_of kind.Word (b ∷ take m bs), m) ≡ first_lexeme b bs) (sym v) (word-lexeme b bs h)) q
+
+-- a word in front changes nothing of the first bad byte
+fault-word : (at b : ℕ) (bs : List ℕ) → is_name_byte b ≡ true → fault_place (tokens_after (at + 1) (run_len bs) bs) ≡ fault_place (tokens_after at 0 (b ∷ bs))
+unfolding first_token
+fault-word at b bs n =
+    let w : is_white b ≡ false = no-name is_white refl b n in
+    let s : nat_eq b 59 ≡ false = no-name (λ c. nat_eq c 59) refl b n in
+    let d : nat_eq b 47 ≡ false = no-name (λ c. nat_eq c 47) refl b n in
+    let t : Token = record { kind = kind.Word; from = at; to = at + 1 + run_len bs } in
+    let e : tokens_after at 0 (b ∷ bs) ≡ front_token t (tokens_after (at + 1) (run_len bs) bs) = rw (w, s, d, n) refl in
+    sym (ap fault_place e ∙ fault-front t (tokens_after (at + 1) (run_len bs) bs))
+
+-- the first bad byte behind a word is that behind its first byte
+fault-run : (at : ℕ) (bs : List ℕ) → fault_place (tokens_after at (run_len bs) bs) ≡ fault_place (tokens_after at 0 bs)
+fault-run at [] = refl
+fault-run at (b ∷ bs) = by (is_name_byte b) refl
+  where
+    by : (t : Bool) → is_name_byte b ≡ t → fault_place (tokens_after at (run_len (b ∷ bs)) (b ∷ bs)) ≡ fault_place (tokens_after at 0 (b ∷ bs))
+    by false n = let k : run_len (b ∷ bs) ≡ 0 = rw n refl in ap (λ m. fault_place (tokens_after at m (b ∷ bs))) k
+    by true n =
+        let k : run_len (b ∷ bs) ≡ suc (run_len bs) = rw n (add-one (run_len bs)) in
+        ap (λ m. fault_place (tokens_after at m (b ∷ bs))) k ∙ fault-word at b bs n
+
+-- nor does a mark in front
+fault-mark : (at b : ℕ) (bs : List ℕ) → is_punct b ≡ true → fault_place (tokens_after (at + 1) 0 bs) ≡ fault_place (tokens_after at 0 (b ∷ bs))
+unfolding first_token
+fault-mark at b bs p =
+    let w : is_white b ≡ false = no-mark is_white refl b p in
+    let s : nat_eq b 59 ≡ false = no-mark (λ c. nat_eq c 59) refl b p in
+    let d : nat_eq b 47 ≡ false = no-mark (λ c. nat_eq c 47) refl b p in
+    let n : is_name_byte b ≡ false = no-mark is_name_byte refl b p in
+    let g : nat_eq b 64 ≡ false = no-mark (λ c. nat_eq c 64) refl b p in
+    let l : nat_eq b 37 ≡ false = no-mark (λ c. nat_eq c 37) refl b p in
+    let m : nat_eq b 45 ≡ false = no-mark (λ c. nat_eq c 45) refl b p in
+    let t : Token = record { kind = kind.Punct b; from = at; to = at + 1 + 0 } in
+    let e : tokens_after at 0 (b ∷ bs) ≡ front_token t (tokens_after (at + 1) 0 bs) = rw (w, s, d, n, g, l, m, p) refl in
+    sym (ap fault_place e ∙ fault-front t (tokens_after (at + 1) 0 bs))
+
+-- nor a byte of a name, a mark or a white byte
+pub fault-plain : (at b : ℕ) (bs : List ℕ) → (is_name_byte b || is_punct b || is_white b) ≡ true → fault_place (tokens_after (at + 1) 0 bs) ≡ fault_place (tokens_after at 0 (b ∷ bs))
+fault-plain at b bs h = by (is_name_byte b) (is_punct b) (is_white b) refl refl refl h
+  where
+    by : (n p w : Bool) → is_name_byte b ≡ n → is_punct b ≡ p → is_white b ≡ w → (n || p || w) ≡ true → fault_place (tokens_after (at + 1) 0 bs) ≡ fault_place (tokens_after at 0 (b ∷ bs))
+    by true p w n _ _ _ = sym (fault-run (at + 1) bs) ∙ fault-word at b bs n
+    by false true w _ p _ _ = fault-mark at b bs p
+    by false false true _ _ w _ = rw w refl
+    by false false false _ _ _ e = absurd (false≢true e)

@@ -4,7 +4,7 @@
 //! from the front (`from_token`, `split`). `line` lists them all.
 #![tactic(auto)]
 
-ghost use Rattle.std.specs.Prelude.{◌≡◌, ◌≤◌, ◌+◌, [], ◌∷◌, IfOk, IfErr, IfSome, IfNone, length, map, drop, false, Some, None, Result, Ok};
+ghost use Rattle.std.specs.Prelude.{◌≡◌, ◌≤◌, ◌+◌, ◌||◌, [], ◌∷◌, IfOk, IfErr, IfSome, IfNone, length, map, drop, false, Some, None, Result, Ok};
 ghost use Rattle.lh_names.specs.Names.{is_name_byte, IsName};
 ghost use Rattle.lh_unit.specs.Lexemes as spec;
 ghost use Rattle.lh_unit.specs.Lexemes.{lexemes, front, first_lexeme, run_len, begins, is_comment, is_punct};
@@ -28,26 +28,51 @@ pub enum LexFault {
     OutOfMemory,
 }
 
+// What a byte is: 1 of a name, 2 a mark, 3 white, and 0 what takes others beside it or begins nothing.
+#[rattlefmt::skip]
+static CLASSES: [u8; 256] = [
+    0, 0, 0, 0, 0, 0, 0, 0, 0, 3, 0, 0, 0, 3, 0, 0,
+    0, 0, 0, 0, 0, 0, 0, 0, 0, 0, 0, 0, 0, 0, 0, 0,
+    3, 0, 0, 0, 2, 0, 0, 0, 2, 2, 2, 0, 2, 0, 1, 0,
+    1, 1, 1, 1, 1, 1, 1, 1, 1, 1, 2, 0, 0, 2, 0, 0,
+    0, 1, 1, 1, 1, 1, 1, 1, 1, 1, 1, 1, 1, 1, 1, 1,
+    1, 1, 1, 1, 1, 1, 1, 1, 1, 1, 1, 2, 0, 2, 0, 1,
+    0, 1, 1, 1, 1, 1, 1, 1, 1, 1, 1, 1, 1, 1, 1, 1,
+    1, 1, 1, 1, 1, 1, 1, 1, 1, 1, 1, 2, 0, 2, 0, 0,
+    0, 0, 0, 0, 0, 0, 0, 0, 0, 0, 0, 0, 0, 0, 0, 0,
+    0, 0, 0, 0, 0, 0, 0, 0, 0, 0, 0, 0, 0, 0, 0, 0,
+    0, 0, 0, 0, 0, 0, 0, 0, 0, 0, 0, 0, 0, 0, 0, 0,
+    0, 0, 0, 0, 0, 0, 0, 0, 0, 0, 0, 0, 0, 0, 0, 0,
+    0, 0, 0, 0, 0, 0, 0, 0, 0, 0, 0, 0, 0, 0, 0, 0,
+    0, 0, 0, 0, 0, 0, 0, 0, 0, 0, 0, 0, 0, 0, 0, 0,
+    0, 0, 0, 0, 0, 0, 0, 0, 0, 0, 0, 0, 0, 0, 0, 0,
+    0, 0, 0, 0, 0, 0, 0, 0, 0, 0, 0, 0, 0, 0, 0, 0,
+];
+
 fn is_name(b: u8) -> bool
     ensures { result ≡ is_name_byte b }
 {
-    matches!(b, b'0'..=b'9' | b'A'..=b'Z' | b'a'..=b'z' | b'_' | b'.')
-}
-
-fn is_white(b: u8) -> bool
-    ensures { result ≡ spec.is_white b }
-{
-    matches!(b, b' ' | b'\t' | b'\r')
+    CLASSES[usize::from(b)] == 1
 }
 
 /// Whether the byte is a mark, which is a token by itself.
 pub fn is_mark(b: u8) -> bool
     ensures { result ≡ is_punct b }
 {
-    matches!(
-        b,
-        b'(' | b')' | b'{' | b'}' | b'[' | b']' | b',' | b':' | b'$' | b'*' | b'='
-    )
+    CLASSES[usize::from(b)] == 2
+}
+
+fn is_white(b: u8) -> bool
+    ensures { result ≡ spec.is_white b }
+{
+    CLASSES[usize::from(b)] == 3
+}
+
+/// Whether the byte is good wherever it stands: of a name, a mark or white.
+fn is_plain(b: u8) -> bool
+    ensures { result ≡ is_name_byte b || is_punct b || spec.is_white b }
+{
+    CLASSES[usize::from(b)] != 0
 }
 
 fn begins_with(bytes: &[u8], b: u8) -> bool
@@ -71,11 +96,12 @@ fn name_len(bytes: &[u8]) -> usize
     ensures value { result ≡ run_len bytes.now }
     ensures within { result ≤ length bytes.now }
 {
-    let mut len = 0;
-    while len < bytes.len() && is_name(bytes[len]) {
-        len += 1;
+    for (i, b) in bytes.iter().enumerate() {
+        if !is_name(*b) {
+            return i;
+        }
     }
-    len
+    bytes.len()
 }
 
 /// A sigil's token before this many name bytes.
@@ -163,7 +189,7 @@ pub fn first_bad(text: &[u8]) -> Option<usize>
     let mut at = 0;
     let mut rest = text;
     while let Some((b, more)) = rest.split_first() {
-        if is_white(*b) {
+        if is_plain(*b) {
             rest = more;
             at += 1;
             continue;

@@ -9,12 +9,12 @@ ghost use Rattle.lh_scan.specs.LexemeOf.{unit_name_of};
 ghost use Rattle.lh_syntax.specs.SyntaxOf.{operand_of, operands_of, trigger_of, edge_of};
 ghost use Rattle.lh_read.specs.Placing.{ValuePlaced, MaybePlaced, LabelPlaced, OperandPlaced, TriggerPlaced, EdgePlaced, OperandsPlaced, TriggersPlaced, EdgesPlaced, SignalsPlaced};
 
+use crate::known::{Known, digest, is_named};
 use crate::taken::Taken;
 use lh_scan::tokens::{NameText, UnitNameText};
 use lh_syntax::syntax::{EdgeSyntax, Operand, TriggerSyntax};
 use lh_types::list::ListOf;
 use lh_types::ty::NoMemory;
-use lh_types::written::SharedTypes;
 use lh_unit::inst::{
     BlockId, PhiEdge, PhiEdgeList, RegTrigger, RegTriggerList, Typed, TypedList, UnitId, ValueId,
     ValueIdList,
@@ -34,8 +34,8 @@ pub fn unit_id(alloc: Global, m: &mut Module, name: &UnitNameText) -> Result<Uni
     m.unit_named(&name)
 }
 
-/// The value of this name in a unit.
-pub fn value_id(
+/// The entry of a value of this name in a unit.
+fn entered(
     alloc: Global,
     m: &mut Module,
     unit: UnitId,
@@ -50,6 +50,27 @@ pub fn value_id(
     }
     let name = name.to_name(alloc)?;
     m.enter_value(unit, name)
+}
+
+/// The value of this name in a unit. What the lines before have named is mostly at hand.
+pub fn value_id(
+    alloc: Global,
+    known: &mut Known,
+    m: &mut Module,
+    unit: UnitId,
+    name: &NameText,
+) -> Result<ValueId, NoMemory>
+    requires { unit.0 < unit_count m.old }
+    ensures { IfOk result (λ v. ValuePlaced m.old m.new unit v name.now) }
+{
+    let place = digest(name);
+    let recent = ValueId(known.values[place]);
+    if is_named(m, unit, recent, name) {
+        return Ok(recent);
+    }
+    let value = entered(alloc, m, unit, name)?;
+    known.values[place] = value.0;
+    Ok(value)
 }
 
 /// The label of this name in a unit.
@@ -73,6 +94,7 @@ pub fn label_id(
 /// The value of this name, if there is a name.
 pub fn maybe_id(
     alloc: Global,
+    known: &mut Known,
     m: &mut Module,
     unit: UnitId,
     name: &Option<NameText>,
@@ -81,7 +103,7 @@ pub fn maybe_id(
     ensures { IfOk result (λ v. MaybePlaced m.old m.new unit v name.now) }
 {
     match name {
-        Some(name) => Ok(Some(value_id(alloc, m, unit, name)?)),
+        Some(name) => Ok(Some(value_id(alloc, known, m, unit, name)?)),
         None => Ok(None),
     }
 }
@@ -89,7 +111,7 @@ pub fn maybe_id(
 /// The operand; the operands of a file share their types.
 pub fn operand(
     alloc: Global,
-    types: &mut SharedTypes,
+    known: &mut Known,
     m: &mut Module,
     unit: UnitId,
     from: Operand,
@@ -97,14 +119,15 @@ pub fn operand(
     requires { unit.0 < unit_count m.old }
     ensures { IfOk result (λ t. OperandPlaced m.old m.new unit t (operand_of from.entry)) }
 {
-    let value = value_id(alloc, m, unit, &from.value)?;
-    let ty = types.share(alloc, from.ty.as_ref())?;
+    let value = value_id(alloc, known, m, unit, &from.value)?;
+    let ty = known.types.share(alloc, from.ty.as_ref())?;
     Ok(Typed { value, ty })
 }
 
 /// The trigger of a register.
 fn trigger(
     alloc: Global,
+    known: &mut Known,
     m: &mut Module,
     unit: UnitId,
     from: &TriggerSyntax,
@@ -112,11 +135,11 @@ fn trigger(
     requires { unit.0 < unit_count m.old }
     ensures { IfOk result (λ t. TriggerPlaced m.old m.new unit t (trigger_of from.now)) }
 {
-    let value = value_id(alloc, m, unit, &from.value)?;
+    let value = value_id(alloc, known, m, unit, &from.value)?;
     let mode = from.mode;
-    let trigger = value_id(alloc, m, unit, &from.trigger)?;
-    let gate = maybe_id(alloc, m, unit, &from.gate)?;
-    let after = maybe_id(alloc, m, unit, &from.after)?;
+    let trigger = value_id(alloc, known, m, unit, &from.trigger)?;
+    let gate = maybe_id(alloc, known, m, unit, &from.gate)?;
+    let after = maybe_id(alloc, known, m, unit, &from.after)?;
     Ok(RegTrigger {
         value,
         mode,
@@ -127,11 +150,17 @@ fn trigger(
 }
 
 /// The edge of a `phi`.
-fn edge(alloc: Global, m: &mut Module, unit: UnitId, from: &EdgeSyntax) -> Result<PhiEdge, NoMemory>
+fn edge(
+    alloc: Global,
+    known: &mut Known,
+    m: &mut Module,
+    unit: UnitId,
+    from: &EdgeSyntax,
+) -> Result<PhiEdge, NoMemory>
     requires { unit.0 < unit_count m.old }
     ensures { IfOk result (λ e. EdgePlaced m.old m.new unit e (edge_of from.now)) }
 {
-    let value = value_id(alloc, m, unit, &from.value)?;
+    let value = value_id(alloc, known, m, unit, &from.value)?;
     let block = label_id(alloc, m, unit, &from.block)?;
     Ok(PhiEdge { value, block })
 }
@@ -139,7 +168,7 @@ fn edge(alloc: Global, m: &mut Module, unit: UnitId, from: &EdgeSyntax) -> Resul
 /// The operands.
 pub fn operands(
     alloc: Global,
-    types: &mut SharedTypes,
+    known: &mut Known,
     m: &mut Module,
     unit: UnitId,
     from: ListOf<Operand>,
@@ -149,7 +178,7 @@ pub fn operands(
 {
     let mut to = ListOf::with_room(alloc, from.len())?;
     for one in Taken::new(from) {
-        let placed = operand(alloc, types, m, unit, one)?;
+        let placed = operand(alloc, known, m, unit, one)?;
         to.push(placed)?;
     }
     Ok(to)
@@ -158,6 +187,7 @@ pub fn operands(
 /// The triggers of a register.
 pub fn triggers(
     alloc: Global,
+    known: &mut Known,
     m: &mut Module,
     unit: UnitId,
     from: &[TriggerSyntax],
@@ -167,7 +197,7 @@ pub fn triggers(
 {
     let mut to = ListOf::with_room(alloc, from.len())?;
     for one in from {
-        let placed = trigger(alloc, m, unit, one)?;
+        let placed = trigger(alloc, known, m, unit, one)?;
         to.push(placed)?;
     }
     Ok(to)
@@ -176,6 +206,7 @@ pub fn triggers(
 /// The edges of a `phi`.
 pub fn edges(
     alloc: Global,
+    known: &mut Known,
     m: &mut Module,
     unit: UnitId,
     from: &[EdgeSyntax],
@@ -185,7 +216,7 @@ pub fn edges(
 {
     let mut to = ListOf::with_room(alloc, from.len())?;
     for one in from {
-        let placed = edge(alloc, m, unit, one)?;
+        let placed = edge(alloc, known, m, unit, one)?;
         to.push(placed)?;
     }
     Ok(to)
@@ -194,6 +225,7 @@ pub fn edges(
 /// The signals that a `wait` names.
 pub fn signals(
     alloc: Global,
+    known: &mut Known,
     m: &mut Module,
     unit: UnitId,
     from: &[NameText],
@@ -203,7 +235,7 @@ pub fn signals(
 {
     let mut to = ListOf::with_room(alloc, from.len())?;
     for one in from {
-        let placed = value_id(alloc, m, unit, one)?;
+        let placed = value_id(alloc, known, m, unit, one)?;
         to.push(placed)?;
     }
     Ok(to)

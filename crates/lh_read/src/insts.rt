@@ -3,7 +3,7 @@
 //! Each call answers `NoMemory` as the calls of `ids` do; of the module nothing is said then.
 ghost use Rattle.std.specs.Prelude.{◌<◌, map, IfOk};
 ghost use Rattle.lh_unit.specs.Arena.{unit_count};
-ghost use Rattle.lh_unit.specs.Contents.{pure_text, st_text, drv_text, reg_text, child_text, call_text, phi_text, branch_text, wait_text, ret_text};
+ghost use Rattle.lh_unit.specs.Contents.{pure_text, var_text, ld_text, st_text, sig_text, prb_text, drv_text, reg_text, child_text, call_text, phi_text, br_text, branch_text, wait_text, ret_text};
 ghost use Rattle.lh_scan.specs.LexemeOf.{unit_name_of};
 ghost use Rattle.lh_syntax.specs.SyntaxOf.{operand_of, maybe_operand_of, operands_of, trigger_of, edge_of, inst_of};
 ghost use Rattle.lh_read.specs.Placing.{InstPlacedAs};
@@ -11,12 +11,12 @@ ghost use Rattle.lh_read.specs.Placing.{InstPlacedAs};
 use crate::ids::{
     edges, label_id, maybe_id, operand, operands, signals, triggers, unit_id, value_id,
 };
+use crate::known::Known;
 use lh_scan::tokens::{NameText, UnitNameText};
 use lh_syntax::syntax::{EdgeSyntax, InstSyntax, Operand, TriggerSyntax};
 use lh_types::list::ListOf;
 use lh_types::op::Op;
 use lh_types::ty::{NoMemory, Ty};
-use lh_types::written::SharedTypes;
 use lh_unit::constant::Constant;
 use lh_unit::inst::{Inst, OperandList, UnitId};
 use lh_unit::module::Module;
@@ -25,7 +25,7 @@ use std::alloc::Global;
 /// The instruction, with ids in place of names.
 pub fn instruction(
     alloc: Global,
-    types: &mut SharedTypes,
+    known: &mut Known,
     m: &mut Module,
     unit: UnitId,
     inst: InstSyntax,
@@ -35,45 +35,45 @@ pub fn instruction(
 {
     match inst {
         InstSyntax::Const(value) => Ok(Inst::Const(Constant::new(alloc, value)?)),
-        InstSyntax::Pure { op, args } => pure(alloc, types, m, unit, op, args),
-        InstSyntax::Var(of) => Ok(Inst::Var(operand(alloc, types, m, unit, of)?)),
-        InstSyntax::Ld(of) => Ok(Inst::Ld(operand(alloc, types, m, unit, of)?)),
-        InstSyntax::St { to, value } => st(alloc, types, m, unit, to, &value),
-        InstSyntax::Sig(of) => Ok(Inst::Sig(operand(alloc, types, m, unit, of)?)),
-        InstSyntax::Prb(of) => Ok(Inst::Prb(operand(alloc, types, m, unit, of)?)),
+        InstSyntax::Pure { op, args } => pure(alloc, known, m, unit, op, args),
+        InstSyntax::Var(of) => var(alloc, known, m, unit, of),
+        InstSyntax::Ld(of) => ld(alloc, known, m, unit, of),
+        InstSyntax::St { to, value } => st(alloc, known, m, unit, to, &value),
+        InstSyntax::Sig(of) => sig(alloc, known, m, unit, of),
+        InstSyntax::Prb(of) => prb(alloc, known, m, unit, of),
         InstSyntax::Drv {
             to,
             value,
             after,
             cond,
-        } => drv(alloc, types, m, unit, to, &value, &after, &cond),
-        InstSyntax::Reg { to, triggers: by } => reg(alloc, types, m, unit, to, by.as_slice()),
+        } => drv(alloc, known, m, unit, to, &value, &after, &cond),
+        InstSyntax::Reg { to, triggers: by } => reg(alloc, known, m, unit, to, by.as_slice()),
         InstSyntax::Child {
             unit: name,
             inputs,
             outputs,
-        } => child(alloc, types, m, unit, &name, inputs, outputs),
+        } => child(alloc, known, m, unit, &name, inputs, outputs),
         InstSyntax::Call {
             unit: name,
             result,
             args,
-        } => call(alloc, types, m, unit, &name, result, args),
-        InstSyntax::Phi { ty, edges: from } => phi(alloc, m, unit, ty, from.as_slice()),
-        InstSyntax::Br(to) => Ok(Inst::Br(label_id(alloc, m, unit, &to)?)),
-        InstSyntax::Branch { cond, zero, one } => branch(alloc, m, unit, &cond, &zero, &one),
+        } => call(alloc, known, m, unit, &name, result, args),
+        InstSyntax::Phi { ty, edges: from } => phi(alloc, known, m, unit, ty, from.as_slice()),
+        InstSyntax::Br(to) => br(alloc, m, unit, &to),
+        InstSyntax::Branch { cond, zero, one } => branch(alloc, known, m, unit, &cond, &zero, &one),
         InstSyntax::Wait {
             to,
             after,
             signals: named,
-        } => wait(alloc, m, unit, &to, &after, named.as_slice()),
+        } => wait(alloc, known, m, unit, &to, &after, named.as_slice()),
         InstSyntax::Halt => Ok(Inst::Halt),
-        InstSyntax::Ret(of) => ret(alloc, types, m, unit, of),
+        InstSyntax::Ret(of) => ret(alloc, known, m, unit, of),
     }
 }
 
 fn pure(
     alloc: Global,
-    types: &mut SharedTypes,
+    known: &mut Known,
     m: &mut Module,
     unit: UnitId,
     op: Op,
@@ -82,13 +82,39 @@ fn pure(
     requires { unit.0 < unit_count m.old }
     ensures { IfOk result (λ i. InstPlacedAs m.old m.new unit i (pure_text op (operands_of args.entry))) }
 {
-    let args = OperandList::from_list(operands(alloc, types, m, unit, args)?);
+    let args = OperandList::from_list(operands(alloc, known, m, unit, args)?);
     Ok(Inst::Pure { op, args })
+}
+
+fn var(
+    alloc: Global,
+    known: &mut Known,
+    m: &mut Module,
+    unit: UnitId,
+    of: Operand,
+) -> Result<Inst, NoMemory>
+    requires { unit.0 < unit_count m.old }
+    ensures { IfOk result (λ i. InstPlacedAs m.old m.new unit i (var_text (operand_of of.entry))) }
+{
+    Ok(Inst::Var(operand(alloc, known, m, unit, of)?))
+}
+
+fn ld(
+    alloc: Global,
+    known: &mut Known,
+    m: &mut Module,
+    unit: UnitId,
+    of: Operand,
+) -> Result<Inst, NoMemory>
+    requires { unit.0 < unit_count m.old }
+    ensures { IfOk result (λ i. InstPlacedAs m.old m.new unit i (ld_text (operand_of of.entry))) }
+{
+    Ok(Inst::Ld(operand(alloc, known, m, unit, of)?))
 }
 
 fn st(
     alloc: Global,
-    types: &mut SharedTypes,
+    known: &mut Known,
     m: &mut Module,
     unit: UnitId,
     to: Operand,
@@ -97,14 +123,40 @@ fn st(
     requires { unit.0 < unit_count m.old }
     ensures { IfOk result (λ i. InstPlacedAs m.old m.new unit i (st_text (operand_of to.entry) value.now)) }
 {
-    let to = operand(alloc, types, m, unit, to)?;
-    let value = value_id(alloc, m, unit, value)?;
+    let to = operand(alloc, known, m, unit, to)?;
+    let value = value_id(alloc, known, m, unit, value)?;
     Ok(Inst::St { to, value })
+}
+
+fn sig(
+    alloc: Global,
+    known: &mut Known,
+    m: &mut Module,
+    unit: UnitId,
+    of: Operand,
+) -> Result<Inst, NoMemory>
+    requires { unit.0 < unit_count m.old }
+    ensures { IfOk result (λ i. InstPlacedAs m.old m.new unit i (sig_text (operand_of of.entry))) }
+{
+    Ok(Inst::Sig(operand(alloc, known, m, unit, of)?))
+}
+
+fn prb(
+    alloc: Global,
+    known: &mut Known,
+    m: &mut Module,
+    unit: UnitId,
+    of: Operand,
+) -> Result<Inst, NoMemory>
+    requires { unit.0 < unit_count m.old }
+    ensures { IfOk result (λ i. InstPlacedAs m.old m.new unit i (prb_text (operand_of of.entry))) }
+{
+    Ok(Inst::Prb(operand(alloc, known, m, unit, of)?))
 }
 
 fn drv(
     alloc: Global,
-    types: &mut SharedTypes,
+    known: &mut Known,
     m: &mut Module,
     unit: UnitId,
     to: Operand,
@@ -115,10 +167,10 @@ fn drv(
     requires { unit.0 < unit_count m.old }
     ensures { IfOk result (λ i. InstPlacedAs m.old m.new unit i (drv_text (operand_of to.entry) value.now after.now cond.now)) }
 {
-    let to = operand(alloc, types, m, unit, to)?;
-    let value = value_id(alloc, m, unit, value)?;
-    let after = value_id(alloc, m, unit, after)?;
-    let cond = maybe_id(alloc, m, unit, cond)?;
+    let to = operand(alloc, known, m, unit, to)?;
+    let value = value_id(alloc, known, m, unit, value)?;
+    let after = value_id(alloc, known, m, unit, after)?;
+    let cond = maybe_id(alloc, known, m, unit, cond)?;
     Ok(Inst::Drv {
         to,
         value,
@@ -129,7 +181,7 @@ fn drv(
 
 fn reg(
     alloc: Global,
-    types: &mut SharedTypes,
+    known: &mut Known,
     m: &mut Module,
     unit: UnitId,
     to: Operand,
@@ -138,14 +190,14 @@ fn reg(
     requires { unit.0 < unit_count m.old }
     ensures { IfOk result (λ i. InstPlacedAs m.old m.new unit i (reg_text (operand_of to.entry) (map trigger_of by.now))) }
 {
-    let to = operand(alloc, types, m, unit, to)?;
-    let triggers = triggers(alloc, m, unit, by)?;
+    let to = operand(alloc, known, m, unit, to)?;
+    let triggers = triggers(alloc, known, m, unit, by)?;
     Ok(Inst::Reg { to, triggers })
 }
 
 fn child(
     alloc: Global,
-    types: &mut SharedTypes,
+    known: &mut Known,
     m: &mut Module,
     unit: UnitId,
     name: &UnitNameText,
@@ -156,8 +208,8 @@ fn child(
     ensures { IfOk result (λ i. InstPlacedAs m.old m.new unit i (child_text (unit_name_of name.now) (operands_of inputs.entry) (operands_of outputs.entry))) }
 {
     let of = unit_id(alloc, m, name)?;
-    let inputs = operands(alloc, types, m, unit, inputs)?;
-    let outputs = operands(alloc, types, m, unit, outputs)?;
+    let inputs = operands(alloc, known, m, unit, inputs)?;
+    let outputs = operands(alloc, known, m, unit, outputs)?;
     Ok(Inst::Child {
         unit: of,
         inputs,
@@ -167,7 +219,7 @@ fn child(
 
 fn call(
     alloc: Global,
-    types: &mut SharedTypes,
+    known: &mut Known,
     m: &mut Module,
     unit: UnitId,
     name: &UnitNameText,
@@ -178,7 +230,7 @@ fn call(
     ensures { IfOk result (λ i. InstPlacedAs m.old m.new unit i (call_text (unit_name_of name.now) ty (operands_of args.entry))) }
 {
     let of = unit_id(alloc, m, name)?;
-    let args = operands(alloc, types, m, unit, args)?;
+    let args = operands(alloc, known, m, unit, args)?;
     Ok(Inst::Call {
         unit: of,
         result: ty,
@@ -188,6 +240,7 @@ fn call(
 
 fn phi(
     alloc: Global,
+    known: &mut Known,
     m: &mut Module,
     unit: UnitId,
     ty: Ty,
@@ -196,12 +249,20 @@ fn phi(
     requires { unit.0 < unit_count m.old }
     ensures { IfOk result (λ i. InstPlacedAs m.old m.new unit i (phi_text ty (map edge_of from.now))) }
 {
-    let edges = edges(alloc, m, unit, from)?;
+    let edges = edges(alloc, known, m, unit, from)?;
     Ok(Inst::Phi { ty, edges })
+}
+
+fn br(alloc: Global, m: &mut Module, unit: UnitId, to: &NameText) -> Result<Inst, NoMemory>
+    requires { unit.0 < unit_count m.old }
+    ensures { IfOk result (λ i. InstPlacedAs m.old m.new unit i (br_text to.now)) }
+{
+    Ok(Inst::Br(label_id(alloc, m, unit, to)?))
 }
 
 fn branch(
     alloc: Global,
+    known: &mut Known,
     m: &mut Module,
     unit: UnitId,
     cond: &NameText,
@@ -211,7 +272,7 @@ fn branch(
     requires { unit.0 < unit_count m.old }
     ensures { IfOk result (λ i. InstPlacedAs m.old m.new unit i (branch_text cond.now zero.now one.now)) }
 {
-    let cond = value_id(alloc, m, unit, cond)?;
+    let cond = value_id(alloc, known, m, unit, cond)?;
     let zero = label_id(alloc, m, unit, zero)?;
     let one = label_id(alloc, m, unit, one)?;
     Ok(Inst::Branch { cond, zero, one })
@@ -219,6 +280,7 @@ fn branch(
 
 fn wait(
     alloc: Global,
+    known: &mut Known,
     m: &mut Module,
     unit: UnitId,
     to: &NameText,
@@ -229,14 +291,14 @@ fn wait(
     ensures { IfOk result (λ i. InstPlacedAs m.old m.new unit i (wait_text to.now after.now named.now)) }
 {
     let to = label_id(alloc, m, unit, to)?;
-    let after = maybe_id(alloc, m, unit, after)?;
-    let signals = signals(alloc, m, unit, named)?;
+    let after = maybe_id(alloc, known, m, unit, after)?;
+    let signals = signals(alloc, known, m, unit, named)?;
     Ok(Inst::Wait { to, after, signals })
 }
 
 fn ret(
     alloc: Global,
-    types: &mut SharedTypes,
+    known: &mut Known,
     m: &mut Module,
     unit: UnitId,
     of: Option<Operand>,
@@ -245,7 +307,7 @@ fn ret(
     ensures { IfOk result (λ i. InstPlacedAs m.old m.new unit i (ret_text (maybe_operand_of of.entry))) }
 {
     match of {
-        Some(of) => Ok(Inst::Ret(Some(operand(alloc, types, m, unit, of)?))),
+        Some(of) => Ok(Inst::Ret(Some(operand(alloc, known, m, unit, of)?))),
         None => Ok(Inst::Ret(None)),
     }
 }

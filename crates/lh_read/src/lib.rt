@@ -12,6 +12,7 @@ ghost use Rattle.lh_read.specs.Reading.{ModuleOrNoMemory, Names, ModuleOrFault, 
 mod faults;
 mod ids;
 mod insts;
+mod known;
 mod lines;
 mod places;
 mod reader;

@@ -1,5 +1,5 @@
 //! The lines of a text, one after another.
-ghost use Rattle.std.specs.Prelude.{◌≡◌, ◌≤◌, ◌<◌, ◌==◌, ◌∷◌, length, position, OnOk};
+ghost use Rattle.std.specs.Prelude.{◌≡◌, ◌≤◌, ◌<◌, ◌∷◌, length, OnOk};
 ghost use Rattle.lh_unit.specs.Lines.{lines_of};
 ghost use Rattle.lh_read.specs.Building.{TakesOrIsBad};
 ghost use Rattle.lh_read.specs.InOrder.{IsInOrder, state_of};
@@ -8,14 +8,8 @@ use crate::faults::LineFault;
 use crate::reader::Reader;
 use lh_scan::tokens::Tokens;
 use lh_syntax::item;
+use memchr::memchr;
 use std::alloc::Global;
-
-/// Where the first line ends.
-fn newline(text: &[u8]) -> Option<usize>
-    ensures { result ≡ position (λ b. b == 10) text.now }
-{
-    text.iter().position(|b| *b == b'\n')
-}
 
 /// The first line without its end, and what follows it.
 pub fn next_line(text: &[u8]) -> (&[u8], &[u8])
@@ -24,7 +18,7 @@ pub fn next_line(text: &[u8]) -> (&[u8], &[u8])
     ensures shorter { length result.1.now < length text.now }
     ensures within { length result.0.now ≤ length text.now }
 {
-    match newline(text) {
+    match memchr(b'\n', text) {
         Some(i) => (&text[..i], &text[i + 1..]),
         None => (text, &text[text.len()..]),
     }

@@ -11,12 +11,12 @@ ghost use Rattle.lh_read.specs.InOrder.{state_of, IsInOrder};
 use crate::faults::LineFault;
 use crate::ids::{label_id, maybe_id};
 use crate::insts::instruction;
+use crate::known::Known;
 use crate::places::LinePlace;
 use crate::units::{begin_function, begin_with_ports};
 use lh_scan::tokens::{NameText, UnitNameText};
 use lh_syntax::syntax::{InstSyntax, LineSyntax, Param, Ports};
 use lh_types::ty::{NoMemory, Ty, TyList};
-use lh_types::written::SharedTypes;
 use lh_unit::inst::{Declare, UnitKind};
 use lh_unit::module::Module;
 use std::alloc::Global;
@@ -75,8 +75,7 @@ fn declare_unit(
 pub struct Reader {
     pub module: Module,
     pub place: LinePlace,
-    // Those that the lines before have written.
-    types: SharedTypes,
+    known: Known,
 }
 
 impl Reader {
@@ -88,7 +87,7 @@ impl Reader {
         Reader {
             module: Module::new(alloc),
             place: LinePlace::Outside,
-            types: SharedTypes::new(alloc),
+            known: Known::new(alloc),
         }
     }
 
@@ -144,7 +143,14 @@ impl Reader {
         if name.is_assert() {
             return Err(LineFault::DuplicateName);
         }
-        let unit = begin_function(alloc, &mut self.module, name, params, result_type)?;
+        let unit = begin_function(
+            alloc,
+            &mut self.known,
+            &mut self.module,
+            name,
+            params,
+            result_type,
+        )?;
         self.place = LinePlace::behind_header(UnitKind::Func, unit);
         Ok(())
     }
@@ -166,7 +172,7 @@ impl Reader {
         if name.is_assert() {
             return Err(LineFault::DuplicateName);
         }
-        let unit = begin_with_ports(alloc, &mut self.module, kind, name, ports)?;
+        let unit = begin_with_ports(alloc, &mut self.known, &mut self.module, kind, name, ports)?;
         self.place = LinePlace::behind_header(kind, unit);
         Ok(())
     }
@@ -211,11 +217,11 @@ impl Reader {
             drop(inst);
             return Err(LineFault::Syntax);
         };
-        let Ok(value) = maybe_id(alloc, &mut self.module, unit, name) else {
+        let Ok(value) = maybe_id(alloc, &mut self.known, &mut self.module, unit, name) else {
             drop(inst);
             return Err(LineFault::OutOfMemory);
         };
-        let inst = instruction(alloc, &mut self.types, &mut self.module, unit, inst)?;
+        let inst = instruction(alloc, &mut self.known, &mut self.module, unit, inst)?;
         self.module.add_inst(unit, value, inst)?;
         self.place = self.place.behind_inst();
         Ok(())

@@ -8,6 +8,7 @@ ghost use Rattle.lh_read.specs.Building.{arg_of, UnitBegunOrFault, AddsArgs, Hea
 
 use crate::faults::LineFault;
 use crate::ids::{unit_id, value_id};
+use crate::known::Known;
 use lh_scan::tokens::UnitNameText;
 use lh_syntax::syntax::{Param, Ports};
 use lh_types::ty::Ty;
@@ -32,6 +33,7 @@ fn begin(
 /// Adds arguments to the open unit.
 fn add_args(
     alloc: Global,
+    known: &mut Known,
     m: &mut Module,
     unit: UnitId,
     params: &[Param],
@@ -43,7 +45,7 @@ fn add_args(
     ensures { AddsArgs result m.old m.new unit (map (arg_of output) params.now) }
 {
     for param in params {
-        let value = value_id(alloc, m, unit, param.name())?;
+        let value = value_id(alloc, known, m, unit, param.name())?;
         let ty = param.ty().copy()?;
         m.add_arg(unit, value, ty, output)?;
     }
@@ -51,19 +53,26 @@ fn add_args(
 }
 
 /// Adds the arguments of an entity or process to the open unit.
-fn add_ports(alloc: Global, m: &mut Module, unit: UnitId, ports: &Ports) -> Result<(), LineFault>
+fn add_ports(
+    alloc: Global,
+    known: &mut Known,
+    m: &mut Module,
+    unit: UnitId,
+    ports: &Ports,
+) -> Result<(), LineFault>
     requires within { unit.0 < unit_count m.old }
     requires opened { IsOpen m.old unit }
     requires begun { OfOpen m.old (λ _. ⊤) }
     ensures { AddsArgs result m.old m.new unit (ports_of ports.now) }
 {
-    add_args(alloc, m, unit, ports.inputs.as_slice(), false)?;
-    add_args(alloc, m, unit, ports.outputs.as_slice(), true)
+    add_args(alloc, known, m, unit, ports.inputs.as_slice(), false)?;
+    add_args(alloc, known, m, unit, ports.outputs.as_slice(), true)
 }
 
 /// Begins an entity or a process with its arguments.
 pub fn begin_with_ports(
     alloc: Global,
+    known: &mut Known,
     m: &mut Module,
     kind: UnitKind,
     name: &UnitNameText,
@@ -72,13 +81,14 @@ pub fn begin_with_ports(
     ensures { Heads result m.old m.new (unit_name_of name.now) kind (ports_of ports.now) None }
 {
     let unit = begin(alloc, m, name, kind)?;
-    add_ports(alloc, m, unit, ports)?;
+    add_ports(alloc, known, m, unit, ports)?;
     Ok(unit)
 }
 
 /// Begins a function with its arguments and its result.
 pub fn begin_function(
     alloc: Global,
+    known: &mut Known,
     m: &mut Module,
     name: &UnitNameText,
     params: &[Param],
@@ -87,7 +97,7 @@ pub fn begin_function(
     ensures { Heads result m.old m.new (unit_name_of name.now) UnitKind.Func (map input_of params.now) (Some result_type) }
 {
     let unit = begin(alloc, m, name, UnitKind::Func)?;
-    add_args(alloc, m, unit, params, false)?;
+    add_args(alloc, known, m, unit, params, false)?;
     m.set_result(unit, result_type);
     Ok(unit)
 }

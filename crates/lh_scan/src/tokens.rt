@@ -37,6 +37,13 @@ impl NameText<'_> {
     {
         Name::new(alloc, self.bytes)
     }
+
+    /// The bytes in order.
+    pub fn as_bytes(&self) -> &[u8]
+        ensures { result.now ≡ self.now }
+    {
+        self.bytes
+    }
 }
 
 /// The name of a unit where it stands in the line.
@@ -196,6 +203,8 @@ impl<'a> Tokens<'a> {
     }
 
     /// What follows this word.
+    // Inline, so that most words are told from another without a call.
+    #[inline(always)]
     pub fn word(&self, word: &[u8]) -> Option<Tokens<'a>>
         ensures { result ≡ word_at word.now self.now }
     {

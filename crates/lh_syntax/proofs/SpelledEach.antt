@@ -1,9 +1,9 @@
 -- Lists whose parts are seen through a map, and lists whose parts all pass a test.
 use Rattle.std.proofs.Common.{◌≡◌, Bool, true, List, [], ◌∷◌, map, refl}
+use Rattle.std.specs.List.{list_all}
 use Rattle.std.proofs.lemmas.Bool.{and_parts, and_from}
 use Rattle.lh_unit.specs.Lexemes.{Lexeme}
 use Rattle.lh_unit.specs.SpellsParts.{SpellsParts, SpellsList}
-use Rattle.lh_syntax.specs.Headers.{each}
 
 -- parts that are seen through f
 module _ {A B : Type 0} (f : A → B) (P : B → List Lexeme → List Lexeme → Type 0) where
@@ -28,22 +28,22 @@ module _ {A B : Type 0} (f : A → B) (P : B → List Lexeme → List Lexeme →
 -- parts of which something more holds, as a test says
 module _ {A : Type 0} (P : A → List Lexeme → List Lexeme → Type 0) (Q : A → Type 0) (q : A → Bool) where
   module _ (shown : (a : A) → q a ≡ true → Q a) where
-    parts_with : (xs : List A) (ts us : List Lexeme) → each q xs ≡ true → SpellsParts P xs ts us → SpellsParts (λ a vs ws. Q a × P a vs ws) xs ts us
+    parts_with : (xs : List A) (ts us : List Lexeme) → list_all q xs ≡ true → SpellsParts P xs ts us → SpellsParts (λ a vs ws. Q a × P a vs ws) xs ts us
     parts_with [] ts us e s = s
     parts_with (x ∷ []) ts us e s = (shown x (and_parts (q x) true e).0, s)
-    parts_with (x ∷ y ∷ xs) ts us e s = let b = and_parts (q x) (each q (y ∷ xs)) e in (s.0, (shown x b.0, s.1), parts_with (y ∷ xs) s.0 us b.1 s.2)
+    parts_with (x ∷ y ∷ xs) ts us e s = let b = and_parts (q x) (list_all q (y ∷ xs)) e in (s.0, (shown x b.0, s.1), parts_with (y ∷ xs) s.0 us b.1 s.2)
 
-    pub list_with : (xs : List A) (ts us : List Lexeme) → each q xs ≡ true → SpellsList P xs ts us → SpellsList (λ a vs ws. Q a × P a vs ws) xs ts us
+    pub list_with : (xs : List A) (ts us : List Lexeme) → list_all q xs ≡ true → SpellsList P xs ts us → SpellsList (λ a vs ws. Q a × P a vs ws) xs ts us
     list_with [] ts us e s = s
     list_with (x ∷ xs) ts us e s = parts_with (x ∷ xs) ts us e s
 
   module _ (tested : (a : A) → Q a → q a ≡ true) where
-    parts_each : (xs : List A) (ts us : List Lexeme) → SpellsParts (λ a vs ws. Q a × P a vs ws) xs ts us → each q xs ≡ true
+    parts_each : (xs : List A) (ts us : List Lexeme) → SpellsParts (λ a vs ws. Q a × P a vs ws) xs ts us → list_all q xs ≡ true
     parts_each [] ts us s = absurd s
     parts_each (x ∷ []) ts us s = and_from (q x) true (tested x s.0) refl
-    parts_each (x ∷ y ∷ xs) ts us s = and_from (q x) (each q (y ∷ xs)) (tested x s.1.0) (parts_each (y ∷ xs) s.0 us s.2)
+    parts_each (x ∷ y ∷ xs) ts us s = and_from (q x) (list_all q (y ∷ xs)) (tested x s.1.0) (parts_each (y ∷ xs) s.0 us s.2)
 
-    pub list_each : (xs : List A) (ts us : List Lexeme) → SpellsList (λ a vs ws. Q a × P a vs ws) xs ts us → each q xs ≡ true
+    pub list_each : (xs : List A) (ts us : List Lexeme) → SpellsList (λ a vs ws. Q a × P a vs ws) xs ts us → list_all q xs ≡ true
     list_each [] ts us s = refl
     list_each (x ∷ xs) ts us s = parts_each (x ∷ xs) ts us s
 

@@ -25,11 +25,14 @@ use Rattle.lh_syntax.specs.Words.{head_of}
 use Rattle.lh_syntax.specs.Shorter.{param_at-shorter}
 use Rattle.lh_syntax.specs.Operands.{param_at}
 use Rattle.lh_types.specs.TypeTests.{is_value_type, is_signal}
-use Rattle.lh_syntax.specs.Headers.{is_result_type, each, item_when, are_values, are_ports, params_at, types_at, brace_at, func_at, ports_when, ports_at, unit_at, declare_func_at, declare_unit_at, declare_or, declare_at, named_at, head_at}
+use Rattle.std.specs.List.{list_all}
+use Rattle.lh_syntax.specs.Operations.{last_mark_at}
+use Rattle.lh_syntax.specs.Headers.{is_result_type, item_when, are_values, are_ports, params_at, types_at, func_at, ports_when, ports_at, unit_at, declare_func_at, declare_unit_at, declare_or, declare_at, named_at, head_at}
 use Rattle.lh_syntax.specs.declared.words.Head.{Head}
 use Rattle.lh_syntax.specs.declared.words.Head.TheVariants as head
 use Rattle.lh_syntax.proofs.SpelledWords.{head_word, head_of-sound}
 use Rattle.lh_syntax.proofs.SpelledOperands.{param_at-sound, param_at-again}
+use Rattle.lh_syntax.proofs.SpelledBrackets.{last_mark-sound}
 use Rattle.lh_syntax.proofs.SpelledEach.{list_with, list_each, list_without}
 use Rattle.lh_syntax.proofs.InstsAgain.{name_no_colon}
 
@@ -66,11 +69,6 @@ signal-tested _ h = absurd h
 
 item_when-inv : (b : Bool) (i j : LineItem) → item_when b i ≡ Some j → (b ≡ true) × (i ≡ j)
 item_when-inv b i j p = cond_some b i j p
-
--- `{` at the end of the line
-brace-inv : (ts : List Lexeme) (u : Unit {0}) → brace_at ts ≡ Some u → ts ≡ punct 123 ∷ []
-unfolding brace_at
-brace-inv ts u p = let a = bind_some (punct_at 123 ts) _ u p in punct_at-inv 123 ts a.0 a.1 ∙ ap (λ l. punct 123 ∷ l) (end_at-inv a.0 u a.2)
 
 -- arguments of any type
 abbrev pub SpellsNamed : TypedName → List Lexeme → List Lexeme → Type 0
@@ -130,11 +128,11 @@ unfolding func_at
 func-sound n ts i p name m =
     let a = bind_some (params_at ts) _ i p in
     let t = bind_some (type_at a.0.1) _ i a.2 in
-    let b = bind_some (brace_at t.0.1) _ i t.2 in
+    let b = bind_some (last_mark_at 123 t.0.1) _ i t.2 in
     let g = item_when-inv (are_values a.0.0 && is_result_type t.0.0) (header_item kind.Func n (map input_of a.0.0) (Some t.0.0)) i b.2 in
     let h = and_parts (are_values a.0.0) (is_result_type t.0.0) g.0 in
     let x = params-sound ts a.0 a.1 in
-    let s = subst (SpellsType t.0.0 a.0.1) (brace-inv t.0.1 b.0 b.1) (type_at-sound a.0.1 t.0 t.1) in
+    let s = subst (SpellsType t.0.0 a.0.1) (last_mark-sound 123 t.0.1 b.0 b.1) (type_at-sound a.0.1 t.0 t.1) in
     let v = list_with SpellsNamed (λ q. IsValueType q.ty) (λ q. is_value_type q.ty) (λ q e. value-shown q.ty e) a.0.0 x.first (punct 41 ∷ a.0.1) h.0 x.spelled in
     let r : SpellsParams (map input_of a.0.0) t.0.0 ts =
     record { params = a.0.0; together = refl; first = x.first; second = a.0.1; opened = x.opened; spelled_params = v; spelled_result = s; fits = result-shown t.0.0 h.1 } in
@@ -142,15 +140,15 @@ func-sound n ts i p name m =
     subst (Spells (word (codes "func") ∷ name ∷ ts)) g.1 q
 
 func-again : (n : UnitName) (args : List ArgText) (t : TypeTree) (ts : List Lexeme) → SpellsParams args t ts → func_at n ts ≡ Some (header_item kind.Func n args (Some t))
-unfolding func_at brace_at
+unfolding func_at last_mark_at
 func-again n args t ts s =
     let e : are_values s.params && is_result_type t ≡ true =
     and_from (are_values s.params) (is_result_type t)
     (list_each SpellsNamed (λ q. IsValueType q.ty) (λ q. is_value_type q.ty) (λ q h. value-tested q.ty h) s.params s.first (punct 41 ∷ s.second) s.spelled_params) (result-tested t s.fits) in
     ap (func_at n) s.opened
-    ∙ ap (λ x. x >>= λ a. (type_at a.1 >>= λ y. (brace_at y.1 >>= λ _. item_when (are_values a.0 && is_result_type y.0) (header_item kind.Func n (map input_of a.0) (Some y.0)))))
+    ∙ ap (λ x. x >>= λ a. (type_at a.1 >>= λ y. (last_mark_at 123 y.1 >>= λ _. item_when (are_values a.0 && is_result_type y.0) (header_item kind.Func n (map input_of a.0) (Some y.0)))))
     (params-again s.params s.first s.second (list_without SpellsNamed (λ q. IsValueType q.ty) (λ q. is_value_type q.ty) s.params s.first (punct 41 ∷ s.second) s.spelled_params))
-    ∙ ap (λ x. x >>= λ y. (brace_at y.1 >>= λ _. item_when (are_values s.params && is_result_type y.0) (header_item kind.Func n (map input_of s.params) (Some y.0))))
+    ∙ ap (λ x. x >>= λ y. (last_mark_at 123 y.1 >>= λ _. item_when (are_values s.params && is_result_type y.0) (header_item kind.Func n (map input_of s.params) (Some y.0))))
     (type_at-again t s.second (punct 123 ∷ []) s.spelled_result refl)
     ∙ ap (λ b. item_when b (header_item kind.Func n (map input_of s.params) (Some t))) e
     ∙ ap (λ l. Some (header_item kind.Func n l (Some t))) (sym s.together)
@@ -166,13 +164,13 @@ ports-sound ts args p =
     let a = bind_some (params_at ts) _ args p in
     let b = bind_some (arrow_at a.0.1) _ args a.2 in
     let c = bind_some (params_at b.0) _ args b.2 in
-    let d = bind_some (brace_at c.0.1) _ args c.2 in
+    let d = bind_some (last_mark_at 123 c.0.1) _ args c.2 in
     let g = ports_when-inv (are_ports a.0.0 && are_ports c.0.0) a.0.0 c.0.0 args d.2 in
     let h = and_parts (are_ports a.0.0) (are_ports c.0.0) g.0 in
     let x = params-sound ts a.0 a.1 in
     let y = params-sound b.0 c.0 c.1 in
     let s = subst (λ l. SpellsList SpellsNamed a.0.0 x.first (punct 41 ∷ l)) (arrow_at-inv a.0.1 b.0 b.1 ∙ ap (λ l. arrow ∷ l) y.opened) x.spelled in
-    let t = subst (λ l. SpellsList SpellsNamed c.0.0 y.first (punct 41 ∷ l)) (brace-inv c.0.1 d.0 d.1) y.spelled in
+    let t = subst (λ l. SpellsList SpellsNamed c.0.0 y.first (punct 41 ∷ l)) (last_mark-sound 123 c.0.1 d.0 d.1) y.spelled in
     record {
       inputs = a.0.0;
       outputs = c.0.0;
@@ -191,15 +189,15 @@ ports_named : (xs : List TypedName) (ts us : List Lexeme) → SpellsList SpellsP
 ports_named xs ts us s = list_without SpellsNamed (λ q. IsSignal q.ty) (λ q. is_signal q.ty) xs ts us s
 
 ports-again : (args : List ArgText) (ts : List Lexeme) → SpellsPorts args ts → ports_at ts ≡ Some args
-unfolding ports_at brace_at
+unfolding ports_at last_mark_at
 ports-again args ts s =
     let e : are_ports s.inputs && are_ports s.outputs ≡ true =
     and_from (are_ports s.inputs) (are_ports s.outputs) (are_ports-again s.inputs s.first (punct 41 ∷ arrow ∷ punct 40 ∷ s.second) s.spelled_inputs)
     (are_ports-again s.outputs s.second (punct 41 ∷ punct 123 ∷ []) s.spelled_outputs) in
     ap ports_at s.opened
-    ∙ ap (λ x. x >>= λ a. (arrow_at a.1 >>= λ b. (params_at b >>= λ c. (brace_at c.1 >>= λ _. ports_when (are_ports a.0 && are_ports c.0) a.0 c.0))))
+    ∙ ap (λ x. x >>= λ a. (arrow_at a.1 >>= λ b. (params_at b >>= λ c. (last_mark_at 123 c.1 >>= λ _. ports_when (are_ports a.0 && are_ports c.0) a.0 c.0))))
     (params-again s.inputs s.first (arrow ∷ punct 40 ∷ s.second) (ports_named s.inputs s.first (punct 41 ∷ arrow ∷ punct 40 ∷ s.second) s.spelled_inputs))
-    ∙ ap (λ x. x >>= λ c. (brace_at c.1 >>= λ _. ports_when (are_ports s.inputs && are_ports c.0) s.inputs c.0))
+    ∙ ap (λ x. x >>= λ c. (last_mark_at 123 c.1 >>= λ _. ports_when (are_ports s.inputs && are_ports c.0) s.inputs c.0))
     (params-again s.outputs s.second (punct 123 ∷ []) (ports_named s.outputs s.second (punct 41 ∷ punct 123 ∷ []) s.spelled_outputs))
     ∙ ap (λ b. ports_when b s.inputs s.outputs) e
     ∙ ap Some (sym s.together)
@@ -219,8 +217,8 @@ unfolding declare_func_at
 declare_func-sound n ps us ts i p x name m =
     let t = bind_some (type_at us) _ i p in
     let b = bind_some (end_at t.0.1) _ i t.2 in
-    let g = item_when-inv (each is_value_type ps && is_result_type t.0.0) (declare_item (declare.Func n ps t.0.0)) i b.2 in
-    let h = and_parts (each is_value_type ps) (is_result_type t.0.0) g.0 in
+    let g = item_when-inv (list_all is_value_type ps && is_result_type t.0.0) (declare_item (declare.Func n ps t.0.0)) i b.2 in
+    let h = and_parts (list_all is_value_type ps) (is_result_type t.0.0) g.0 in
     let s = subst (SpellsType t.0.0 us) (end_at-inv t.0.1 b.0 b.1) (type_at-sound us t.0 t.1) in
     let v = list_with SpellsType IsValueType is_value_type value-shown ps x.first (punct 41 ∷ us) h.0 x.spelled in
     let e = ap (λ l. word (codes "declare") ∷ name ∷ l) x.opened in
@@ -234,8 +232,8 @@ unfolding declare_unit_at
 declare_unit-sound n ins us vs ts i p f x name m =
     let a = bind_some (types_at vs) _ i p in
     let b = bind_some (end_at a.0.1) _ i a.2 in
-    let g = item_when-inv (each is_signal ins && each is_signal a.0.0) (declare_item (declare.Unit n ins a.0.0)) i b.2 in
-    let h = and_parts (each is_signal ins) (each is_signal a.0.0) g.0 in
+    let g = item_when-inv (list_all is_signal ins && list_all is_signal a.0.0) (declare_item (declare.Unit n ins a.0.0)) i b.2 in
+    let h = and_parts (list_all is_signal ins) (list_all is_signal a.0.0) g.0 in
     let y = types-sound vs a.0 a.1 in
     let s = subst (λ l. SpellsList SpellsType ins x.first (punct 41 ∷ l)) (f ∙ ap (λ l. arrow ∷ l) y.opened) x.spelled in
     let t = subst (λ l. SpellsList SpellsType a.0.0 y.first (punct 41 ∷ l)) (end_at-inv a.0.1 b.0 b.1) y.spelled in
@@ -258,21 +256,21 @@ declare-again : (d : Declare) (ts : List Lexeme) → SpellsDeclare d ts → (n :
     × (declare_at n us ≡ Some (declare_item d))
 unfolding declare_at declare_func_at declare_unit_at
 declare-again (declare.Func n ps r) ts s =
-    let e : each is_value_type ps && is_result_type r ≡ true =
-    and_from (each is_value_type ps) (is_result_type r) (list_each SpellsType IsValueType is_value_type value-tested ps s.1 (punct 41 ∷ s.2) s.5) (result-tested r s.7) in
+    let e : list_all is_value_type ps && is_result_type r ≡ true =
+    and_from (list_all is_value_type ps) (is_result_type r) (list_each SpellsType IsValueType is_value_type value-tested ps s.1 (punct 41 ∷ s.2) s.5) (result-tested r s.7) in
     let f : declare_at n (punct 40 ∷ s.1) ≡ Some (declare_item (declare.Func n ps r)) =
     ap (λ x. x >>= λ a. declare_or n a.0 a.1 (arrow_at a.1)) (types-again ps s.1 s.2 (list_without SpellsType IsValueType is_value_type ps s.1 (punct 41 ∷ s.2) s.5))
     ∙ ap (declare_or n ps s.2) (arrow_at-type r s.2 [] s.6.0)
-    ∙ ap (λ x. x >>= λ t. (end_at t.1 >>= λ _. item_when (each is_value_type ps && is_result_type t.0) (declare_item (declare.Func n ps t.0)))) (type_at-again r s.2 [] s.6 refl)
+    ∙ ap (λ x. x >>= λ t. (end_at t.1 >>= λ _. item_when (list_all is_value_type ps && is_result_type t.0) (declare_item (declare.Func n ps t.0)))) (type_at-again r s.2 [] s.6 refl)
     ∙ ap (λ b. item_when b (declare_item (declare.Func n ps r))) e in
     (n, s.0, punct 40 ∷ s.1, s.3, s.4, f)
 declare-again (declare.Unit n ins outs) ts s =
-    let e : each is_signal ins && each is_signal outs ≡ true =
-    and_from (each is_signal ins) (each is_signal outs) (list_each SpellsType IsSignal is_signal signal-tested ins s.1 (punct 41 ∷ arrow ∷ punct 40 ∷ s.2) s.5)
+    let e : list_all is_signal ins && list_all is_signal outs ≡ true =
+    and_from (list_all is_signal ins) (list_all is_signal outs) (list_each SpellsType IsSignal is_signal signal-tested ins s.1 (punct 41 ∷ arrow ∷ punct 40 ∷ s.2) s.5)
     (list_each SpellsType IsSignal is_signal signal-tested outs s.2 (punct 41 ∷ []) s.6) in
     let f : declare_at n (punct 40 ∷ s.1) ≡ Some (declare_item (declare.Unit n ins outs)) =
     ap (λ x. x >>= λ a. declare_or n a.0 a.1 (arrow_at a.1)) (types-again ins s.1 (arrow ∷ punct 40 ∷ s.2) (list_without SpellsType IsSignal is_signal ins s.1 (punct 41 ∷ arrow ∷ punct 40 ∷ s.2) s.5))
-    ∙ ap (λ x. x >>= λ a. (end_at a.1 >>= λ _. item_when (each is_signal ins && each is_signal a.0) (declare_item (declare.Unit n ins a.0))))
+    ∙ ap (λ x. x >>= λ a. (end_at a.1 >>= λ _. item_when (list_all is_signal ins && list_all is_signal a.0) (declare_item (declare.Unit n ins a.0))))
     (types-again outs s.2 [] (list_without SpellsType IsSignal is_signal outs s.2 (punct 41 ∷ []) s.6))
     ∙ ap (λ b. item_when b (declare_item (declare.Unit n ins outs))) e in
     (n, s.0, punct 40 ∷ s.1, s.3, s.4, f)

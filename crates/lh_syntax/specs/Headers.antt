@@ -1,5 +1,6 @@
 -- The heads of units, and units that are defined elsewhere.
-use Rattle.std.specs.Prelude.{Bool, true, false, ◌&&◌, List, [], ◌∷◌, ◌++◌, map, Option, Some, None, if◌then◌else◌}
+use Rattle.std.specs.Prelude.{Bool, true, false, ◌&&◌, List, ◌++◌, map, Option, Some, None, if◌then◌else◌}
+use Rattle.std.specs.List.{list_all}
 use Rattle.lh_types.specs.Types.{TypeTree, signal_type, pointer_type}
 use Rattle.lh_types.specs.TypeTests.{is_value_type, is_signal}
 use Rattle.lh_unit.specs.Contents.{ArgText}
@@ -12,6 +13,7 @@ use Rattle.lh_unit.specs.declared.inst.Declare.TheVariants as declare
 use Rattle.lh_scan.specs.Pieces.{◌>>=◌, unit_name_at, punct_at, arrow_at, end_at, list_at}
 use Rattle.lh_scan.specs.Types.{type_at}
 use Rattle.lh_syntax.specs.Operands.{param_at}
+use Rattle.lh_syntax.specs.Operations.{last_mark_at}
 use Rattle.lh_syntax.specs.declared.words.Head.{Head}
 use Rattle.lh_syntax.specs.declared.words.Head.TheVariants as head
 
@@ -21,20 +23,15 @@ is_result_type (signal_type t) = false
 is_result_type (pointer_type t) = false
 is_result_type _ = true
 
--- whether the test holds for each
-abbrev pub each : {A : Type 0} → (A → Bool) → List A → Bool
-each p [] = true
-each p (x ∷ xs) = p x && each p xs
-
 -- an item, where a condition holds
 abbrev pub item_when : Bool → LineItem → Option LineItem
 item_when b i = if b then Some i else None
 
 abbrev pub are_values : List TypedName → Bool
-are_values ps = each (λ p. is_value_type p.ty) ps
+are_values ps = list_all (λ p. is_value_type p.ty) ps
 
 abbrev pub are_ports : List TypedName → Bool
-are_ports ps = each (λ p. is_signal p.ty) ps
+are_ports ps = list_all (λ p. is_signal p.ty) ps
 
 -- `(T1 %a1, ..)`
 unfoldable pub params_at : List Lexeme → Option (List TypedName × List Lexeme)
@@ -52,18 +49,12 @@ types_at ts = do
   b ← punct_at 41 r.1
   Some (r.0, b)
 
--- `{` at the end of the line
-unfoldable pub brace_at : List Lexeme → Option (Unit {0})
-brace_at ts = do
-  us ← punct_at 123 ts
-  end_at us
-
 -- a function, behind its name
 unfoldable pub func_at : UnitName → List Lexeme → Option LineItem
 func_at n ts = do
   ps ← params_at ts
   t ← type_at ps.1
-  _ ← brace_at t.1
+  _ ← last_mark_at 123 t.1
   item_when (are_values ps.0 && is_result_type t.0) (header_item kind.Func n (map input_of ps.0) (Some t.0))
 
 -- the arguments of a process or entity, where each is a signal
@@ -76,7 +67,7 @@ ports_at ts = do
   ins ← params_at ts
   a ← arrow_at ins.1
   outs ← params_at a
-  _ ← brace_at outs.1
+  _ ← last_mark_at 123 outs.1
   ports_when (are_ports ins.0 && are_ports outs.0) ins.0 outs.0
 
 -- a process or entity, behind its name
@@ -90,14 +81,14 @@ unfoldable pub declare_func_at : UnitName → List TypeTree → List Lexeme → 
 declare_func_at n ps ts = do
   t ← type_at ts
   _ ← end_at t.1
-  item_when (each is_value_type ps && is_result_type t.0) (declare_item (declare.Func n ps t.0))
+  item_when (list_all is_value_type ps && is_result_type t.0) (declare_item (declare.Func n ps t.0))
 
 -- a process or entity that is defined elsewhere, behind its inputs and the arrow
 unfoldable pub declare_unit_at : UnitName → List TypeTree → List Lexeme → Option LineItem
 declare_unit_at n ins ts = do
   outs ← types_at ts
   _ ← end_at outs.1
-  item_when (each is_signal ins && each is_signal outs.0) (declare_item (declare.Unit n ins outs.0))
+  item_when (list_all is_signal ins && list_all is_signal outs.0) (declare_item (declare.Unit n ins outs.0))
 
 abbrev pub declare_or : UnitName → List TypeTree → List Lexeme → Option (List Lexeme) → Option LineItem
 declare_or n ins ts (Some us) = declare_unit_at n ins us

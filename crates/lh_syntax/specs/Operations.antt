@@ -1,5 +1,6 @@
 -- The operations: by words, and by brackets.
-use Rattle.std.specs.Prelude.{ℕ, ◌^◌, Bool, true, false, ◌&&◌, nat_lt, List, [], ◌∷◌, length, Option, Some, None, is_none, if◌then◌else◌, codes}
+use Rattle.std.specs.Prelude.{ℕ, ◌^◌, Bool, false, ◌&&◌, nat_lt, List, [], ◌∷◌, length, Option, Some, None, is_none, if◌then◌else◌, codes}
+use Rattle.std.specs.List.{list_all}
 use Rattle.lh_types.specs.Types.{TypeTree, row_of}
 use Rattle.lh_types.specs.Faults.{array_fault, tuple_fault}
 use Rattle.lh_types.specs.declared.op.Op.{Op}
@@ -91,8 +92,7 @@ abbrev pub is_bare : Operand → Bool
 is_bare o = is_none o.ty
 
 abbrev pub all_bare : List Operand → Bool
-all_bare [] = true
-all_bare (o ∷ os) = is_bare o && all_bare os
+all_bare = list_all is_bare
 
 -- the type before the first operand, where it is the only one
 abbrev pub element_of : List Operand → Option TypeTree

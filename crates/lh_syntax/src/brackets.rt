@@ -71,16 +71,10 @@ fn repeated<'a>(alloc: Global, len: u32, operand: Operand<'a>) -> Result<InstSyn
 }
 
 /// Whether no operand has a type.
-fn are_bare(mut operands: &[Operand]) -> bool
-    ensures { result ≡ all_bare operands.entry.now }
+fn are_bare(operands: &[Operand]) -> bool
+    ensures { result ≡ all_bare operands.now }
 {
-    while let [operand, rest @ ..] = operands {
-        if operand.ty.is_some() {
-            return false;
-        }
-        operands = rest;
-    }
-    true
+    operands.iter().all(|operand| operand.ty.is_none())
 }
 
 /// The type before the first operand, where it is the only one.

@@ -1,12 +1,14 @@
 //! The heads of units, and units that are defined elsewhere.
 ghost use Rattle.std.specs.Prelude.{◌≡◌};
+ghost use Rattle.std.specs.List.{list_all};
 ghost use Rattle.lh_types.specs.TypeTests as spec;
 ghost use Rattle.lh_scan.specs.Found.{ReadsAsFound, FindsAs};
 ghost use Rattle.lh_scan.specs.LexemeOf.{unit_name_of};
 ghost use Rattle.lh_syntax.specs.SyntaxOf.{ports_of, item_of};
-ghost use Rattle.lh_syntax.specs.Headers.{is_result_type as result_type, each, are_values, are_ports, params_at, types_at, brace_at, func_at, ports_at, unit_at, declare_func_at, declare_unit_at, declare_at, head_at};
+ghost use Rattle.lh_syntax.specs.Headers.{is_result_type as result_type, are_values, are_ports, params_at, types_at, func_at, ports_at, unit_at, declare_func_at, declare_unit_at, declare_at, head_at};
 ghost use Rattle.lh_unit.specs.declared.inst.UnitKind.TheVariants as kind;
 
+use crate::brackets::last_mark;
 use crate::syntax::{LineSyntax, Param, Ports};
 use crate::words::Head;
 use lh_scan::fault::ScanFault::{self, NotSpelled};
@@ -31,55 +33,31 @@ fn is_result_type(ty: &Ty) -> bool
 }
 
 /// Whether each argument is a value.
-fn have_values(mut params: &[Param]) -> bool
-    ensures { result ≡ are_values params.entry.now }
+fn have_values(params: &[Param]) -> bool
+    ensures { result ≡ are_values params.now }
 {
-    while let [param, rest @ ..] = params {
-        if !param.ty().is_value_type() {
-            return false;
-        }
-        params = rest;
-    }
-    true
+    params.iter().all(|param| param.ty().is_value_type())
 }
 
 /// Whether each argument is a signal.
-fn have_signals(mut params: &[Param]) -> bool
-    ensures { result ≡ are_ports params.entry.now }
+fn have_signals(params: &[Param]) -> bool
+    ensures { result ≡ are_ports params.now }
 {
-    while let [param, rest @ ..] = params {
-        if !param.ty().is_signal() {
-            return false;
-        }
-        params = rest;
-    }
-    true
+    params.iter().all(|param| param.ty().is_signal())
 }
 
 /// Whether each is a data type or `time`.
-fn are_value_types(mut types: &[Ty]) -> bool
-    ensures { result ≡ each spec.is_value_type types.entry.now }
+fn are_value_types(types: &[Ty]) -> bool
+    ensures { result ≡ list_all spec.is_value_type types.now }
 {
-    while let [ty, rest @ ..] = types {
-        if !ty.is_value_type() {
-            return false;
-        }
-        types = rest;
-    }
-    true
+    types.iter().all(|ty| ty.is_value_type())
 }
 
 /// Whether each is the type of a signal.
-fn are_signals(mut types: &[Ty]) -> bool
-    ensures { result ≡ each spec.is_signal types.entry.now }
+fn are_signals(types: &[Ty]) -> bool
+    ensures { result ≡ list_all spec.is_signal types.now }
 {
-    while let [ty, rest @ ..] = types {
-        if !ty.is_signal() {
-            return false;
-        }
-        types = rest;
-    }
-    true
+    types.iter().all(|ty| ty.is_signal())
 }
 
 /// `(T1 %a1, ..)`, and what follows it.
@@ -108,14 +86,6 @@ fn types<'a>(alloc: Global, tokens: &Tokens<'a>) -> Result<(TyList, Tokens<'a>),
     Ok((types, rest))
 }
 
-/// Whether the line ends with `{`.
-#[tactic(auto, unfolding(crate::specs::Headers::brace_at))]
-fn brace(tokens: &Tokens) -> Option<()>
-    ensures { result ≡ brace_at tokens.now }
-{
-    tokens.punct(b'{')?.end()
-}
-
 /// A function, behind its name.
 #[tactic(auto, unfolding(crate::specs::Headers::func_at))]
 fn func<'a>(alloc: Global, name: UnitNameText<'a>, tokens: &Tokens<'a>) -> LineAt<'a>
@@ -129,7 +99,10 @@ fn func<'a>(alloc: Global, name: UnitNameText<'a>, tokens: &Tokens<'a>) -> LineA
             return Err(fault);
         }
     };
-    if brace(&rest).is_none() || !have_values(params.as_slice()) || !is_result_type(&result) {
+    if last_mark(&rest, b'{').is_none()
+        || !have_values(params.as_slice())
+        || !is_result_type(&result)
+    {
         drop(params);
         drop(result);
         return Err(NotSpelled);
@@ -149,7 +122,7 @@ fn ports<'a>(alloc: Global, tokens: &Tokens<'a>) -> Result<Ports<'a>, ScanFault>
     let (inputs, rest) = params(alloc, tokens)?;
     let rest = rest.arrow().ok_or(NotSpelled)?;
     let (outputs, rest) = params(alloc, &rest)?;
-    if brace(&rest).is_none()
+    if last_mark(&rest, b'{').is_none()
         || !have_signals(inputs.as_slice())
         || !have_signals(outputs.as_slice())
     {

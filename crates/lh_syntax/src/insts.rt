@@ -3,7 +3,7 @@ ghost use Rattle.std.specs.Prelude.{◌≡◌, option_map};
 ghost use Rattle.lh_scan.specs.Found.{ReadsAsFound, FindsAs};
 ghost use Rattle.lh_types.specs.ValueOf.{datum_of};
 ghost use Rattle.lh_syntax.specs.SyntaxOf.{inst_of};
-ghost use Rattle.lh_syntax.specs.Insts.{constant_at, const_at, last_typed_at, last_local_at, var_at, ld_at, sig_at, prb_at, target_at, st_at, after_at, if_after_at, delay_at, drv_at, reg_at, operands_at, outputs_at, child_at, call_at, phi_at, branch_at, br_at, wait_at, halt_at, ret_at, form_at, worded_at, marked_at, inst_at};
+ghost use Rattle.lh_syntax.specs.Insts.{constant_at, const_at, last_typed_at, last_local_at, var_at, ld_at, sig_at, prb_at, target_at, st_at, after_at, if_after_at, delay_at, drv_at, reg_at, operands_at, outputs_at, child_at, call_at, phi_at, branch_at, br_at, wait_at, halt_at, ret_at, form_at, worded_at, inst_at};
 
 use crate::brackets::{bracket, tuple};
 use crate::operands::{OperandsAt, maybe, typed};
@@ -355,29 +355,16 @@ pub fn worded<'a>(alloc: Global, word: &[u8], tokens: &Tokens<'a>) -> InstAt<'a>
     formed(alloc, form, tokens)
 }
 
-/// An instruction that begins with this mark, behind it.
-#[tactic(auto, unfolding(crate::specs::Insts::marked_at))]
-fn marked<'a>(alloc: Global, mark: u8, tokens: &Tokens<'a>) -> InstAt<'a>
-    ensures { FindsAs inst_of result (marked_at mark tokens.now) }
-{
-    if mark == b'[' {
-        return bracket(alloc, tokens);
-    }
-    if mark == b'{' {
-        return tuple(alloc, tokens);
-    }
-    Err(NotSpelled)
-}
-
 /// The instruction that the tokens spell.
-#[tactic(auto, unfolding(crate::specs::Insts::inst_at))]
+#[tactic(auto, unfolding(crate::specs::Insts::inst_at, crate::specs::Insts::marked_at))]
 pub fn inst<'a>(alloc: Global, tokens: &Tokens<'a>) -> InstAt<'a>
     ensures { FindsAs inst_of result (inst_at tokens.now) }
 {
     let (first, rest) = tokens.first().ok_or(NotSpelled)?;
     match first {
         Lex::Word(word) => worded(alloc, word, &rest),
-        Lex::Punct(mark) => marked(alloc, mark, &rest),
+        Lex::Punct(b'[') => bracket(alloc, &rest),
+        Lex::Punct(b'{') => tuple(alloc, &rest),
         _ => Err(NotSpelled),
     }
 }

@@ -3,7 +3,7 @@ ghost use Rattle.std.specs.Prelude.{◌≡◌, option_map};
 ghost use Rattle.lh_scan.specs.Found.{FindsAs};
 ghost use Rattle.lh_unit.specs.SpellsInst as spec;
 ghost use Rattle.lh_syntax.specs.SyntaxOf.{inst_of, item_of};
-ghost use Rattle.lh_syntax.specs.Items.{label_at, word_label_at, assigned_at, alone_at, behind_local_at, behind_word_at, close_at, item_at};
+ghost use Rattle.lh_syntax.specs.Items.{label_at, word_label_at, assigned_at, alone_at, behind_local_at, behind_word_at, item_at};
 
 use crate::headers::{LineAt, headed};
 use crate::insts::{inst, worded};
@@ -110,20 +110,8 @@ fn behind_word<'a>(alloc: Global, word: &[u8], tokens: &Tokens<'a>, rest: &Token
     }
 }
 
-/// The end of a unit, which is this one mark.
-#[tactic(auto, unfolding(crate::specs::Items::close_at))]
-fn close<'a>(mark: u8, tokens: &Tokens) -> Option<LineSyntax<'a>>
-    ensures { option_map item_of result ≡ close_at mark tokens.now }
-{
-    if mark != b'}' {
-        return None;
-    }
-    tokens.end()?;
-    Some(LineSyntax::Close)
-}
-
 /// The item that the tokens spell.
-#[tactic(auto, unfolding(crate::specs::Items::item_at))]
+#[tactic(auto, unfolding(crate::specs::Items::item_at, crate::specs::Items::close_at))]
 pub fn line_item<'a>(alloc: Global, tokens: &Tokens<'a>) -> LineAt<'a>
     ensures { FindsAs item_of result (item_at tokens.now) }
 {
@@ -133,7 +121,7 @@ pub fn line_item<'a>(alloc: Global, tokens: &Tokens<'a>) -> LineAt<'a>
     match first {
         Lex::Word(word) => behind_word(alloc, word, tokens, &rest),
         Lex::Local(name) => behind_local(alloc, name, &rest),
-        Lex::Punct(mark) => close(mark, &rest).ok_or(NotSpelled),
+        Lex::Punct(b'}') if rest.end().is_some() => Ok(LineSyntax::Close),
         _ => Err(NotSpelled),
     }
 }

@@ -1,5 +1,5 @@
 //! The words of the language, in tables: what each begins or stands for.
-ghost use Rattle.std.specs.Prelude.{◌≡◌, nat_eq, map};
+ghost use Rattle.std.specs.Prelude.{◌≡◌, false, nat_eq, map};
 ghost use lib.Pointwise.{pointwise};
 ghost use Rattle.lh_syntax.specs.Words.{found, head_of, form_of, mode_of};
 
@@ -136,17 +136,17 @@ pub const MODES: [(&[u8], Mode); 5] = [
     (b"low", Mode::Low),
 ];
 
-/// Whether two texts are one. Most words of a table are told from another by their lengths or first bytes, here without a call.
+/// Whether two texts may be one. Most words of a table are told from another by their lengths or first bytes, here without a call.
 #[tactic(auto, using(crate::proofs::Apart::apart))]
-fn same(a: &[u8], b: &[u8]) -> bool
-    ensures { result ≡ pointwise nat_eq a.now b.now }
+fn may_be(a: &[u8], b: &[u8]) -> bool
+    ensures { result ≡ false → pointwise nat_eq a.now b.now ≡ false }
 {
     if a.len() != b.len() {
         return false;
     }
     match (a, b) {
-        ([x, ..], [y, ..]) if *x != *y => false,
-        _ => a == b,
+        ([x, ..], [y, ..]) => *x == *y,
+        _ => true,
     }
 }
 
@@ -155,7 +155,7 @@ fn find<T: Copy>(mut table: &[(&[u8], T)], word: &[u8]) -> Option<T>
     ensures { result ≡ found (map (λ r. (r.0.now, r.1)) table.entry.now) word.now }
 {
     while let [row, rest @ ..] = table {
-        if same(row.0, word) {
+        if may_be(row.0, word) && row.0 == word {
             return Some(row.1);
         }
         table = rest;

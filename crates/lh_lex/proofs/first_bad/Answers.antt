@@ -3,8 +3,21 @@ use Rattle.std.proofs.lemmas.List.{take_rest}
 use Rattle.std.proofs.lemmas.Grind.{common_steps}
 use Rattle.lh_unit.specs.Lexemes.{is_white, is_comment}
 use Rattle.lh_unit.specs.Tokens.{tokens_after, fault_place}
-use Rattle.lh_lex.proofs.Taking.{fault-past}
+use Rattle.lh_lex.proofs.Taking.{fault-past, fault-plain}
 use Rattle.lh_lex.proofs.first_bad.Goals as goal
+
+pub loop-b-preserved-then-is_plain : goal.loop-b-preserved-then-is_plain
+loop-b-preserved-then-is_plain c =
+    let e : c.loop-b.rest.now ≡ c.in-Some.b.now ∷ c.in-Some.more.now = search rules in
+    let z : c.loop-b.at + length c.loop-b.rest.now ≡ length c.args.text.now = c.loop-b.invariant.place in
+    let q : length c.loop-b.rest.now ≡ length c.in-Some.more.now + 1 = grind (arith, common_steps, ap length e) in
+    record {
+      same_fault =
+          fault-plain c.loop-b.at c.in-Some.b.now c.in-Some.more.now (sym c.is_plain.ensures ∙ c.if-is_plain.true)
+          ∙ ap (λ l. fault_place (tokens_after c.loop-b.at 0 l)) (sym e)
+          ∙ c.loop-b.invariant.same_fault;
+      place = omega arith;
+    }
 
 pub loop-b-preserved : goal.loop-b-preserved
 loop-b-preserved c =

@@ -1,9 +1,6 @@
-use Rattle.std.proofs.Common.{length, ◌-◌, ◌≡◌, ◌≤◌, ◌+◌, drop}
+use Rattle.std.proofs.Common.{◌≡◌, ◌+◌, drop}
 use Rattle.lh_unit.specs.Lexemes.{run_len}
 use Rattle.lh_lex.proofs.name_len.Given as goal
 
-abbrev pub invariant-loop-len : goal.invariant-loop-len
-invariant-loop-len l = (l.len ≤ length l.bytes) × (l.len + run_len (drop l.len l.bytes) ≡ run_len l.bytes)
-
-abbrev pub decreases-loop-len : goal.decreases-loop-len
-decreases-loop-len l = length l.bytes - l.len
+abbrev pub invariant-loop-i : goal.invariant-loop-i
+invariant-loop-i l = l.i + run_len (drop l.i l.bytes) ≡ run_len l.bytes

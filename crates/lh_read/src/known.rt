@@ -1,0 +1,54 @@
+//! What the lines before have said, by which the next are read faster.
+ghost use Rattle.std.specs.Prelude.{◌≡◌, ◌<◌, true};
+ghost use Rattle.lh_unit.specs.Arena.{unit_count, value_count, value_name_at};
+
+use lh_scan::tokens::NameText;
+use lh_types::written::SharedTypes;
+use lh_unit::inst::{UnitId, ValueId};
+use lh_unit::module::Module;
+use std::alloc::Global;
+
+/// How many values are kept: a prime, so that the digests of the names of a unit mostly have places of their own.
+pub const RECENT: usize = 251;
+
+/// What the lines before have said.
+#[derive(Drop)]
+pub struct Known {
+    /// The types that they have written.
+    pub types: SharedTypes,
+    /// By digests of names, ids of values that they named. Any id may stand there: its name is compared with the one that is asked for.
+    pub values: [u32; RECENT],
+}
+
+impl Known {
+    /// Nothing, before the first line.
+    pub fn new(alloc: Global) -> Known {
+        Known {
+            types: SharedTypes::new(alloc),
+            values: [0; RECENT],
+        }
+    }
+}
+
+/// A digest of a name, below the number of values that are kept.
+pub fn digest(name: &NameText) -> usize
+    ensures { result < 251 }
+{
+    let mut sum: u32 = 0;
+    for byte in name.as_bytes() {
+        sum = sum.wrapping_mul(31).wrapping_add(u32::from(*byte));
+    }
+    sum as usize % RECENT
+}
+
+/// Whether a value of a unit has this name.
+pub fn is_named(m: &Module, unit: UnitId, value: ValueId, name: &NameText) -> bool
+    requires { unit.0 < unit_count m.now }
+    ensures within { result ≡ true → value.0 < value_count m.now unit.0 }
+    ensures name { result ≡ true → value_name_at m.now unit.0 value.0 ≡ name.now }
+{
+    if value.0 >= m.values(unit) {
+        return false;
+    }
+    m.value_name(unit, value).as_bytes() == name.as_bytes()
+}
