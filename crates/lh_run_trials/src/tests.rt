@@ -3,75 +3,84 @@
 mod texts;
 
 use self::texts::{
-    ACCUMULATOR, ACCUMULATOR_TRACE, BAD, FAILS, FAILS_TRACE, GOOD, LOWERED, ONE_LINK, PROCESSES,
-    USAGE,
+    accumulator, accumulator_trace, bad, fails, fails_trace, good, lowered, one_link, processes,
+    usage,
 };
 use crate::running::{PIECE, sink};
 use lh_io::memory::{MemSink, MemSource};
 use lh_run::top::run;
 use lh_types::list::{ByteList, TextList};
+use lh_types::ty::NoMemory;
 use lh_watch::builtin::{Asserts, Toggles, UntilFail};
 use lh_watch::watcher::Watcher;
 use std::alloc::Global;
-use std::process::Abort;
 use std::test::Fail;
 
-/// What a run leaves: its code, its source and sinks, and how many of the three watchers that it was lent.
-#[derive(Drop)]
-struct Left {
-    code: u8,
-    out: MemSink,
-    log: MemSink,
-    src: MemSource,
-    watchers: usize,
-}
-
-fn words_of(alloc: Global, words: &[&[u8]]) -> Result<TextList, Fail> {
-    let mut list = TextList::new(alloc);
-    for word in words {
-        list.push(ByteList::from_vec(Vec::from_slice(alloc, *word)?))?;
+/// The words of a line, between spaces.
+fn words_of(alloc: Global, line: &str) -> Result<TextList, NoMemory> {
+    let mut words = TextList::new(alloc);
+    for word in line.split(' ') {
+        words.push(ByteList::from_vec(Vec::from_slice(alloc, word.as_bytes())?))?;
     }
-    Ok(list)
+    Ok(words)
 }
 
-/// A run with one watcher of each kind that comes with the program.
-fn run_on(
-    alloc: Global,
-    words: &[&[u8]],
-    mut src: MemSource,
-    mut out: MemSink,
-    mut log: MemSink,
-) -> Result<Left, Fail> {
-    let words = words_of(alloc, words)?;
+/// One watcher of each kind that comes with the program.
+fn all_watchers(alloc: Global) -> Result<Vec<Box<dyn Watcher>>, NoMemory> {
     let mut watchers: Vec<Box<dyn Watcher>> = Vec::new(alloc);
     watchers.push(Box::new(alloc, Toggles::new())?)?;
     watchers.push(Box::new(alloc, Asserts::new())?)?;
     watchers.push(Box::new(alloc, UntilFail::new())?)?;
-    let status = run(alloc, &words, &mut src, &mut out, &mut log, &mut watchers);
-    Ok(Left {
-        code: status.code(),
-        out,
-        log,
-        src,
-        watchers: watchers.len(),
-    })
+    Ok(watchers)
 }
 
-/// A run in which a call of the source, of the output and of the log fails: these numbers of them, each from 1; 0 is none.
-fn run_with(
+/// The code with which a run ends, and how many of the three watchers that it was lent it has left.
+fn run_on(
     alloc: Global,
-    words: &[&[u8]],
-    text: &[u8],
-    (src, out, log): (u64, u64, u64),
-) -> Result<Left, Fail> {
-    let src = source(alloc, text, src)?;
-    run_on(alloc, words, src, sink(alloc, out)?, sink(alloc, log)?)
+    words: &str,
+    src: &mut MemSource,
+    out: &mut MemSink,
+    log: &mut MemSink,
+) -> Result<(u8, usize), NoMemory> {
+    let words = words_of(alloc, words)?;
+    let mut watchers = all_watchers(alloc)?;
+    let status = run(alloc, &words, src, out, log, &mut watchers);
+    Ok((status.code(), watchers.len()))
 }
 
 /// A source of a text, of which the call of this number fails.
-fn source(alloc: Global, text: &[u8], fail: u64) -> Result<MemSource, Fail> {
+fn source(alloc: Global, text: &[u8], fail: u64) -> Result<MemSource, NoMemory> {
     let fails = Vec::from_slice(alloc, &[fail])?;
     Ok(MemSource::new(Vec::from_slice(alloc, text)?, PIECE, fails))
+}
+
+/// What is run: the words of a command line on a text; and the numbers of the calls of the source, of the output and of the log that
+/// fail, each from 1, and 0 is none.
+#[derive(Clone, Copy)]
+struct Course<'a> {
+    words: &'a str,
+    text: &'a [u8],
+    failing: (u64, u64, u64),
+}
+
+/// What a run is to leave: its code, so many watchers, its output, and its log.
+#[derive(Clone, Copy)]
+struct Left<'a> {
+    code: u8,
+    watchers: usize,
+    out: &'a [u8],
+    log: &'a [u8],
+}
+
+/// Whether a run leaves this.
+fn leaves(alloc: Global, of: Course, left: Left) -> Result<bool, NoMemory> {
+    let (read, write, told) = of.failing;
+    let mut src = source(alloc, of.text, read)?;
+    let mut out = sink(alloc, write)?;
+    let mut log = sink(alloc, told)?;
+    let (code, watchers) = run_on(alloc, of.words, &mut src, &mut out, &mut log)?;
+    let is_written = out.written() == left.out && log.written() == left.log;
+    Ok(is_written && code == left.code && watchers == left.watchers)
 }
 
 /// The first bytes of a text, or all of it.
@@ -79,258 +88,231 @@ fn head(text: &[u8], length: usize) -> &[u8] {
     text.get(..length).unwrap_or(text)
 }
 
-/// Run `row` has left this code, this output and this log.
-fn has_left(rt: &impl Abort, row: usize, left: &Left, code: u8, out: &[u8], log: &[u8]) {
-    assert_eq!(rt; left.code, code, "row {row}");
-    assert!(rt;
-        left.out.written() == out && left.log.written() == log,
-        "row {row}"
-    );
-}
-
-/// Runs by the same words on the same text. Each row has the numbers of the calls that fail in a run, and what it leaves: its code, how
-/// much of this output, and its log. So many watchers are left.
-fn fail_in_turn(
-    rt: &impl Abort,
+/// The first of these rows that does not hold of runs by the same words on the same text. Each row has the numbers of the calls that fail
+/// in a run, and what it leaves: its code, how much of this output, and its log. So many watchers are left.
+fn broken(
     alloc: Global,
-    words: &[&[u8]],
-    text: &[u8],
-    out: &[u8],
-    watchers: usize,
-    rows: &[(u64, u64, u64, u8, usize, &[u8])],
-) -> Result<(), Fail> {
-    for (k, (read, write, told, code, length, log)) in rows.iter().enumerate() {
-        let left = run_with(alloc, words, text, (*read, *write, *told))?;
-        has_left(rt, k, &left, *code, head(out, *length), *log);
-        assert_eq!(rt; left.watchers, watchers, "row {k}");
+    (words, text): (&str, &[u8]),
+    (out, watchers): (&[u8], usize),
+    rows: &[((u64, u64, u64), u8, usize, &[u8])],
+) -> Result<Option<usize>, NoMemory> {
+    for (k, (failing, code, length, log)) in rows.iter().enumerate() {
+        let course = Course {
+            words,
+            text,
+            failing: *failing,
+        };
+        let left = Left {
+            code: *code,
+            watchers,
+            out: head(out, *length),
+            log: *log,
+        };
+        if !leaves(alloc, course, left)? {
+            return Ok(Some(k));
+        }
     }
-    Ok(())
+    Ok(None)
 }
 
-// The good file takes reads of 50, 20 and 0 bytes and writes of 50 and 20.
+const READ_FAULT: &[u8] = b"read fault\n";
+
+const WRITE_FAULT: &[u8] = b"write fault\n";
+
+// The good file takes reads of 50, 20 and 0 bytes and writes of 50 and 20. The bad file takes two reads, and its status line three
+// writes.
 #[test]
-fn a_check(rt: HostRuntime) -> Result<(), Fail> {
-    let rows: [(u64, u64, u64, u8, usize, &[u8]); 11] = [
-        (0, 0, 0, 0, 70, b""),
-        (1, 0, 0, 3, 0, b"read fault\n"),
-        (2, 0, 0, 3, 0, b"read fault\n"),
-        (3, 0, 0, 3, 0, b"read fault\n"),
-        (4, 0, 0, 0, 70, b""),
-        (0, 1, 0, 4, 0, b"write fault\n"),
-        (0, 2, 0, 4, 50, b"write fault\n"),
-        (0, 3, 0, 0, 70, b""),
-        (0, 0, 1, 0, 70, b""),
-        (1, 0, 1, 3, 0, b""),
-        (0, 2, 1, 4, 50, b""),
+fn a_check(rt: HostRuntime) {
+    let rows: [((u64, u64, u64), u8, usize, &[u8]); 11] = [
+        ((0, 0, 0), 0, 70, b""),
+        ((1, 0, 0), 3, 0, READ_FAULT),
+        ((2, 0, 0), 3, 0, READ_FAULT),
+        ((3, 0, 0), 3, 0, READ_FAULT),
+        ((4, 0, 0), 0, 70, b""),
+        ((0, 1, 0), 4, 0, WRITE_FAULT),
+        ((0, 2, 0), 4, 50, WRITE_FAULT),
+        ((0, 3, 0), 0, 70, b""),
+        ((0, 0, 1), 0, 70, b""),
+        ((1, 0, 1), 3, 0, b""),
+        ((0, 2, 1), 4, 50, b""),
     ];
-    fail_in_turn(&rt, rt.alloc(), &[b"check"], GOOD, GOOD, 3, &rows)
-}
-
-// The bad file takes two reads, and its status line three writes.
-#[test]
-fn a_refusal(rt: HostRuntime) -> Result<(), Fail> {
-    let rows: [(u64, u64, u64, u8, usize, &[u8]); 7] = [
-        (0, 0, 0, 1, 0, b"line 2: syntax\n"),
-        (1, 0, 0, 3, 0, b"read fault\n"),
-        (2, 0, 0, 3, 0, b"read fault\n"),
-        (0, 1, 0, 1, 0, b"line 2: syntax\n"),
-        (0, 0, 1, 1, 0, b""),
-        (0, 0, 2, 1, 0, b"line "),
-        (0, 0, 3, 1, 0, b"line 2"),
+    assert!(rt; broken(rt.alloc(), ("check", good()), (good(), 3), &rows) == Ok(None));
+    let rows: [((u64, u64, u64), u8, usize, &[u8]); 7] = [
+        ((0, 0, 0), 1, 0, b"line 2: syntax\n"),
+        ((1, 0, 0), 3, 0, READ_FAULT),
+        ((2, 0, 0), 3, 0, READ_FAULT),
+        ((0, 1, 0), 1, 0, b"line 2: syntax\n"),
+        ((0, 0, 1), 1, 0, b""),
+        ((0, 0, 2), 1, 0, b"line "),
+        ((0, 0, 3), 1, 0, b"line 2"),
     ];
-    fail_in_turn(&rt, rt.alloc(), &[b"check"], BAD, b"", 3, &rows)
+    assert!(rt; broken(rt.alloc(), ("check", bad()), (b"", 3), &rows) == Ok(None));
 }
 
-// The output takes five writes of at most 50 bytes, and the log one for the report. Until both are whole the log has the status
-// line alone.
+// A lowering takes five writes of at most 50 bytes, and the log one for the report. Until both are whole the log has the status line
+// alone. The log of a simulation takes one call for the reports and one for the status line. A fault of the line changes no status.
 #[test]
-fn a_lowering(rt: HostRuntime) -> Result<(), Fail> {
-    let rows: [(u64, u64, u64, u8, usize, &[u8]); 7] = [
-        (0, 1, 0, 4, 0, b"write fault\n"),
-        (0, 2, 0, 4, 50, b"write fault\n"),
-        (0, 3, 0, 4, 100, b"write fault\n"),
-        (0, 4, 0, 4, 150, b"write fault\n"),
-        (0, 5, 0, 4, 200, b"write fault\n"),
+fn what_is_logged(rt: HostRuntime) {
+    let rows: [((u64, u64, u64), u8, usize, &[u8]); 7] = [
+        ((0, 1, 0), 4, 0, WRITE_FAULT),
+        ((0, 2, 0), 4, 50, WRITE_FAULT),
+        ((0, 3, 0), 4, 100, WRITE_FAULT),
+        ((0, 4, 0), 4, 150, WRITE_FAULT),
+        ((0, 5, 0), 4, 200, WRITE_FAULT),
         (
-            0,
-            6,
-            0,
+            (0, 6, 0),
             0,
             214,
             b"lowered @inv comb\nleft @rest TimedWait\n",
         ),
-        (0, 0, 1, 4, 214, b"write fault\n"),
+        ((0, 0, 1), 4, 214, WRITE_FAULT),
     ];
-    fail_in_turn(&rt, rt.alloc(), &[b"lower"], PROCESSES, LOWERED, 3, &rows)
+    assert!(rt; broken(rt.alloc(), ("lower", processes()), (lowered(), 3), &rows) == Ok(None));
+    let rows: [((u64, u64, u64), u8, usize, &[u8]); 4] = [
+        ((0, 0, 0), 9, 47, b"untilfail 1\nassertion failed\n"),
+        ((0, 0, 1), 4, 47, WRITE_FAULT),
+        ((0, 0, 2), 9, 47, b"untilfail 1\n"),
+        ((0, 0, 3), 9, 47, b"untilfail 1\nassertion failed\n"),
+    ];
+    let words = "simulate --top p --steps 3 --watch untilfail";
+    assert!(rt; broken(rt.alloc(), (words, fails()), (fails_trace(), 1), &rows) == Ok(None));
 }
 
-#[test]
-fn a_self_test(rt: HostRuntime) -> Result<(), Fail> {
-    let rows: [(u64, u64, u64, u8, usize, &[u8]); 3] = [
-        (0, 1, 0, 4, 0, b"write fault\n"),
-        (0, 2, 0, 4, 50, b"write fault\n"),
-        (0, 3, 0, 4, 100, b"write fault\n"),
-    ];
-    let words: [&[u8]; 2] = [b"selftest", b"1"];
-    fail_in_turn(&rt, rt.alloc(), &words, GOOD, ONE_LINK, 3, &rows)
-}
-
-// The log takes one call for the reports and one for the status line. A fault of the line changes no status.
-#[test]
-fn a_simulation_that_is_logged(rt: HostRuntime) -> Result<(), Fail> {
-    let rows: [(u64, u64, u64, u8, usize, &[u8]); 4] = [
-        (0, 0, 0, 9, 47, b"untilfail 1\nassertion failed\n"),
-        (0, 0, 1, 4, 47, b"write fault\n"),
-        (0, 0, 2, 9, 47, b"untilfail 1\n"),
-        (0, 0, 3, 9, 47, b"untilfail 1\nassertion failed\n"),
-    ];
-    let words: [&[u8]; 7] = [
-        b"simulate",
-        b"--top",
-        b"p",
-        b"--steps",
-        b"3",
-        b"--watch",
-        b"untilfail",
-    ];
-    fail_in_turn(&rt, rt.alloc(), &words, FAILS, FAILS_TRACE, 1, &rows)
-}
-
-const ACCUMULATE: [&[u8]; 7] = [
-    b"simulate",
-    b"--top",
-    b"acc_tb",
-    b"--steps",
-    b"20",
-    b"--watch",
-    b"asserts",
-];
+const ACCUMULATE: &str = "simulate --top acc_tb --steps 20 --watch asserts";
 
 const ACCUMULATED: &[u8] = b"asserts 2 ok 0 failed\n";
 
+/// The first read that fails and leaves more than a status line.
+fn broken_read(alloc: Global) -> Result<Option<u64>, NoMemory> {
+    let left = Left {
+        code: 3,
+        watchers: 3,
+        out: b"",
+        log: READ_FAULT,
+    };
+    for read in 1..44u64 {
+        let course = Course {
+            words: ACCUMULATE,
+            text: accumulator(),
+            failing: (read, 0, 0),
+        };
+        if !leaves(alloc, course, left)? {
+            return Ok(Some(read));
+        }
+    }
+    Ok(None)
+}
+
 // The file takes 42 reads of at most 50 bytes, and one that finds its end.
 #[test]
-fn a_read_that_fails_leaves_nothing(rt: HostRuntime) -> Result<(), Fail> {
-    let words: &[&[u8]] = &ACCUMULATE;
-    for read in 1..44u64 {
-        let left = run_with(rt.alloc(), words, ACCUMULATOR, (read, 0, 0))?;
-        has_left(&rt, read as usize, &left, 3, b"", b"read fault\n");
-        assert_eq!(rt; left.watchers, 3, "read {read}");
-    }
-    let left = run_with(rt.alloc(), words, ACCUMULATOR, (44, 0, 0))?;
-    has_left(&rt, 44, &left, 0, ACCUMULATOR_TRACE, ACCUMULATED);
-    Ok(())
+fn a_read_that_fails_leaves_nothing(rt: HostRuntime) {
+    assert!(rt; broken_read(rt.alloc()) == Ok(None));
+    let row = [((44u64, 0u64, 0u64), 0u8, 1_000usize, ACCUMULATED)];
+    let course = (ACCUMULATE, accumulator());
+    assert!(rt; broken(rt.alloc(), course, (accumulator_trace(), 1), &row) == Ok(None));
 }
 
-/// Whether a run has written its whole output. Where not, it has left a part of it, and the log has the status line alone.
-fn is_whole(rt: &impl Abort, row: usize, left: &Left) -> bool {
-    let length = left.out.written().len();
-    let out = head(ACCUMULATOR_TRACE, length);
-    if length == ACCUMULATOR_TRACE.len() {
-        has_left(rt, row, left, 0, out, ACCUMULATED);
-        return true;
-    }
-    has_left(rt, row, left, 4, out, b"write fault\n");
-    false
+/// Whether a run whose write of this number fails leaves a part of the output, and the status line alone; or all of it, where there is no such
+/// write.
+fn is_prefix(alloc: Global, write: u64) -> Result<(bool, bool), NoMemory> {
+    let mut src = source(alloc, accumulator(), 0)?;
+    let mut out = sink(alloc, write)?;
+    let mut log = sink(alloc, 0)?;
+    let (code, _) = run_on(alloc, ACCUMULATE, &mut src, &mut out, &mut log)?;
+    let is_whole = out.written() == accumulator_trace();
+    let (want, said) = if is_whole {
+        (0, ACCUMULATED)
+    } else {
+        (4, WRITE_FAULT)
+    };
+    let is_part = accumulator_trace().starts_with(out.written());
+    Ok((is_part && code == want && log.written() == said, is_whole))
 }
 
-// Once a write of a number does not fail, since there are fewer, none of a higher number does.
-#[test]
-fn a_write_that_fails_leaves_a_prefix(rt: HostRuntime) -> Result<(), Fail> {
-    let words: &[&[u8]] = &ACCUMULATE;
-    let mut was_whole = false;
+/// The first number of a write of which no write of a higher number fails either, since there are fewer; none where one leaves something else.
+fn first_whole(alloc: Global) -> Result<Option<u64>, NoMemory> {
+    let mut first = None;
     for write in 1..40u64 {
-        let left = run_with(rt.alloc(), words, ACCUMULATOR, (0, write, 0))?;
-        let whole = is_whole(&rt, write as usize, &left);
-        assert!(rt; whole || !was_whole, "write {write}");
-        was_whole = whole;
+        let (holds, is_whole) = is_prefix(alloc, write)?;
+        if !holds || (first.is_some() && !is_whole) {
+            return Ok(None);
+        }
+        if is_whole && first.is_none() {
+            first = Some(write);
+        }
     }
-    assert!(rt; was_whole);
-    Ok(())
-}
-
-/// Run `row` has read nothing, and has left all watchers.
-fn has_read_nothing(rt: &impl Abort, row: usize, left: &Left) {
-    let is_read = left.src.left() != GOOD || left.src.faults() > 0;
-    assert!(rt;
-        !is_read && left.out.faults() == 0 && left.watchers == 3,
-        "row {row}"
-    );
-}
-
-// No read and no write fails, since there is none.
-#[test]
-fn usage_reads_nothing(rt: HostRuntime) -> Result<(), Fail> {
-    let rows: [(&[&[u8]], u64, &[u8]); 11] = [
-        (&[], 0, USAGE),
-        (&[], 2, &USAGE[..50]),
-        (&[b"check", b"x"], 0, USAGE),
-        (&[b"Check"], 0, USAGE),
-        (&[b""], 0, USAGE),
-        (&[b"simulate", b"--top", b"t"], 0, USAGE),
-        (&[b"simulate", b"--top", b"t", b"--steps", b"0"], 0, USAGE),
-        (
-            &[
-                b"simulate",
-                b"--top",
-                b"t",
-                b"--steps",
-                b"5",
-                b"--watch",
-                b"none",
-            ],
-            0,
-            USAGE,
-        ),
-        (&[b"simulate", b"--top=t", b"--steps", b"5"], 0, USAGE),
-        (&[b"lower", b"x"], 0, USAGE),
-        (&[b"selftest", b"1001"], 0, USAGE),
-    ];
-    for (k, (words, told, log)) in rows.iter().enumerate() {
-        let left = run_with(rt.alloc(), *words, GOOD, (1, 1, *told))?;
-        has_left(&rt, k, &left, 2, b"", *log);
-        has_read_nothing(&rt, k, &left);
-    }
-    Ok(())
+    Ok(first)
 }
 
 #[test]
-fn a_self_test_reads_nothing(rt: HostRuntime) -> Result<(), Fail> {
-    let left = run_with(rt.alloc(), &[b"selftest", b"1"], GOOD, (1, 0, 0))?;
-    has_left(&rt, 0, &left, 0, ONE_LINK, b"");
-    has_read_nothing(&rt, 0, &left);
-    Ok(())
+fn a_write_that_fails_leaves_a_prefix(rt: HostRuntime) {
+    assert!(rt; matches!(first_whole(rt.alloc()), Ok(Some(_))));
 }
 
-/// Of a text of this length, which is none of the language, so much is left, and the run ends with this code.
-fn is_read(
-    rt: &impl Abort,
+/// Whether a run reads nothing, though it may, and leaves this code, this output and this log.
+fn reads_nothing(
     alloc: Global,
-    length: usize,
-    code: u8,
-    rest: usize,
-) -> Result<(), Fail> {
+    words: &str,
+    told: u64,
+    (code, output, line): (u8, &[u8], &[u8]),
+) -> Result<bool, NoMemory> {
+    let mut src = source(alloc, good(), 1)?;
+    let mut out = sink(alloc, 0)?;
+    let mut log = sink(alloc, told)?;
+    let (ended, watchers) = run_on(alloc, words, &mut src, &mut out, &mut log)?;
+    let is_read = src.left() != good() || src.faults() > 0;
+    let is_written = out.written() == output && log.written() == line;
+    Ok(!is_read && is_written && ended == code && watchers == 3)
+}
+
+// The output of a self-test takes three writes and a part of a fourth.
+#[test]
+fn a_self_test_and_usage_read_nothing(rt: HostRuntime) {
+    let alloc = rt.alloc();
+    assert!(rt; reads_nothing(alloc, "selftest 1", 0, (0, one_link(), b"")) == Ok(true));
+    assert!(rt; reads_nothing(alloc, "", 0, (2, b"", usage())) == Ok(true));
+    assert!(rt; reads_nothing(alloc, "check x", 2, (2, b"", head(usage(), 50))) == Ok(true));
+    let words = "simulate --top t --steps 5 --watch none";
+    assert!(rt; reads_nothing(alloc, words, 0, (2, b"", usage())) == Ok(true));
+    let rows: [((u64, u64, u64), u8, usize, &[u8]); 3] = [
+        ((0, 1, 0), 4, 0, WRITE_FAULT),
+        ((0, 2, 0), 4, 50, WRITE_FAULT),
+        ((0, 3, 0), 4, 100, WRITE_FAULT),
+    ];
+    assert!(rt; broken(alloc, ("selftest 1", good()), (one_link(), 3), &rows) == Ok(None));
+}
+
+/// Of a text of this length, which is none of the language: the code with which the run ends, and how much is left.
+fn read_of(alloc: Global, length: usize) -> Result<(u8, usize), NoMemory> {
     let text = vec![in alloc; b'!'; length]?;
-    let src = MemSource::new(text, 1_000_000, Vec::new(alloc));
-    let left = run_on(alloc, &[b"check"], src, sink(alloc, 0)?, sink(alloc, 0)?)?;
-    assert_eq!(rt; left.code, code, "{length} bytes");
-    assert_eq!(rt; left.src.left().len(), rest, "{length} bytes");
-    Ok(())
+    let mut src = MemSource::new(text, 1_000_000, Vec::new(alloc));
+    let mut out = sink(alloc, 0)?;
+    let mut log = sink(alloc, 0)?;
+    let (code, _) = run_on(alloc, "check", &mut src, &mut out, &mut log)?;
+    Ok((code, src.left().len()))
 }
 
 #[test]
-fn a_source_is_read_up_to_its_limit(rt: HostRuntime) -> Result<(), Fail> {
-    is_read(&rt, rt.alloc(), 67_108_864, 1, 0)?;
-    is_read(&rt, rt.alloc(), 67_108_865, 6, 0)?;
-    is_read(&rt, rt.alloc(), 67_108_866, 6, 1)
+fn a_source_is_read_up_to_its_limit(rt: HostRuntime) {
+    assert!(rt; read_of(rt.alloc(), 67_108_864) == Ok((1, 0)));
+    assert!(rt; read_of(rt.alloc(), 67_108_865) == Ok((6, 0)));
+    assert!(rt; read_of(rt.alloc(), 67_108_866) == Ok((6, 1)));
 }
 
+/// Whether a run into this sink breaks off after ten bytes.
+fn breaks_off(alloc: Global, out: &mut MemSink) -> Result<bool, NoMemory> {
+    let mut src = source(alloc, good(), 0)?;
+    let mut log = sink(alloc, 0)?;
+    let (code, _) = run_on(alloc, "check", &mut src, out, &mut log)?;
+    Ok(code == 4 && out.written() == b"entity @t ".as_slice() && log.written() == WRITE_FAULT)
+}
+
+// The second write fails; a sink takes seven bytes, then three, and is full.
 #[test]
 fn an_output_of_small_pieces_breaks_off(rt: HostRuntime) -> Result<(), Fail> {
-    let alloc = rt.alloc();
-    let src = source(alloc, GOOD, 0)?;
-    let out = MemSink::new(alloc, 200, 10, Vec::from_slice(alloc, &[2])?)?;
-    let left = run_on(alloc, &[b"check"], src, out, sink(alloc, 0)?)?;
-    has_left(&rt, 0, &left, 4, b"entity @t ", b"write fault\n");
+    let mut out = MemSink::new(rt.alloc(), 200, 10, Vec::from_slice(rt.alloc(), &[2])?)?;
+    assert!(rt; breaks_off(rt.alloc(), &mut out) == Ok(true));
+    let mut out = MemSink::new(rt.alloc(), 10, 7, Vec::new(rt.alloc()))?;
+    assert!(rt; breaks_off(rt.alloc(), &mut out) == Ok(true));
     Ok(())
 }

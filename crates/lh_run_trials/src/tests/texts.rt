@@ -1,6 +1,7 @@
-//! Texts of files that tests run, and what they are to write.
+//! Texts of files that tests run, and what they are to write. They are functions and no constants: a proof need not carry the bytes.
 
-pub const ACCUMULATOR: &[u8] = b"entity @acc_tb () -> () {\n\
+pub fn accumulator() -> &'static [u8] {
+    b"entity @acc_tb () -> () {\n\
 \x20   %zero0 = const i1 0\n\
 \x20   %zero1 = const i32 0\n\
 \x20   %clk = sig i1 %zero0\n\
@@ -83,9 +84,11 @@ entry:\n\
 \x20   %ok = eq i32 %q, %sum\n\
 \x20   call void @llhd.assert (i1 %ok)\n\
 \x20   ret\n\
-}\n";
+}\n"
+}
 
-pub const ACCUMULATOR_TRACE: &[u8] = b"sig 0 i1 acc_tb.clk\n\
+pub fn accumulator_trace() -> &'static [u8] {
+    b"sig 0 i1 acc_tb.clk\n\
 sig 1 i1 acc_tb.en\n\
 sig 2 i32 acc_tb.x\n\
 sig 3 i32 acc_tb.q\n\
@@ -100,24 +103,33 @@ sig 4 i32 acc_tb.acc_1.d\n\
 @ 3000000fs 1d 0e\n\
 @ 4000000fs 0d 0e\n0 = 0\n2 = 1\nassert 4 ok\n\
 @ 4000000fs 1d 0e\n4 = 1\n\
-end quiet\n";
+end quiet\n"
+}
 
-pub const GOOD: &[u8] =
-    b"entity @t (i1$ %c) -> () {\n    %z = const i8 255\n    %a = sig i8 %z\n}\n";
+pub fn good() -> &'static [u8] {
+    b"entity @t (i1$ %c) -> () {\n    %z = const i8 255\n    %a = sig i8 %z\n}\n"
+}
 
-pub const BAD: &[u8] = b"entity @t (i1$ %c) -> () {\n    !\n}\n";
+pub fn bad() -> &'static [u8] {
+    b"entity @t (i1$ %c) -> () {\n    !\n}\n"
+}
 
-pub const FAILS: &[u8] = b"proc @p () -> () {\n\
+pub fn fails() -> &'static [u8] {
+    b"proc @p () -> () {\n\
 b:\n\
 \x20   %z = const i1 0\n\
 \x20   call void @llhd.assert (i1 %z)\n\
 \x20   halt\n\
-}\n";
+}\n"
+}
 
-pub const FAILS_TRACE: &[u8] = b"@ 0fs 0d 0e\nassert 0 failed\nend stop untilfail\n";
+pub fn fails_trace() -> &'static [u8] {
+    b"@ 0fs 0d 0e\nassert 0 failed\nend stop untilfail\n"
+}
 
 /// An inverter, and a process that only waits for a time.
-pub const PROCESSES: &[u8] = b"proc @inv (i1$ %a) -> (i1$ %q) {
+pub fn processes() -> &'static [u8] {
+    b"proc @inv (i1$ %a) -> (i1$ %q) {
 entry:
     %x = prb i1$ %a
     %y = not i1 %x
@@ -130,9 +142,11 @@ entry:
     %t = const time 1ns
     wait %entry for %t
 }
-";
+"
+}
 
-pub const LOWERED: &[u8] = b"entity @inv (i1$ %a) -> (i1$ %q) {
+pub fn lowered() -> &'static [u8] {
+    b"entity @inv (i1$ %a) -> (i1$ %q) {
     %v0 = prb i1$ %a
     %v1 = not i1 %v0
     %v2 = const time 0s 1d
@@ -143,13 +157,17 @@ entry:
     %t = const time 1ns
     wait %entry for %t
 }
-";
+"
+}
 
 /// Both runs of one link have one change in each frame but the first.
-pub const ONE_LINK: &[u8] = b"units 4 lowered 2 left 1
+pub fn one_link() -> &'static [u8] {
+    b"units 4 lowered 2 left 1
 original frames 34 changes 33 ok 8 failed 0 quiet
 lowered frames 34 changes 33 ok 8 failed 0 quiet
-";
+"
+}
 
-pub const USAGE: &[u8] =
-    b"usage: llhd check | lower | simulate --top NAME --steps N [--vcd] [--watch TITLE ...] | selftest N\n";
+pub fn usage() -> &'static [u8] {
+    b"usage: llhd check | lower | simulate --top NAME --steps N [--vcd] [--watch TITLE ...] | selftest N\n"
+}
