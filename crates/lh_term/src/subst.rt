@@ -34,12 +34,7 @@ impl Terms {
     }
 
     /// The term made anew, by the terms that it is made of.
-    fn made_anew(
-        &mut self,
-        t: TermId,
-        made_of: &[TermId],
-        by: &Swap,
-    ) -> Result<TermId, NoMemory>
+    fn made_anew(&mut self, t: TermId, made_of: &[TermId], by: &Swap) -> Result<TermId, NoMemory>
         requires is_in { IsIn self.old t }
         requires pairs_in { PairsIn self.old by.now }
         requires swaps { AreSwaps (pairs_at self.old by.now) }

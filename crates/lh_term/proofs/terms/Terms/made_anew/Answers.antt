@@ -27,7 +27,7 @@ pub loop-k-preserved : goal.loop-k-preserved
 loop-k-preserved c = record {
   within = omega (arith, c.loop-k.invariant.within);
   making = turn_next c.args.self.now c.loop-k.self c.args.by.now (hash.get nat_eq c.loop-k.made) c.args.t c.args.made_of.now c.loop-k.k (record { 0 = 0 }) c.loop-k.invariant.making c.requires.made_of
-        c.requires.pairs_in c.requires.swaps c.loop-k-test.true c.loop-k.invariant.within
+      c.requires.pairs_in c.requires.swaps c.loop-k-test.true c.loop-k.invariant.within
       c.remade.new.self c.in_ok-x.x (hash.get nat_eq c.insert.new.self) c.in_ok-x.ensures.kept c.in_ok-x.ensures.made c.in_ok-insert.ensures.updates.0;
 }
 
