@@ -20,3 +20,4 @@ pub mod Apart
 pub mod Distinct
 pub mod Flattening
 pub mod Bounds
+pub mod Loops

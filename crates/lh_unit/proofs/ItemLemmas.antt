@@ -1,6 +1,7 @@
 -- Units that are looked up and begun, and declarations.
 use Rattle.std.proofs.Common.{◌≡◌, ◌≢◌, ℕ, ◌+◌, ◌≤◌, ◌<◌, zero, suc, Bool, true, false, ◌||◌, List, [], ◌∷◌, ◌++◌, length, map, get_or, set, Option, Some, None, IsSome, is_some, Result, Ok, Err, OnOk, OnErr, unwrap_or, slice_get, position, refl, ap, sym, ◌∙◌, subst, arith, length-append, length-set}
 use Rattle.std.specs.List.{list_any}
+use Rattle.std.specs.Result.{IsErr, is_err}
 use Rattle.std.proofs.lemmas.List.{map-append, get_or-set_same, get_or_append_left, get_or_read}
 use Rattle.std.proofs.lemmas.Option.{slice_get-get_or, get_or_from_slice_get}
 use Rattle.indexmap.specs.IndexSet.{insert_key}
@@ -9,7 +10,7 @@ use Rattle.lh_types.specs.declared.ty.NoMemory.{NoMemory}
 use Rattle.lh_unit.specs.Contents.{unit_text, new_unit, defines_unit}
 use Rattle.lh_names.specs.UnitNames.{same_unit_name}
 use Rattle.lh_unit.specs.Table.{Table, IsTable, no_table, entity_block, insts_at, line_at}
-use Rattle.lh_unit.specs.TableCalls.{begun}
+use Rattle.lh_unit.specs.TableCalls.{BeginsTable, begun}
 use Rattle.lh_unit.specs.Naming.{naming_of, line_text, arg_text, block_text, table_text}
 use Rattle.lh_unit.specs.Arena.{Arena, IsArena, HasFewMore, none_more, contents, item_text_at, unit_text_at, table_at, kind_at, unit_count, unit_name_at, no_unit_name}
 use Rattle.lh_unit.specs.Builders.{FindsEntry, FindsUnit, HasContents, AddsDeclare}
@@ -263,3 +264,17 @@ pub unchanged : (a : Arena) (u : ℕ) (s t : Table) (items : List Item) → u < 
 unchanged a u s t items h e f g =
     let w : with_table a u t ≡ a = with_table-old a u t (f ∙ get_or_read a.units u s h e no_table) in
     λ i. record (w i) { items = g i }
+
+-- where memory runs out no unit is entered
+pub no-unit : (r : Result UnitId NoMemory) (old new : Arena) (n : UnitName) → IsErr r → new ≡ old → FindsUnit r old new n
+no-unit (Ok u) old new n e p = cc
+no-unit (Err x) old new n e p = p
+
+-- what a unit's table is after a begin that succeeds or fails
+pub is-begun : (r : Result (Unit {0}) NoMemory) (old new : Table) (k : UnitKind) → BeginsTable r old new k → is_err r ≡ false → new ≡ begun old k
+is-begun (Ok x) old new k b e = b
+is-begun (Err x) old new k b e = cc
+
+pub not-begun : (r : Result (Unit {0}) NoMemory) (old new : Table) (k : UnitKind) → BeginsTable r old new k → is_err r ≡ true → new ≡ old
+not-begun (Ok x) old new k b e = cc
+not-begun (Err x) old new k b e = b

@@ -20,3 +20,4 @@ pub mod ByIdInsts
 pub mod Giving
 pub mod ByIdPlaces
 pub mod Placing
+pub mod Seen

@@ -1,8 +1,15 @@
-use Rattle.std.proofs.Common.{arith}
-use Rattle.lh_flat.specs.Building.{line_of}
+use Rattle.std.proofs.Common.{◌≡◌, ◌+◌, drop, get_or, OnOk, ap, sym, ◌∙◌, subst, arith}
+use Rattle.std.proofs.lemmas.List.{drop_all}
+use Rattle.lh_unit.specs.declared.inst.InstId.{InstId}
+use Rattle.lh_unit.specs.declared.table.Line.{Line}
+use Rattle.lh_flat.specs.declared.build.Text.{Text}
+use Rattle.lh_flat.specs.Graph.{callee_of}
+use Rattle.lh_flat.specs.Building.{line_of, put, taken, line_added, insts_added, blocks_added, call_added}
+use Rattle.lh_flat.proofs.Loops.{drop-at}
 use Rattle.lh_flat.proofs.Reading.{placed-at}
 use Rattle.lh_flat.proofs.Building.{call_added-none, call_added-is}
 use Rattle.lh_flat.proofs.build.Text.+copying.Goals as goal
+use Rattle.lh_flat.proofs.build.Text.+copying.Goals.{add_block-in-None+in_ok-inst-in-None+in_ok-take-in-None, add_block-in-Some+in_ok-add_call-in-Some}
 
 pub add_call-returns-then-depth-eq0 : goal.add_call-returns-then-depth-eq0
 add_call-returns-then-depth-eq0 t c =
@@ -23,3 +30,38 @@ add_unit-add_block-requires t c = (
       c.args.copy.now.view.in_place
       c.blocks-block-items.ensures.blocks c.loop-block-test.true,
 )
+
+pub add_unit-loop-block-preserved : goal.add_unit-loop-block-preserved
+add_unit-loop-block-preserved t c =
+    let a = c.args.copy.now.view.module.now in
+    let u = c.args.copy.now.view.unit.0 in
+    let r = c.args.copy.now.ids in
+    let items = c.blocks-block-items.result.now in
+    ap (blocks_added (call_added c.args.depth a) a u r (drop (c.loop-block.block-index + 1) items)) c.in_ok-add_block.ensures
+    ∙ sym (ap (λ bs. blocks_added (call_added c.args.depth a) a u r bs c.loop-block.self) (drop-at items c.loop-block.block-index (record { 0 = 0 }) c.loop-block-test.true)) ∙ c.loop-block.invariant
+
+pub add_block-loop-id-preserved : goal.add_block-loop-id-preserved
+add_block-loop-id-preserved t c =
+    let a = c.args.copy.now.view.module.now in
+    let u = c.args.copy.now.view.unit.0 in
+    let r = c.args.copy.now.ids in
+    let items = c.insts-id-items.result.now in
+    let id : InstId = get_or items c.loop-id.id-index (record { 0 = 0 }) in
+    let called = call_added c.args.depth a in
+    let l : Line = line_of a u id in
+    let k : c.callee.result ≡ callee_of a l.inst = c.callee.ensures.callee ∙ ap (callee_of a) c.inst.ensures.inst in
+    let step : c.match-callee.self ≡ line_added called r l (callee_of a l.inst) c.loop-id.self = (elim c.match-callee.branch [
+      | add_block-in-None+in_ok-inst-in-None+in_ok-take-in-None w ↦ w.self-is ∙ w.in_ok-take-in-None.ensures ∙ ap (λ x. taken x c.loop-id.self) w.in_ok-inst-in-None.ensures
+          ∙ ap (λ o. line_added called r l o c.loop-id.self) (sym w.in-None.is ∙ k)
+      | add_block-in-Some+in_ok-add_call-in-Some w ↦ w.self-is ∙ w.in_ok-add_call-in-Some.ensures ∙ ap (λ o. line_added called r l o c.loop-id.self) (sym w.in-Some.is ∙ k)
+    ]) in
+    ap (insts_added called a u r (drop (c.loop-id.id-index + 1) items)) step
+    ∙ sym (ap (λ is. insts_added called a u r is c.loop-id.self) (drop-at items c.loop-id.id-index (record { 0 = 0 }) c.loop-id-test.true)) ∙ c.loop-id.invariant
+
+pub add_block-returns : goal.add_block-returns
+add_block-returns t c =
+    let a = c.args.copy.now.view.module.now in
+    let u = c.args.copy.now.view.unit.0 in
+    let all = sym (ap (λ is. insts_added (call_added c.args.depth a) a u c.args.copy.now.ids is c.loop-id.self) (drop_all c.loop-id.id-index c.insts-id-items.result.now c.loop-id-test.false))
+    ∙ c.loop-id.invariant in
+    subst (λ (x : Text). OnOk c.put.result (c.put.new.self ≡ put x)) all c.put.ensures

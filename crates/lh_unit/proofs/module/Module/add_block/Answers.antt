@@ -15,6 +15,13 @@ add_block-requires-clause-labels c =
     (subst (λ (a : Arena). OfOpen a (λ x. HasLabels x.kind)) (sym c.self.view_is) c.requires.labels) in
     subst (λ (t : Table). HasBlocks t.kind) (sym (read (arena_of c.self.inside) c.args.unit.0 c.index_mut-table.result.now h c.index_mut-table.ensures.value)) k
 
+pub add_block-requires-clause-within : goal.add_block-requires-clause-within
+add_block-requires-clause-within c =
+    let p : IsOpen (arena_of c.self.inside) c.args.unit = subst (λ (a : Arena). IsOpen a c.args.unit) (sym c.self.view_is) c.requires.opened in
+    let h : c.args.unit.0 < length (arena_of c.self.inside).units = open-within (arena_of c.self.inside) c.args.unit c.self.invariant p in
+    let w : c.args.block.0 < label_count (arena_of c.self.inside) c.args.unit.0 = subst (λ (a : Arena). c.args.block.0 < label_count a c.args.unit.0) (sym c.self.view_is) c.requires.within in
+    subst (λ (t : Table). c.args.block.0 < length t.labels) (sym (read (arena_of c.self.inside) c.args.unit.0 c.index_mut-table.result.now h c.index_mut-table.ensures.value)) w
+
 written : (c : goal.After-self-1) → IsArena (with_table (arena_of c.self.inside) c.args.unit.0 c.add_block.new.self)
     × AddsBlock c.add_block.result (arena_of c.self.inside) (with_table (arena_of c.self.inside) c.args.unit.0 c.add_block.new.self) c.args.unit (label_name_at (arena_of c.self.inside) c.args.unit.0
     c.args.block.0)

@@ -1,9 +1,9 @@
-use Rattle.std.proofs.Common.{rules, ◌≡◌, ◌<◌, ◌-◌, ◌^◌, ◌++◌, ◌∷◌, [], refl, sym, subst}
+use Rattle.std.proofs.Common.{rules, ap, ◌∙◌, ◌≡◌, ◌<◌, ◌-◌, ◌^◌, ◌++◌, ◌∷◌, [], refl, sym, subst}
 use Rattle.lh_unit.specs.Table.{no_table}
 use Rattle.lh_unit.specs.Arena.{Arena, IsArena, unit_count}
 use Rattle.lh_unit.specs.ArenaOf.{arena_of}
 use Rattle.lh_unit.proofs.Arenas.{with_unit, IsArena-with_unit}
-use Rattle.lh_unit.proofs.ItemLemmas.{found-unit, added-unit, added-FindsUnit}
+use Rattle.lh_unit.proofs.ItemLemmas.{found-unit, added-unit, added-FindsUnit, no-unit}
 use Rattle.lh_unit.proofs.module.Module.unit_named.Goals as goal
 
 pub returns-in-Some : goal.returns-in-Some
@@ -29,3 +29,9 @@ invariant_of-self-2 c =
 
 pub returns : goal.returns
 returns c = rw (← c.self.view_is) (added-FindsUnit (arena_of c.self.inside) _ _ _ c.in_ok-i.i c.in_ok-name.ensures (added c) c.self.invariant c.in_ok-i.ensures.within c.in_ok-i.ensures.stored)
+
+pub returns-in_err-reserve : goal.returns-in_err-reserve
+returns-in_err-reserve c = no-unit _ _ _ _ c.from_residual.ensures.0 (ap (λ us. record (arena_of c.self.inside) { units = us }) c.reserve.ensures.items ∙ c.self.view_is)
+
+pub returns-in_err-name : goal.returns-in_err-name
+returns-in_err-name c = no-unit _ _ _ _ c.from_residual-in_err-name.ensures.0 (ap (λ us. record (arena_of c.self.inside) { units = us }) c.reserve.ensures.items ∙ c.self.view_is)

@@ -1,8 +1,12 @@
-use Rattle.std.proofs.Common.{rules, ◌≡◌, ◌<◌, ◌-◌, ◌++◌, ◌∷◌, [], Some, None, IsSome, true, false, get_or, set, unwrap_or, length, refl, sym, ◌∙◌, ap, subst}
-use Rattle.lh_unit.specs.Table.{Table, IsTable, Definitions, ResultWithin, result_defined, with_definition}
+use Rattle.std.proofs.Common.{rules, ◌≡◌, ◌<◌, ◌-◌, ◌++◌, ◌∷◌, [], Some, None, IsSome, Option, Err, true, false, get_or, set, unwrap_or, length, refl, sym, ◌∙◌, ap, subst}
+use Rattle.lh_unit.specs.Table.{Table, IsTable, Definitions, ResultWithin, result_defined, with_definition, defined_among}
 use Rattle.lh_unit.specs.TableCalls.{TakesLine, with_line, last_block}
-use Rattle.lh_unit.specs.TableOf.{table_of}
+use Rattle.lh_unit.specs.TableOf.{table_of, InOrder}
+use Rattle.lh_unit.specs.declared.table.UnitTable.TheInside.{Inside}
+use Rattle.lh_unit.specs.declared.inst.Inst.{Inst}
+use Rattle.lh_unit.specs.declared.inst.ValueId.{ValueId}
 use Rattle.lh_unit.specs.declared.inst.ValueDef.TheVariants as value_def
+use Rattle.lh_unit.specs.declared.inst.UnitFault.TheVariants as fault
 use Rattle.lh_unit.proofs.Tables.{last-read, last-body, last-within, result-told, line-laid, IsTable-with_line, Definitions-with_line}
 use Rattle.lh_unit.proofs.table.UnitTable.add_line.Goals as goal
 
@@ -70,3 +74,38 @@ returns c =
     let few : length (table_of c.self.inside).lines < 65536 = search rules in
     let m : c.len-id.result ≡ length (table_of c.self.inside).lines = search rules in
     rw (← c.self.view_is) (few, told c, m, laid c)
+
+pub invariant_of-self : goal.invariant_of-self
+invariant_of-self c = (
+  subst (λ ls. IsTable (record (table_of c.self.inside) { lines = ls })) (sym c.reserve.ensures.items) c.self.invariant.0,
+  subst (λ ls. Definitions (record (table_of c.self.inside) { lines = ls }) c.self.inside.defs.items) (sym c.reserve.ensures.items) c.self.invariant.1,
+)
+
+-- where memory runs out the line was neither too many nor defined
+refused : (m : Inside) (old new : Table) (v : Option ValueId) (i : Inst) → table_of m ≡ old → ResultWithin (length old.values) v → InOrder m → length m.lines.items < 65536
+    → defined_among m.defs.items v ≡ false → new ≡ table_of m → TakesLine (Err fault.OutOfMemory) old new v i
+refused m old new v i e w o few n q =
+    let r : ResultWithin (length (table_of m).values) v = subst (λ (t : Table). ResultWithin (length t.values) v) (sym e) w in
+    subst (λ (t : Table). TakesLine (Err fault.OutOfMemory) t new v i) e (few, sym (result-told (table_of m) m.defs.items v o.1 r) ∙ n, q)
+
+pub returns-then-is_err : goal.returns-then-is_err
+returns-then-is_err c =
+    let few : length c.self.inside.lines.items < 65536 = search rules in
+    rw c.refuse-then-is_err.ensures (refused c.self.inside _ _ c.args.value c.args.inst c.self.view_is c.requires.within c.self.invariant few (sym c.is_defined.ensures ∙ c.if-is_defined.false)
+    (λ i. record (table_of c.self.inside) { lines = c.reserve.ensures.items i }))
+
+pub invariant_of-self-then-is_err-2 : goal.invariant_of-self-then-is_err-2
+invariant_of-self-then-is_err-2 c =
+    let b : c.push_id.new.bodies.items ≡ c.self.inside.bodies.items = search rules in
+    let e : (record (table_of c.self.inside) { bodies = c.push_id.new.bodies.items; lines = c.reserve.new.self.items }) ≡ table_of c.self.inside =
+    λ i. record (table_of c.self.inside) { bodies = b i; lines = c.reserve.ensures.items i } in (
+      subst IsTable (sym e) c.self.invariant.0,
+      subst (λ (t : Table). Definitions t c.self.inside.defs.items) (sym e) c.self.invariant.1,
+    )
+
+pub returns-then-is_err-2 : goal.returns-then-is_err-2
+returns-then-is_err-2 c =
+    let few : length c.self.inside.lines.items < 65536 = search rules in
+    let b : c.push_id.new.bodies.items ≡ c.self.inside.bodies.items = search rules in
+    rw c.refuse-then-is_err-2.ensures (refused c.self.inside _ _ c.args.value c.args.inst c.self.view_is c.requires.within c.self.invariant few (sym c.is_defined.ensures ∙ c.if-is_defined.false)
+    (λ i. record (table_of c.self.inside) { bodies = b i; lines = c.reserve.ensures.items i }))

@@ -1,10 +1,12 @@
-use Rattle.std.proofs.Common.{rules, ◌≡◌, ◌<◌, ◌-◌, ◌^◌, ◌++◌, ◌∷◌, [], None, false, length, refl, sym}
+use Rattle.std.proofs.Common.{rules, arith, ◌≡◌, ◌<◌, ◌-◌, ◌^◌, ◌++◌, ◌∷◌, [], None, false, length, refl, sym, ap, ◌∙◌, subst}
 use Rattle.lh_unit.specs.TableOf.{table_of}
 use Rattle.lh_names.specs.Distinct.{has_name}
-use Rattle.lh_unit.proofs.Entering.{new-absent, old-kept}
+use Rattle.lh_unit.specs.Table.{Table}
+use Rattle.lh_unit.proofs.Entering.{new-absent, old-kept, there, few-entered, label-made, label-found, no-label}
 use Rattle.lh_unit.proofs.Tables.{IsTable-by, IsTable-new_label, Definitions-same}
 use Rattle.lh_names.proofs.NameLists.{inserted}
 use Rattle.lh_unit.proofs.table.UnitTable.block_named.Goals as goal
+use Rattle.lh_unit.proofs.table.UnitTable.block_named.Goals.{then-is_new, else-is_new}
 
 pub invariant_of-self-then-is_new : goal.invariant_of-self-then-is_new
 invariant_of-self-then-is_new c =
@@ -35,3 +37,20 @@ invariant_of-self-else-is_new c =
       IsTable-by _ (table_of c.self.inside) refl refl e refl refl refl c.reserve.ensures.items refl c.self.invariant.0,
       Definitions-same (table_of c.self.inside) _ _ refl refl refl c.self.invariant.1,
     )
+
+pub returns-in_err-reserve : goal.returns-in_err-reserve
+returns-in_err-reserve c = no-label _ _ _ _ c.from_residual.ensures.0 (ap (λ bs. record (table_of c.self.inside) { bodies = bs }) c.in_err-reserve.ensures.items ∙ c.self.view_is)
+
+pub returns-in_err-i : goal.returns-in_err-i
+returns-in_err-i c = no-label _ _ _ _ c.from_residual-in_err-i.ensures.0 ((λ i. record (table_of c.self.inside) { labels = c.in_err-i.ensures.err i; bodies = c.reserve.ensures.items i }) ∙ c.self.view_is)
+
+pub overflow_cast-result : goal.overflow_cast-result
+overflow_cast-result c = omega (arith, few-entered _ _ _ _ c.in_ok-i.ensures.stored c.in_ok-i.ensures.names (subst (λ (t : Table). length t.labels < 2 ^ 32 - 1) (sym c.self.view_is) c.requires))
+
+pub returns : goal.returns
+returns c = rw (← c.self.view_is) (elim c.if-is_new.branch [
+  | then-is_new w ↦ rw w.self-is (rw (w.push_reserved.ensures.items, c.reserve.ensures.items)
+      (label-made (table_of c.self.inside) _ _ _ c.in_ok-i.ensures.stored c.in_ok-i.ensures.names (new-absent _ _ w.if-is_new.true c.in_ok-i.ensures.added)))
+  | else-is_new w ↦ rw w.self-is (rw c.reserve.ensures.items
+      (label-found (table_of c.self.inside) _ _ _ c.in_ok-i.ensures.stored c.in_ok-i.ensures.names (there _ _ w.if-is_new.false c.in_ok-i.ensures.added)))
+])

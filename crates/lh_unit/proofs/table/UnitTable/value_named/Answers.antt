@@ -1,12 +1,14 @@
-use Rattle.std.proofs.Common.{rules, ◌≡◌, ◌<◌, ◌-◌, ◌^◌, ◌++◌, ◌∷◌, [], false, length, refl, sym, subst}
+use Rattle.std.proofs.Common.{rules, arith, ◌≡◌, ◌<◌, ◌-◌, ◌^◌, ◌++◌, ◌∷◌, [], false, length, refl, sym, ap, ◌∙◌, subst}
 use Rattle.lh_unit.specs.TableOf.{table_of}
 use Rattle.lh_names.specs.Distinct.{has_name}
 use Rattle.lh_unit.specs.declared.inst.ValueDef.TheVariants as value_def
-use Rattle.lh_unit.specs.Table.{Definitions}
-use Rattle.lh_unit.proofs.Entering.{new-absent, old-kept}
+use Rattle.lh_unit.specs.Table.{Table, Definitions}
+use Rattle.lh_unit.specs.TableCalls.{NamesValue}
+use Rattle.lh_unit.proofs.Entering.{new-absent, old-kept, few-entered, value-entered, no-value}
 use Rattle.lh_unit.proofs.Tables.{IsTable-by, IsTable-new_value, Definitions-same, Definitions-new_value}
 use Rattle.lh_names.proofs.NameLists.{inserted}
 use Rattle.lh_unit.proofs.table.UnitTable.value_named.Goals as goal
+use Rattle.lh_unit.proofs.table.UnitTable.value_named.Goals.{then-is_new, else-is_new}
 
 pub invariant_of-self-then-is_new : goal.invariant_of-self-then-is_new
 invariant_of-self-then-is_new c =
@@ -35,3 +37,18 @@ invariant_of-self-else-is_new c =
       IsTable-by _ (table_of c.self.inside) refl e refl refl refl refl refl refl c.self.invariant.0,
       subst (Definitions _) (sym c.reserve.ensures.items) (Definitions-same (table_of c.self.inside) _ _ e refl refl c.self.invariant.1),
     )
+
+pub returns-in_err-reserve : goal.returns-in_err-reserve
+returns-in_err-reserve c = no-value _ _ _ _ c.from_residual.ensures.0 c.self.view_is
+
+pub returns-in_err-i : goal.returns-in_err-i
+returns-in_err-i c = no-value _ _ _ _ c.from_residual-in_err-i.ensures.0 (ap (λ ks. record (table_of c.self.inside) { values = ks }) c.in_err-i.ensures.err ∙ c.self.view_is)
+
+pub overflow_cast-result : goal.overflow_cast-result
+overflow_cast-result c = omega (arith, few-entered _ _ _ _ c.in_ok-i.ensures.stored c.in_ok-i.ensures.names (subst (λ (t : Table). length t.values < 2 ^ 32 - 1) (sym c.self.view_is) c.requires))
+
+entered : (c : goal.Joined-is_new) → NamesValue (table_of c.self.inside) (record (table_of c.self.inside) { values = c.enter.new.self }) c.args.name c.in_ok-i.i
+entered c = value-entered (table_of c.self.inside) _ _ _ c.in_ok-i.ensures.stored c.in_ok-i.ensures.names
+
+pub returns : goal.returns
+returns c = rw (← c.self.view_is) (elim c.if-is_new.branch [ then-is_new w ↦ rw w.self-is (entered c) | else-is_new w ↦ rw w.self-is (entered c) ])
