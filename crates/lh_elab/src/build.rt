@@ -1,5 +1,5 @@
 //! The design as it is built, one instance after the other.
-ghost use Rattle.std.specs.Prelude.{◌≡◌, ◌+◌, ◌≤◌, ◌<◌, ◌^◌, ◌++◌, ◌∷◌, [], length, map, None, IfOk, OnOk, slice_index_or};
+ghost use Rattle.std.specs.Prelude.{◌≡◌, ◌+◌, ◌≤◌, ◌<◌, ◌^◌, ◌++◌, ◌∷◌, [], length, map, replicate, false, None, IfOk, OnOk, slice_index_or};
 ghost use Rattle.lh_types.specs.Types.{bit_count};
 ghost use Rattle.lh_unit.specs.Design.{carried_type, signal_ranges, top_signals};
 ghost use Rattle.lh_unit.specs.Arena.{unit_count, unit_text_at};
@@ -88,12 +88,21 @@ impl Building {
     {
         let mut ranges = ListOf::new(alloc);
         for arg in m.args(top) {
-            let ty = carried(&arg.ty)?;
-            let initial = Bits::zeros(alloc, width_of(&ty))?;
-            let range = self.put_signal(0, m.value_name(top, arg.value), &ty, &initial)?;
+            let range = self.put_arg(alloc, m.value_name(top, arg.value), carried(&arg.ty))?;
             ranges.push(range)?;
         }
         Ok(ranges)
+    }
+
+    /// Adds an argument of a top unit as a signal of this type.
+    fn put_arg(&mut self, alloc: Global, name: &Name, ty: &Ty) -> Result<Range, NoMemory>
+        requires room { self.old.lo + bit_count ty.now ≤ length self.old.init }
+        ensures signals { OnOk result (AddsSignals self.old self.new 0 (record { name = name.now; ty = ty.now; initial = replicate (bit_count ty.now) false } ∷ [])) }
+        ensures rest { KeepsRest self.old self.new }
+        ensures range { IfOk result (λ r. r ≡ record { lo = self.old.lo; len = bit_count ty.now }) }
+    {
+        let initial = Bits::zeros(alloc, width_of(ty))?;
+        self.put_signal(0, name, ty, &initial)
     }
 
     /// Adds the signals of an instance.
@@ -251,12 +260,12 @@ impl Building {
 }
 
 /// The type that a signal of this type carries.
-fn carried(ty: &Ty) -> Result<Ty, NoMemory>
-    ensures { IfOk result (λ t. t ≡ carried_type ty.now) }
+fn carried(ty: &Ty) -> &Ty
+    ensures { result.now ≡ carried_type ty.now }
 {
     match ty.kind() {
-        TyKind::Signal(of) => of.copy(),
-        _ => ty.copy(),
+        TyKind::Signal(of) => of,
+        _ => ty,
     }
 }
 

@@ -20,13 +20,13 @@ pub struct HierarchyNode {
 }
 
 /// The units of a module by their ids.
-pub fn graph(alloc: Global, module: &Module) -> Result<Vec<HierarchyNode>, NoMemory>
-    ensures graph { IfOk result (λ nodes. IsGraph module.now nodes.items) }
-    ensures sound { IsArena module.now }
+pub fn graph(alloc: Global, m: &Module) -> Result<Vec<HierarchyNode>, NoMemory>
+    ensures graph { IfOk result (λ nodes. IsGraph m.now nodes.items) }
+    ensures sound { IsArena m.now }
 {
     let mut nodes = Vec::new(alloc);
-    for unit in 0..module.units() {
-        put_node(&mut nodes, unit_node(alloc, module, UnitId(unit))?)?;
+    for unit in 0..m.units() {
+        put_node(&mut nodes, unit_node(alloc, m, UnitId(unit))?)?;
     }
     Ok(nodes)
 }
@@ -39,25 +39,25 @@ fn put_node(nodes: &mut Vec<HierarchyNode>, node: HierarchyNode) -> Result<(), N
 }
 
 /// What is counted of a unit.
-fn unit_node(alloc: Global, module: &Module, unit: UnitId) -> Result<HierarchyNode, NoMemory>
-    requires { unit.0 < unit_count module.now }
-    ensures { IfOk result (λ node. node ≡ node_of module.now unit.0) }
+fn unit_node(alloc: Global, m: &Module, unit: UnitId) -> Result<HierarchyNode, NoMemory>
+    requires { unit.0 < unit_count m.now }
+    ensures { IfOk result (λ node. node ≡ node_of m.now unit.0) }
 {
-    match module.kind(unit) {
-        Some(UnitKind::Entity) => entity_node(alloc, module, unit),
+    match m.kind(unit) {
+        Some(UnitKind::Entity) => entity_node(alloc, m, unit),
         _ => Ok(HierarchyNode::new(alloc)),
     }
 }
 
-fn entity_node(alloc: Global, module: &Module, unit: UnitId) -> Result<HierarchyNode, NoMemory>
-    requires unit { unit.0 < unit_count module.now }
-    requires entity { kind_at module.now unit.0 ≡ Some UnitKind.Entity }
-    requires sound { IsArena module.now }
-    ensures { IfOk result (λ node. node ≡ node_of module.now unit.0) }
+fn entity_node(alloc: Global, m: &Module, unit: UnitId) -> Result<HierarchyNode, NoMemory>
+    requires unit { unit.0 < unit_count m.now }
+    requires entity { kind_at m.now unit.0 ≡ Some UnitKind.Entity }
+    requires sound { IsArena m.now }
+    ensures { IfOk result (λ node. node ≡ node_of m.now unit.0) }
 {
     let mut node = HierarchyNode::new(alloc);
-    for inst in module.insts(unit, BlockId(0)) {
-        node.take(module.inst(unit, *inst))?;
+    for inst in m.insts(unit, BlockId(0)) {
+        node.take(m.inst(unit, *inst))?;
     }
     Ok(node)
 }

@@ -19,17 +19,17 @@ use std::alloc::Global;
 /// The first reason why a top unit has no design; where there is none, how many bits the signals of its design have.
 ///
 /// Work grows with the size of the module, and not with the number of instances.
-pub fn first_refusal(alloc: Global, module: &Module, top: UnitId) -> Result<u32, ElabFault>
-    requires unit { top.0 < unit_count module.now }
-    requires begun { IsSome (kind_at module.now top.0) }
-    ensures refuses { Refuses module.now top.0 result }
-    ensures placed { IfErr result (FaultWithin module.now) }
+pub fn first_refusal(alloc: Global, m: &Module, top: UnitId) -> Result<u32, ElabFault>
+    requires unit { top.0 < unit_count m.now }
+    requires begun { IsSome (kind_at m.now top.0) }
+    ensures refuses { Refuses m.now top.0 result }
+    ensures placed { IfErr result (FaultWithin m.now) }
 {
-    if is_function(module.kind(top)) {
+    if is_function(m.kind(top)) {
         return Err(ElabFault::TopIsFunction);
     }
-    let measure = measured(alloc, module, top)?;
-    limits(measure, arg_bits(module.args(top)))
+    let measure = measured(alloc, m, top)?;
+    limits(measure, arg_bits(m.args(top)))
 }
 
 /// Whether a unit of this kind is a function.
@@ -44,13 +44,13 @@ fn is_function(kind: Option<UnitKind>) -> bool
 }
 
 /// The measure of a unit of a module.
-fn measured(alloc: Global, module: &Module, top: UnitId) -> Result<Measure, DescentFault>
-    requires { top.0 < unit_count module.now }
-    ensures measure { MeasuresIn module.now top.0 result }
-    ensures placed { IfErr result (λ f. FaultWithin module.now (fault_of f)) }
-    ensures sound { IsArena module.now }
+fn measured(alloc: Global, m: &Module, top: UnitId) -> Result<Measure, DescentFault>
+    requires { top.0 < unit_count m.now }
+    ensures measure { MeasuresIn m.now top.0 result }
+    ensures placed { IfErr result (λ f. FaultWithin m.now (fault_of f)) }
+    ensures sound { IsArena m.now }
 {
-    let nodes = graph(alloc, module)?;
+    let nodes = graph(alloc, m)?;
     let mut search = Search::new(alloc, nodes.len())?;
     search.measure_of(nodes.as_slice(), top)
 }

@@ -153,11 +153,28 @@ fn applied_to_three(
     requires { (ds : List Datum) → three_data (option_map datum_of (option_copied a)) (option_map datum_of (option_copied b)) (option_map datum_of (option_copied c)) ≡ Some ds → FitsOp op.now ds }
     ensures { IfOk result (λ v. option_map datum_of v ≡ option_map (rows.apply op.now) (three_data (option_map datum_of (option_copied a.entry)) (option_map datum_of (option_copied b.entry)) (option_map datum_of (option_copied c.entry)))) }
 {
-    let (Some(a), Some(b), Some(c)) = (a, b, c) else {
+    let Some(a) = a else {
         return Ok(None);
     };
-    let value = apply(alloc, op, &[a.copy()?, b.copy()?, c.copy()?])?;
+    let Some(b) = b else {
+        return Ok(None);
+    };
+    let Some(c) = c else {
+        return Ok(None);
+    };
+    let value = of_three(alloc, op, a, b, c)?;
     Ok(Some(value))
+}
+
+/// The value of an operation on three values.
+fn of_three(alloc: Global, op: &Op, a: &Val, b: &Val, c: &Val) -> Result<Val, NoMemory>
+    requires { FitsOp op.now (datum_of a.now ∷ datum_of b.now ∷ datum_of c.now ∷ []) }
+    ensures { IfOk result (λ v. datum_of v ≡ rows.apply op.now (datum_of a.now ∷ datum_of b.now ∷ datum_of c.now ∷ [])) }
+{
+    let a = a.copy()?;
+    let b = b.copy()?;
+    let c = c.copy()?;
+    apply(alloc, op, &[a, b, c])
 }
 
 fn applied_to_all(

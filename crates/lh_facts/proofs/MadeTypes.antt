@@ -1,6 +1,6 @@
 -- Rows of written types, and arrays that no type is.
-use Rattle.std.proofs.Common.{◌≡◌, ℕ, ◌+◌, ◌*◌, ◌<◌, ◌≤◌, Bool, true, false, List, [], ◌∷◌, ◌++◌, map, length, get_or, Option, Some, None, refl, ap, ◌∙◌, arith, mul-le-mul_left}
-use Rattle.std.specs.Prelude.{nat_lt, nat_eq, if◌then◌else◌}
+use Rattle.std.proofs.Common.{◌≡◌, ℕ, ◌+◌, ◌*◌, ◌<◌, ◌≤◌, Bool, true, false, List, [], ◌∷◌, ◌++◌, map, length, get_or, Option, Some, None, Result, Ok, Err, refl, ap, ◌∙◌, subst, arith, mul-le-mul_left}
+use Rattle.std.specs.Prelude.{nat_lt, nat_eq, if◌then◌else◌, option_map, IfOk}
 use Rattle.std.proofs.Common.{not, ◌⊎◌, inl, inr, drop}
 use Rattle.std.proofs.lemmas.Grind.{common_steps}
 use Rattle.lh_types.specs.Types.{TypeTree, TypeRow, array_type, no_types, row_of, IsData, bit_count, depth_of}
@@ -14,6 +14,8 @@ use Rattle.std.proofs.lemmas.List.{drop_all}
 use Rattle.lh_unit.proofs.Lists.{drop-item}
 use Rattle.lh_types.proofs.Limits.{one_le-bit_count}
 use Rattle.lh_facts.specs.Rows.{rows_joined}
+use Rattle.lh_facts.specs.Given.{type_given}
+use Rattle.lh_facts.specs.declared.results.GivenType.{GivenType}
 
 -- one more type in front of a row, or none
 pub joined-more : (ts : List TypeTree) (t : TypeTree) (r : Option TypeRow) → rows_joined (ts ++ t ∷ []) r ≡ rows_joined ts (with_type (Some t) r)
@@ -64,3 +66,9 @@ too-many n t d h =
   where
     above : (m : ℕ) → 65536 < m → nat_lt 65536 m ≡ true
     above m l = grind (arith, common_steps)
+
+-- what a type that was made is given as
+pub given-made : {E : Type 0} (r : Result (Option TypeTree) E) (g : Result (Option GivenType) E) (x y : Option TypeTree) → IfOk g (λ o. r ≡ Ok (option_map type_given o)) → IfOk r (λ o. o ≡ x) → x ≡ y
+    → IfOk g (λ o. option_map type_given o ≡ y)
+given-made {E} r (Ok o) x y e h q = subst (λ (z : Result (Option TypeTree) E). IfOk z (λ t. t ≡ x)) e h ∙ q
+given-made r (Err k) x y e h q = tt

@@ -39,9 +39,19 @@ fn arg_numbers(alloc: Global, args: &[Arg], types: &mut Types) -> Result<NumberL
     ensures grows { OnOk result (Grows types.old types.new) }
 {
     let mut list = NumberList::with_room(alloc, args.len())?;
+    put_arg_numbers(&mut list, args, types)?;
+    Ok(list)
+}
+
+/// Adds the numbers of the types of arguments to none.
+fn put_arg_numbers(list: &mut NumberList, args: &[Arg], types: &mut Types) -> Result<(), NoMemory>
+    requires none { list.old ≡ [] }
+    ensures numbers { OnOk result (AreNumbersOf types.new args.now list.new) }
+    ensures grows { OnOk result (Grows types.old types.new) }
+{
     for arg in args {
         let place = types.number_like(&arg.ty)?;
         list.push(place)?;
     }
-    Ok(list)
+    Ok(())
 }

@@ -1,5 +1,5 @@
 //! The type and the kind of what an instruction gives.
-ghost use Rattle.std.specs.Prelude.{◌≡◌, Option, Some, map, option_map, IfOk};
+ghost use Rattle.std.specs.Prelude.{◌≡◌, Option, Some, None, Ok, map, option_map, IfOk, if◌then◌else◌};
 ghost use Rattle.std.specs.Option.{option_copied, option_and_then};
 ghost use Rattle.lh_types.specs.Types.{TypeTree, int_type, row_of};
 ghost use Rattle.lh_types.specs.Kind.{type_of_kind};
@@ -11,6 +11,7 @@ ghost use Rattle.lh_unit.specs.Typing.{if_made, array_made, tuple_made, pointer_
 ghost use Rattle.lh_unit.specs.Kinds as kinds;
 ghost use Rattle.lh_facts.specs.Facts.{kind_as};
 ghost use Rattle.lh_facts.specs.Given.{type_given};
+ghost use Rattle.lh_facts.specs.Rows.{rows_joined};
 
 use crate::scope::Kind;
 use lh_types::op::OpClass;
@@ -44,10 +45,14 @@ fn held(ty: Option<&Ty>) -> Option<GivenType<'_>>
     Some(GivenType::Held(ty?))
 }
 
-fn given<'a>(ty: Option<Ty>) -> Option<GivenType<'a>>
-    ensures { option_map type_given result ≡ ty }
+fn given<'a>(ty: Result<Option<Ty>, NoMemory>) -> Result<Option<GivenType<'a>>, NoMemory>
+    ensures { IfOk result (λ o. ty ≡ Ok (option_map type_given o)) }
 {
-    Some(GivenType::Made(ty?))
+    match ty {
+        Ok(Some(ty)) => Ok(Some(GivenType::Made(ty))),
+        Ok(None) => Ok(None),
+        Err(NoMemory) => Err(NoMemory),
+    }
 }
 
 /// The type that was made, if there is such a type.
@@ -111,13 +116,21 @@ fn written_types(alloc: Global, args: &[Typed]) -> Result<Option<TyList>, NoMemo
     ensures { (f : Naming) → IfOk result (λ o. option_map row_of o ≡ spec.operand_types (map (operand_text f) args.now)) }
 {
     let mut list = TyList::with_room(alloc, args.len())?;
+    let each_has_one = put_written(&mut list, args)?;
+    Ok(if each_has_one { Some(list) } else { None })
+}
+
+/// Adds the types that are written before operands, up to the first that has none; whether each has one.
+fn put_written(list: &mut TyList, args: &[Typed]) -> Result<bool, NoMemory>
+    ensures { (f : Naming) → IfOk result (λ all. rows_joined list.old (spec.operand_types (map (operand_text f) args.now)) ≡ (if all then Some (row_of list.new) else None)) }
+{
     for operand in args {
         match operand.ty.get() {
-            None => return Ok(None),
+            None => return Ok(false),
             Some(ty) => list.push(ty.copy()?)?,
         }
     }
-    Ok(Some(list))
+    Ok(true)
 }
 
 /// The struct that holds the operands.
@@ -149,10 +162,10 @@ fn class_type(
     ensures { (f : Naming) → IfOk result (λ o. option_map type_given o ≡ spec.class_type class (map (operand_text f) args.now)) }
 {
     match class {
-        OpClass::Relation | OpClass::Equality => Ok(given(bit_type()?)),
-        OpClass::Array => Ok(given(array_type(alloc, args.len(), args)?)),
-        OpClass::Repeat(n) => Ok(given(array_type(alloc, n as usize, args)?)),
-        OpClass::Tuple => Ok(given(struct_of(alloc, args)?)),
+        OpClass::Relation | OpClass::Equality => given(bit_type()),
+        OpClass::Array => given(array_type(alloc, args.len(), args)),
+        OpClass::Repeat(n) => given(array_type(alloc, n as usize, args)),
+        OpClass::Tuple => given(struct_of(alloc, args)),
         OpClass::Unary
         | OpClass::Binary
         | OpClass::Shift
@@ -213,11 +226,14 @@ pub fn result_type(alloc: Global, inst: &Inst) -> Result<Option<GivenType<'_>>, 
     ensures { (f : Naming) → IfOk result (λ o. option_map type_given o ≡ spec.result_type (inst_text f inst.now)) }
 {
     match inst {
-        Inst::Const(value) => Ok(given(constant_type(&value.value()?)?)),
+        Inst::Const(value) => {
+            let value = value.value()?;
+            given(constant_type(&value))
+        }
         Inst::Pure { op, args } => class_type(alloc, op.class(), args.as_slice()),
-        Inst::Var(of) => Ok(given(pointer_type(alloc, of)?)),
+        Inst::Var(of) => given(pointer_type(alloc, of)),
         Inst::Ld(from) => Ok(held(pointed_type(from))),
-        Inst::Sig(of) => Ok(given(signal_type(alloc, of)?)),
+        Inst::Sig(of) => given(signal_type(alloc, of)),
         Inst::Prb(of) => Ok(held(carried_type(of))),
         Inst::Call { result: ty, .. } => Ok(Some(GivenType::Held(ty))),
         Inst::Phi { ty, edges: _ } => Ok(Some(GivenType::Held(ty))),

@@ -3,7 +3,7 @@
 ghost use Rattle.lh_elab.specs.Answer.{IsDesignOf};
 
 use crate::frames::{put_frame, put_instant, put_named, put_sensing};
-use crate::runner::{Gave, Runner, differ_at};
+use crate::runner::{Runner, differ_at};
 use crate::wished::{Entry, add_wish, bits_at, due_after, sooner};
 use lh_bits::bits::Bits;
 use lh_bits::layout::from_bits;
@@ -11,7 +11,8 @@ use lh_design::{Design, Signal};
 use lh_elab::probes_of;
 use lh_exec::ExecFault;
 use lh_time::Instant;
-use lh_types::frame::{Change, ChangeList, Frame, Outcome, OutcomeList};
+use lh_types::frame::{Change, ChangeList, Frame, OutcomeList};
+use lh_types::part::RangeList;
 use lh_types::text::put;
 use lh_types::ty::{NoMemory, bits, carries_data};
 use lh_types::val::Val;
@@ -36,27 +37,29 @@ struct Naive<'m> {
 pub fn defined(alloc: Global, m: &Module, design: &Design, steps: u32) -> Result<Vec<u8>, NoMemory>
     requires { IsDesignOf m.now design.now }
 {
-    let mut naive = Naive {
+    let mut naive = begun(alloc, m, design)?;
+    let mut to = Vec::new(alloc);
+    let put = naive.put_steps(&mut to, steps);
+    drop(naive);
+    put?;
+    Ok(to)
+}
+
+/// A design before its first frame.
+fn begun<'m>(alloc: Global, m: &'m Module, design: &'m Design) -> Result<Naive<'m>, NoMemory>
+    requires { IsDesignOf m.now design.now }
+{
+    let bits = design.init().copy()?;
+    Ok(Naive {
         alloc,
         design,
         runners: runners_of(alloc, m, design)?,
         history: Vec::new(alloc),
         last: None,
-        bits: design.init().copy()?,
+        bits,
         activations: 0,
         runaway: None,
-    };
-    let mut to = Vec::new(alloc);
-    for _ in 0..steps {
-        let goes = naive.put_step(&mut to)?;
-        put_named(&mut to, b"activations", naive.activations)?;
-        naive.put_senses(&mut to)?;
-        naive.put_values(&mut to)?;
-        if !goes {
-            return Ok(to);
-        }
-    }
-    Ok(to)
+    })
 }
 
 /// The instances of a design before their first activation.
@@ -69,11 +72,26 @@ fn runners_of<'m>(
 {
     let mut runners = Vec::new(alloc);
     for (k, probes) in probes_of(alloc, m, design)?.into_iter().enumerate() {
-        if k < design.instances().len() {
-            runners.push(Runner::new(alloc, m, design, k, probes)?)?;
-        }
+        add_runner(&mut runners, alloc, m, design, k, probes)?;
     }
     Ok(runners)
+}
+
+/// Adds the instance of a number, if there is one.
+fn add_runner<'m>(
+    runners: &mut Vec<Runner<'m>>,
+    alloc: Global,
+    m: &'m Module,
+    design: &'m Design,
+    k: usize,
+    probes: RangeList,
+) -> Result<(), NoMemory>
+    requires { IsDesignOf m.now design.now }
+{
+    if k < design.instances().len() {
+        runners.push(Runner::new(alloc, m, design, k, probes)?)?;
+    }
+    Ok(())
 }
 
 impl Naive<'_> {
@@ -93,6 +111,20 @@ impl Naive<'_> {
         first
     }
 
+    /// At most so many frames, each with the senses and the values after it.
+    fn put_steps(&mut self, to: &mut Vec<u8>, steps: u32) -> Result<(), NoMemory> {
+        for _ in 0..steps {
+            let goes = self.put_step(to)?;
+            put_named(to, b"activations", self.activations)?;
+            self.put_senses(to)?;
+            self.put_values(to)?;
+            if !goes {
+                return Ok(());
+            }
+        }
+        Ok(())
+    }
+
     /// The next frame; whether a further one may follow.
     fn put_step(&mut self, to: &mut Vec<u8>) -> Result<bool, NoMemory> {
         let Some(at) = self.next() else {
@@ -100,19 +132,7 @@ impl Naive<'_> {
             return Ok(false);
         };
         put_instant(to, b"next", at)?;
-        let now = bits_at(&self.history, self.design.init(), at)?;
-        let changes = self.changes(&now)?;
-        let outcomes = self.activate_all(&now, at)?;
-        self.last = Some(at);
-        self.bits = now;
-        put_frame(
-            to,
-            &Frame {
-                at,
-                changes,
-                outcomes,
-            },
-        )?;
+        self.put_frame_at(to, at)?;
         let Some(instance) = self.runaway else {
             return Ok(true);
         };
@@ -120,20 +140,57 @@ impl Naive<'_> {
         Ok(false)
     }
 
+    /// The frame at an instant, which is the last one then.
+    fn put_frame_at(&mut self, to: &mut Vec<u8>, at: Instant) -> Result<(), NoMemory> {
+        let now = bits_at(&self.history, self.design.init(), at)?;
+        let put = self.put_frame_of(to, &now, at);
+        self.last = Some(at);
+        self.bits = now;
+        put
+    }
+
+    /// The frame at an instant at which the bits are these.
+    fn put_frame_of(&mut self, to: &mut Vec<u8>, now: &Bits, at: Instant) -> Result<(), NoMemory> {
+        let frame = self.frame(now, at)?;
+        put_frame(to, &frame)
+    }
+
+    /// What the instances do at an instant, and what differs from the last frame.
+    fn frame(&mut self, now: &Bits, at: Instant) -> Result<Frame, NoMemory> {
+        let outcomes = self.activate_all(now, at)?;
+        Ok(Frame {
+            at,
+            changes: self.changes(now)?,
+            outcomes,
+        })
+    }
+
     /// What differs from the last frame; in the first frame every signal.
     fn changes(&self, now: &Bits) -> Result<ChangeList, NoMemory> {
         let mut changes = ChangeList::new(self.alloc);
         for (k, signal) in self.design.signals().iter().enumerate() {
-            let toggled = toggled(signal, &self.bits, now);
-            if toggled > 0 || self.last.is_none() {
-                changes.push(Change {
-                    signal: short(k),
-                    toggled,
-                    value: value_of(self.alloc, signal, now)?,
-                })?;
-            }
+            self.add_change(&mut changes, short(k), signal, now)?;
         }
         Ok(changes)
+    }
+
+    /// What differs of a signal from the last frame.
+    fn add_change(
+        &self,
+        changes: &mut ChangeList,
+        number: u32,
+        signal: &Signal,
+        now: &Bits,
+    ) -> Result<(), NoMemory> {
+        let toggled = toggled(signal, &self.bits, now);
+        if toggled == 0 && self.last.is_some() {
+            return Ok(());
+        }
+        changes.push(Change {
+            signal: number,
+            toggled,
+            value: value_of(self.alloc, signal, now)?,
+        })
     }
 
     /// Activates the instances that wake, one by one, up to one that runs away.
@@ -168,11 +225,8 @@ impl Naive<'_> {
         let Some(runner) = self.runners.get_mut(k) else {
             return Ok(());
         };
-        match runner.run(self.alloc, now, at) {
-            Ok(gave) => {
-                add_wish(&mut self.history, at, instance, &gave.wish)?;
-                add_outcomes(outcomes, instance, &gave)
-            }
+        match runner.run(self.alloc, now, at, instance, outcomes) {
+            Ok(wish) => add_wish(&mut self.history, at, instance, &wish),
             Err(ExecFault::Runaway) => {
                 self.runaway = Some(instance);
                 Ok(())
@@ -203,23 +257,21 @@ impl Naive<'_> {
     /// The values of all signals.
     fn put_values(&self, to: &mut Vec<u8>) -> Result<(), NoMemory> {
         for signal in self.design.signals() {
-            put_value(to, &value_of(self.alloc, signal, &self.bits)?)?;
+            self.put_value_of(to, signal)?;
             put(to, b" ")?;
         }
         put(to, b"\n")
+    }
+
+    fn put_value_of(&self, to: &mut Vec<u8>, signal: &Signal) -> Result<(), NoMemory> {
+        let value = value_of(self.alloc, signal, &self.bits)?;
+        put_value(to, &value)
     }
 }
 
 /// The number of an instance or a signal.
 fn short(k: usize) -> u32 {
     u32::try_from(k).unwrap_or(u32::MAX)
-}
-
-fn add_outcomes(to: &mut OutcomeList, instance: u32, gave: &Gave) -> Result<(), NoMemory> {
-    for &passed in gave.outcomes.as_slice() {
-        to.push(Outcome { instance, passed })?;
-    }
-    Ok(())
 }
 
 /// How many bits a signal has.

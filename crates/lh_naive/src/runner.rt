@@ -11,7 +11,7 @@ use lh_io::count::Count;
 use lh_states::runs::run_instance;
 use lh_states::state::InstState;
 use lh_time::Instant;
-use lh_types::list::BoolList;
+use lh_types::frame::{Outcome, OutcomeList};
 use lh_types::part::{Range, RangeList};
 use lh_types::ty::NoMemory;
 use lh_unit::module::Module;
@@ -39,13 +39,6 @@ impl<'m> Model for Runner<'m> {
     ghost invariant = { λ r. IsRunner r.«module».now r.width r.instance.now r.state };
 }
 
-/// What an activation gave.
-#[derive(Drop)]
-pub struct Gave {
-    pub wish: DueWrites,
-    pub outcomes: BoolList,
-}
-
 impl<'m> Runner<'m> {
     /// The instance of a number, before its first activation.
     pub fn new(
@@ -68,8 +61,16 @@ impl<'m> Runner<'m> {
         })
     }
 
-    /// Activates the instance, where the signals have these bits.
-    pub fn run(&mut self, alloc: Global, now: &Bits, at: Instant) -> Result<Gave, ExecFault> {
+    /// Activates the instance, where the signals have these bits and it has this number, and adds what its assertions found; the
+    /// answer is what it wishes.
+    pub fn run(
+        &mut self,
+        alloc: Global,
+        now: &Bits,
+        at: Instant,
+        number: u32,
+        outcomes: &mut OutcomeList,
+    ) -> Result<DueWrites, ExecFault> {
         if now.len() != self.width {
             return Err(ExecFault::OutOfMemory);
         }
@@ -83,15 +84,13 @@ impl<'m> Runner<'m> {
             at,
             &mut count,
         )?;
-        let Ok(outcomes) = Vec::from_slice(alloc, act.outcomes()) else {
-            return Err(ExecFault::OutOfMemory);
-        };
+        let added = add_outcomes(outcomes, number, act.outcomes());
         let (next, wish) = act.into_parts();
         self.state = next;
-        Ok(Gave {
-            wish,
-            outcomes: BoolList::from_vec(outcomes),
-        })
+        match added {
+            Ok(()) => Ok(wish),
+            Err(NoMemory) => Err(ExecFault::OutOfMemory),
+        }
     }
 
     /// When it wakes by itself.
@@ -119,6 +118,14 @@ impl<'m> Runner<'m> {
         }
         false
     }
+}
+
+/// Adds what the assertions of an instance found.
+fn add_outcomes(to: &mut OutcomeList, instance: u32, found: &[bool]) -> Result<(), NoMemory> {
+    for &passed in found {
+        to.push(Outcome { instance, passed })?;
+    }
+    Ok(())
 }
 
 /// Whether a bit of this part is another.

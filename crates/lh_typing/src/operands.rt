@@ -268,10 +268,7 @@ pub fn has_result_type(scope: &Scope<'_>, operand: &Typed, result_type: &Ty) -> 
     match operand.ty.get() {
         None => false,
         Some(ty) => {
-            if !ty.is_value_type() || *ty != *result_type {
-                return false;
-            }
-            has_type(scope, operand.value, ty)
+            ty.is_value_type() && *ty == *result_type && has_type(scope, operand.value, ty)
         }
     }
 }

@@ -61,13 +61,11 @@ fn shift_fits(scope: &Scope<'_>, ty: &Ty, args: &[Typed]) -> bool
 {
     match args {
         [base, hidden, amount] => {
-            if !ty.is_integer() || !has_and_agrees(scope, ty, base) {
-                return false;
-            }
-            if !has_and_agrees(scope, ty, hidden) {
-                return false;
-            }
-            has_integer(scope, amount.value) && agrees(scope, amount)
+            ty.is_integer()
+                && has_and_agrees(scope, ty, base)
+                && has_and_agrees(scope, ty, hidden)
+                && has_integer(scope, amount.value)
+                && agrees(scope, amount)
         }
         _ => false,
     }
@@ -81,10 +79,9 @@ fn mux_fits(scope: &Scope<'_>, ty: &Ty, args: &[Typed]) -> bool
 {
     match args {
         [array, selector] => {
-            if !carries_data(ty) || !has_array_of(scope, array.value, ty) {
-                return false;
-            }
-            has_integer(scope, selector.value)
+            carries_data(ty)
+                && has_array_of(scope, array.value, ty)
+                && has_integer(scope, selector.value)
         }
         _ => false,
     }

@@ -1,5 +1,5 @@
 //! Fault 6: where a `phi` stands, and which blocks its edges name.
-ghost use Rattle.std.specs.Prelude.{◌≡◌, ◌<◌, [], map, length, replicate, slice_index_or, IfOk};
+ghost use Rattle.std.specs.Prelude.{◌≡◌, ◌<◌, ◌++◌, ◌∷◌, [], map, length, replicate, slice_index_or, IfOk, OnOk};
 ghost use Rattle.lh_unit.specs.Within.{Each};
 ghost use Rattle.lh_unit.specs.Table.{Table};
 ghost use Rattle.lh_unit.specs.Arena.{unit_count, label_count, inst_count, table_at, blocks_at};
@@ -57,11 +57,51 @@ fn test_places(
     ensures { IfOk result (λ wrong. wrong.items ≡ map (wrong_phi_at (table_at m.now unit.0)) places.now) }
 {
     let mut wrong = Vec::with_capacity(alloc, places.len())?;
-    for place in places {
-        let is_wrong = phi_is_wrong(rows, counts, *place, m.inst(unit, place.inst));
-        wrong.push(is_wrong)?;
-    }
+    put_tests(&mut wrong, rows, counts, m, unit, places)?;
     Ok(wrong)
+}
+
+/// Adds the tests of all places to none.
+fn put_tests(
+    wrong: &mut Vec<bool>,
+    rows: &[BlockList],
+    counts: &mut [usize],
+    m: &Module,
+    unit: UnitId,
+    places: &[Spot],
+) -> Result<(), NoMemory>
+    requires none { wrong.old.items ≡ [] }
+    requires unit { unit.0 < unit_count m.now }
+    requires within { Each (SpotWithin (inst_count m.now unit.0)) places.now }
+    requires rows { IsPredecessors (table_at m.now unit.0) (blocks_at m.now unit.0) (label_count m.now unit.0) rows.now }
+    requires counts { CountsEdges (label_count m.now unit.0) [] counts.old }
+    ensures { OnOk result (wrong.new.items ≡ map (wrong_phi_at (table_at m.now unit.0)) places.now) }
+{
+    for place in places {
+        put_test(wrong, rows, counts, m, unit, *place)?;
+    }
+    Ok(())
+}
+
+/// Adds the test of a place.
+fn put_test(
+    wrong: &mut Vec<bool>,
+    rows: &[BlockList],
+    counts: &mut [usize],
+    m: &Module,
+    unit: UnitId,
+    place: Spot,
+) -> Result<(), NoMemory>
+    requires unit { unit.0 < unit_count m.now }
+    requires within { SpotWithin (inst_count m.now unit.0) place }
+    requires rows { IsPredecessors (table_at m.now unit.0) (blocks_at m.now unit.0) (label_count m.now unit.0) rows.now }
+    requires counts { CountsEdges (label_count m.now unit.0) [] counts.old }
+    ensures wrong { OnOk result (wrong.new.items ≡ wrong.old.items ++ wrong_phi_at (table_at m.now unit.0) place ∷ []) }
+    ensures counts { CountsEdges (label_count m.now unit.0) [] counts.new }
+{
+    let is_wrong = phi_is_wrong(rows, counts, place, m.inst(unit, place.inst));
+    wrong.push(is_wrong)?;
+    Ok(())
 }
 
 /// Whether an instruction is a `phi` with fault 6, where `rows` are the predecessors of each label, and no edge is counted

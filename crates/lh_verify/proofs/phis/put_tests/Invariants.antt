@@ -2,7 +2,7 @@ use Rattle.std.proofs.Common.{◌≡◌, [], map, take}
 use Rattle.lh_unit.specs.Arena.{table_at, label_count}
 use Rattle.lh_verify.specs.Counting.{CountsEdges}
 use Rattle.lh_verify.specs.PhisById.{wrong_phi_at}
-use Rattle.lh_verify.proofs.phis.test_places.Given as goal
+use Rattle.lh_verify.proofs.phis.put_tests.Given as goal
 
 abbrev pub invariant-loop-place : goal.invariant-loop-place
 invariant-loop-place l = record {

@@ -1,10 +1,10 @@
 use Rattle.lh_facts.proofs.ParamSteps.{numbers-none, numbers-next, numbers-all, long-next, long-none}
-use Rattle.lh_facts.proofs.params.arg_numbers.Goals as goal
+use Rattle.lh_facts.proofs.params.put_arg_numbers.Goals as goal
 
 pub loop-arg-init : goal.loop-arg-init
 loop-arg-init c = record {
-  long = long-none c.args.args.now c.in_ok-list.list c.in_ok-list.ensures;
-  numbers = numbers-none c.args.types.now c.args.args.now c.in_ok-list.list c.in_ok-list.ensures;
+  long = long-none c.args.args.now c.args.list.now c.requires.none;
+  numbers = numbers-none c.args.types.now c.args.args.now c.args.list.now c.requires.none;
   grows = λ n t g. g;
 }
 

@@ -4,13 +4,13 @@ use Rattle.lh_unit.specs.Naming.{operand_text}
 use Rattle.lh_unit.specs.Typing.{with_type, operand_types}
 use Rattle.lh_facts.specs.Rows.{rows_joined}
 use Rattle.lh_facts.proofs.MadeTypes.{joined-more, joined-none, joined-row, written-none, written-some, written-end}
-use Rattle.lh_facts.proofs.results.written_types.Goals as goal
+use Rattle.lh_facts.proofs.results.put_written.Goals as goal
 
 pub returns-in-None : goal.returns-in-None
 returns-in-None c = λ f.
-    sym (joined-none c.loop-operand.list)
-    ∙ ap (rows_joined c.loop-operand.list) (sym (written-none f c.args.args.now c.loop-operand.operand-index c.operand-item.result c.loop-operand-test.true c.operand-item.is (sym c.get.ensures ∙ ap option_copied c.in-None.is)))
-    ∙ c.loop-operand.invariant f
+    sym (c.loop-operand.invariant f)
+    ∙ ap (rows_joined c.loop-operand.list) (written-none f c.args.args.now c.loop-operand.operand-index c.operand-item.result c.loop-operand-test.true c.operand-item.is (sym c.get.ensures ∙ ap option_copied c.in-None.is))
+    ∙ joined-none c.loop-operand.list
 
 pub loop-operand-preserved : goal.loop-operand-preserved
 loop-operand-preserved c = λ f.
@@ -23,6 +23,6 @@ loop-operand-preserved c = λ f.
 
 pub returns : goal.returns
 returns c = λ f.
-    sym (joined-row c.loop-operand.list)
-    ∙ ap (rows_joined c.loop-operand.list) (sym (written-end f c.args.args.now c.loop-operand.operand-index c.loop-operand-test.false))
-    ∙ c.loop-operand.invariant f
+    sym (c.loop-operand.invariant f)
+    ∙ ap (rows_joined c.loop-operand.list) (written-end f c.args.args.now c.loop-operand.operand-index c.loop-operand-test.false)
+    ∙ joined-row c.loop-operand.list

@@ -1,6 +1,6 @@
 use Rattle.std.proofs.Common.{◌≡◌, length, take}
 use Rattle.lh_facts.specs.Numbers.{Grows, AreNumbersOf}
-use Rattle.lh_facts.proofs.params.arg_numbers.Given as goal
+use Rattle.lh_facts.proofs.params.put_arg_numbers.Given as goal
 
 abbrev pub invariant-loop-arg : goal.invariant-loop-arg
 invariant-loop-arg l = record {
