@@ -1,19 +1,24 @@
 //! A simulation before its first frame.
-ghost use Rattle.std.specs.Prelude.{◌≡◌, ◌≤◌, None, false, length, map, IfOk};
+ghost use Rattle.std.specs.Prelude.{◌≡◌, ◌+◌, ◌≤◌, ℕ, List, Bool, None, false, length, map, IfOk, OnOk};
+ghost use Rattle.lh_types.specs.declared.part.Range.{Range as Part};
 ghost use Rattle.lh_unit.specs.Arena.{Arena, contents};
-ghost use Rattle.lh_unit.specs.World.{first_world, starts};
+ghost use Rattle.lh_unit.specs.World.{first_world, starts, bit_numbers};
 ghost use Rattle.lh_unit.specs.Within.{Each};
 ghost use Rattle.lh_design.specs.Filling.{SignalsFill};
 ghost use Rattle.lh_design.specs.Texts.{instance_text, design_text};
+ghost use Rattle.lh_change.specs.Touched.{AreTouched, AreWithin};
 ghost use Rattle.lh_elab.specs.Answer.{IsDesignOf};
 ghost use Rattle.lh_elab.specs.Probed.{AreProbes};
+ghost use Rattle.lh_states.specs.States.{parts_sensed, wake_kept};
 ghost use Rattle.lh_kernel.specs.States.{StatesStand, StatesFit};
 ghost use Rattle.lh_kernel.specs.Noted.{IsNotedFor, SensedWithin};
+ghost use Rattle.lh_kernel.specs.Noting.{HasNoted};
 ghost use Rattle.lh_kernel.specs.Kept.{IsKept, WakesAfter};
 ghost use Rattle.lh_kernel.specs.Simulation.{StandsFor, simulation_of};
 
 use crate::machine::SimState;
 use crate::noted::Noted;
+use lh_bits::bits::Bits;
 use lh_change::signals::signals_of;
 use lh_design::Design;
 use lh_elab::probes_of;
@@ -36,11 +41,12 @@ impl<'m> SimState<'m> {
         ensures module { IfOk result (λ x. x.«module».now ≡ m.now) }
         ensures design { IfOk result (λ x. x.design ≡ d) }
     {
-        let probes = probes_of(alloc, m, &d)?;
-        let states = starts(alloc, m, &d)?;
-        let noted = noted_for(alloc, &d, &states, &probes)?;
-        let bits = d.init().copy()?;
-        let looked = d.init().copy()?;
+        let (bits, looked) = first_bits(&d)?;
+        let Begun {
+            probes,
+            states,
+            noted,
+        } = begin_all(alloc, m, &d)?;
         Ok(SimState {
             module: m,
             design: d,
@@ -54,6 +60,46 @@ impl<'m> SimState<'m> {
             alloc,
         })
     }
+}
+
+/// The bits before the first frame, twice.
+fn first_bits(d: &Design) -> Result<(Bits, Bits), NoMemory>
+    ensures { IfOk result (λ (both : List Bool × List Bool). (both.0 ≡ d.now.init) × (both.1 ≡ d.now.init)) }
+{
+    let bits = d.init().copy()?;
+    let looked = d.init().copy()?;
+    Ok((bits, looked))
+}
+
+/// What instances probe, what is kept of them and what is noted, as they begin.
+#[derive(Drop)]
+struct Begun {
+    probes: Vec<RangeList>,
+    states: Vec<InstState>,
+    noted: Noted,
+}
+
+/// The instances of a design as they begin.
+fn begin_all(alloc: Global, m: &Module, d: &Design) -> Result<Begun, NoMemory>
+    requires { IsDesignOf m.now d.now }
+    ensures probes { IfOk result (λ b. AreProbes m.now d.now.instances.items b.probes.items) }
+    ensures within { IfOk result
+        (λ b. Each (λ (rs : List Part). Each (λ (r : Part). r.lo + r.len ≤ length d.now.init) rs) b.probes.items) }
+    ensures stand { IfOk result
+        (λ b. StatesStand m.now d.now.instances.items b.states.items (starts (contents m.now) (map (instance_text m.now) d.now.instances.items))) }
+    ensures fit { IfOk result (λ b. StatesFit m.now (length d.now.init) d.now.instances.items b.states.items) }
+    ensures wakes { IfOk result (λ b. Each (WakesAfter None) b.states.items) }
+    ensures noted { IfOk result
+        (λ b. IsNotedFor m.now d.now.instances.items d.now.signals.items b.states.items b.noted) }
+{
+    let probes = probes_of(alloc, m, d)?;
+    let states = starts(alloc, m, d)?;
+    let noted = noted_for(alloc, d, &states, &probes)?;
+    Ok(Begun {
+        probes,
+        states,
+        noted,
+    })
 }
 
 /// What is kept of each instance as it begins.
@@ -89,10 +135,29 @@ fn noted_for(
         wakes: Wakes::new(alloc),
     };
     for (number, state) in states.iter().enumerate() {
-        let signals = signals_of(alloc, d, state.senses(&probes[number]))?;
-        noted.note(number as u32, &signals, state.wake())?;
+        note_instance(&mut noted, alloc, d, number as u32, state, &probes[number])?;
     }
     Ok(noted)
+}
+
+/// Notes of an instance with this state which signals it senses and when it wakes by itself.
+fn note_instance(
+    noted: &mut Noted,
+    alloc: Global,
+    d: &Design,
+    number: u32,
+    state: &InstState,
+    probes: &RangeList,
+) -> Result<(), NoMemory>
+    requires fill { SignalsFill d.now }
+    requires within { AreWithin (length d.now.init) (parts_sensed state.now probes.now) }
+    requires long { length noted.old.index ≡ length d.now.signals.items }
+    ensures { OnOk result
+        ((touched : List ℕ) × AreTouched d.now.signals.items (bit_numbers (parts_sensed state.now probes.now)) touched × HasNoted number touched (wake_kept state.now) noted.old noted.new) }
+{
+    let signals = signals_of(alloc, d, state.senses(probes))?;
+    noted.note(number, &signals, state.wake())?;
+    Ok(())
 }
 
 /// How many signals there are.
