@@ -1,5 +1,5 @@
 -- What `edges` answers, from what its calls found.
-use Rattle.std.proofs.Common.{◌≡◌, Bool, true, false, List, sym, ap, ◌∙◌, subst, Option, Some, None, Vec}
+use Rattle.std.proofs.Common.{◌≡◌, Bool, true, false, List, sym, ap, ◌∙◌, subst, Option, Some, None, Vec, Result, Ok, Err, refl}
 use Rattle.lh_term.specs.declared.part.Part.{Part}
 use Rattle.lh_term.specs.declared.term.TermId.{TermId}
 use Rattle.lh_term.specs.declared.term.Node.{Node}
@@ -9,7 +9,9 @@ use Rattle.lh_edge.specs.declared.triggers.Trigger.{Trigger}
 use Rattle.lh_edge.specs.Atoms.{edge_part, atoms_of}
 use Rattle.lh_edge.specs.Shown.{showing_parts, has_too_many_atoms, is_edge_shown}
 use Rattle.lh_edge.specs.Triggers.{TriggerTree, in_order, triggers_at, triggers_of}
-use Rattle.lh_edge.specs.Answers.{AreTriggers, GivesTriggers}
+use Rattle.lh_edge.specs.declared.triggers.EdgeFault.{EdgeFault}
+use Rattle.lh_edge.specs.declared.triggers.EdgeFault.TheVariants.{TooManyAtoms, NoEdge, OutOfMemory}
+use Rattle.lh_edge.specs.Answers.{AreTriggers, GivesTriggers, ShownOrNot, TriggersOrFault}
 use Rattle.lh_edge.specs.Gates.{AllBit}
 use Rattle.lh_edge.specs.Steps.{is_checked, AreAllIdsOf, FindsThe, found_items}
 use Rattle.lh_edge.proofs.Found.{found_of_none, found_of_some}
@@ -51,3 +53,12 @@ module _ (a mid cur : List Node) (g : Grows a mid) (h : Grows mid cur) (cond edg
           (λ i. triggers_at (c i) (q i)) ∙ atoms_triggers cur (tree_at (trees a) cond) (tree_at (trees mid) edge) v.items made.tree waited the parts own
           in
           record { few = few; shown = sym s; triggers = subst (λ (xs : List TriggerTree). AreTriggers new ts xs) e t }
+
+      -- the answer, by the check
+      pub answers : (new : List Node) (r : Result (List Trigger) EdgeFault) (ys : List TermId) (qs : List Part) → ys ≡ v.items → qs ≡ parts
+          → ShownOrNot new (is_checked (tree_at (trees cur) cond) (tree_at (trees cur) edge) (trees_at cur ys) qs) (triggers_at (tree_at (trees cur) cond) qs) r
+          → TriggersOrFault new waited (tree_at (trees a) cond) r
+      answers new (Ok ts) ys qs y q h = gives new ts qs q (sym h.0 ∙ shown_is _ ys qs y q refl) h.1
+      answers new (Err TooManyAtoms) ys qs y q h = absurd h
+      answers new (Err NoEdge) ys qs y q h = (few, sym (shown_is _ ys qs y q refl) ∙ h)
+      answers new (Err OutOfMemory) ys qs y q h = tt

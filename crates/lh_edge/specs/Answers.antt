@@ -1,5 +1,5 @@
 -- What `edges` answers.
-use Rattle.std.specs.Prelude.{◌≡◌, true, false, List, [], ◌∷◌, ◌++◌, Result, Ok, Err}
+use Rattle.std.specs.Prelude.{◌≡◌, Bool, true, false, List, [], ◌∷◌, ◌++◌, Result, Ok, Err}
 use Rattle.lh_term.specs.declared.part.Part.{Part}
 use Rattle.lh_term.specs.declared.term.Node.{Node}
 use Rattle.lh_term.specs.Tree.{Tree}
@@ -33,6 +33,13 @@ pub record GivesTriggers (ns : List Node) (waited : List Part) (c : Tree) (ts : 
   pub few : has_too_many_atoms c ≡ false
   pub shown : is_edge_shown waited c ≡ true
   pub triggers : AreTriggers ns ts (triggers_of waited c)
+
+-- the triggers, where the check of all valuations gives true; or no edge, where it gives false
+abbrev pub ShownOrNot : List Node → Bool → List TriggerTree → Result (List Trigger) EdgeFault → Type 0
+ShownOrNot ns b xs (Ok ts) = (b ≡ true) × AreTriggers ns ts xs
+ShownOrNot ns b xs (Err TooManyAtoms) = ⊥
+ShownOrNot ns b xs (Err NoEdge) = b ≡ false
+ShownOrNot ns b xs (Err OutOfMemory) = Unit {0}
 
 -- the triggers; or the first fault: too many atoms, else no edge
 abbrev pub TriggersOrFault : List Node → List Part → Tree → Result (List Trigger) EdgeFault → Type 0

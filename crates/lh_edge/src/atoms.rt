@@ -1,7 +1,8 @@
 //! The atoms of a condition: its maximal subterms that are no connective of bits, and for each value of a part before its value now.
 ghost use Rattle.std.specs.Prelude.{◌≡◌, ◌<◌, [], ◌∷◌, length, OnOk, IfOk};
-ghost use Rattle.lh_term.specs.Tree.{tree_row};
-ghost use Rattle.lh_term.specs.Arena.{trees, tree_at, trees_at, IsIn, AreIn, Grows};
+ghost use Rattle.lh_types.specs.Types.{IsData};
+ghost use Rattle.lh_term.specs.Tree.{tree_row, now_of};
+ghost use Rattle.lh_term.specs.Arena.{trees, tree_at, trees_at, IsIn, AreIn, StandsForTree, Grows};
 ghost use Rattle.lh_term.specs.Reach.{AreReached};
 ghost use Rattle.lh_edge.specs.Atoms as spec;
 ghost use Rattle.lh_edge.specs.Reached as reach;
@@ -10,6 +11,7 @@ ghost use Rattle.lh_edge.specs.Steps.{FindsThe, found_items, with_atom, with_mis
 
 use crate::pasts::put;
 use crate::reach::joined_of;
+use lh_term::part::Part;
 use lh_term::term::{Term, TermId};
 use lh_term::terms::Terms;
 use lh_types::op::Op;
@@ -173,8 +175,17 @@ pub(crate) fn present_of(terms: &mut Terms, x: TermId) -> Result<Option<TermId>,
 {
     if let Term::Past(part) = terms.view(x) {
         let part = part.copy()?;
-        let now = terms.now(&part)?;
+        let now = now_with(terms, part)?;
         return Ok(Some(now));
     }
     Ok(None)
+}
+
+/// The value now of a part, of which it lets go.
+fn now_with(terms: &mut Terms, part: Part) -> Result<TermId, NoMemory>
+    requires { IsData part.ty }
+    ensures made { IfOk result (λ t. StandsForTree terms.new t (now_of part)) }
+    ensures kept { Grows terms.old terms.new }
+{
+    terms.now(&part)
 }

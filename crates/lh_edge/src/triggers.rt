@@ -8,7 +8,7 @@ ghost use Rattle.lh_term.specs.Arena.{trees, tree_at, trees_at, IsIn, AreIn, Sta
 ghost use Rattle.lh_term.specs.Reach.{operands_of, AreReached};
 ghost use Rattle.lh_term.specs.Subst.{PairsIn, pairs_at, is_first as first_in_pair};
 ghost use Rattle.lh_cover.specs.Runs.{IsCover};
-ghost use Rattle.lh_edge.specs.Answers.{TriggersOrFault, AreTriggers, AddsTrigger};
+ghost use Rattle.lh_edge.specs.Answers.{TriggersOrFault, ShownOrNot, AreTriggers, AddsTrigger};
 ghost use Rattle.lh_edge.specs.Gates.{AllBit, IsPresents, MakesGate, Gathers, with_pair};
 ghost use Rattle.lh_edge.specs.Shown as spec;
 ghost use Rattle.lh_edge.specs.Triggers as tri;
@@ -100,10 +100,31 @@ pub fn edges(
         return Err(EdgeFault::TooManyAtoms);
     };
     let parts = showing_parts(alloc, terms, &atoms, waited)?;
-    if !is_edge_shown(alloc, terms, cond, edge, &atoms, &parts)? {
+    shown_triggers(alloc, terms, cond, edge, &atoms, &parts)
+}
+
+/// The triggers, where these parts show the condition. The atoms and the parts belong to the caller, so no failure here has any to
+/// drop.
+fn shown_triggers(
+    alloc: Global,
+    terms: &mut Terms,
+    cond: TermId,
+    edge: TermId,
+    atoms: &[TermId],
+    parts: &[Part],
+) -> Result<TriggerList, EdgeFault>
+    requires cond_in { IsIn terms.old cond }
+    requires edge_in { IsIn terms.old edge }
+    requires are_in { AreIn terms.old atoms.now }
+    requires few { length atoms.now ≤ 12 }
+    requires bits { AllBit parts.now }
+    ensures answers { ShownOrNot terms.new (is_checked (tree_at (trees terms.old) cond) (tree_at (trees terms.old) edge) (trees_at terms.old atoms.now) parts.now) (tri.triggers_at (tree_at (trees terms.old) cond) parts.now) result }
+    ensures kept { Grows terms.old terms.new }
+{
+    if !is_edge_shown(alloc, terms, cond, edge, atoms, parts)? {
         return Err(EdgeFault::NoEdge);
     }
-    Ok(triggers(alloc, terms, cond, &parts)?)
+    Ok(triggers(alloc, terms, cond, parts)?)
 }
 
 /// Whether the condition has a value before, and every valuation at which its edge part holds is shown by one of the parts.
@@ -306,13 +327,31 @@ fn add_trigger(
     ensures added { OnOk result (AddsTrigger terms.new triggers.old (tri.trigger_at (tree_at (trees terms.old) cond) part.now rise) triggers.new) }
     ensures kept { Grows terms.old terms.new }
 {
-    let swap = swap_at(alloc, terms, cond, part, rise, presents)?;
-    let gate = terms.subst(cond, &swap)?;
+    let gate = gate_at(alloc, terms, cond, part, rise, presents)?;
     if is_never(terms, gate) {
         return Ok(());
     }
     let part = part.copy()?;
     triggers.push(Trigger { rise, part, gate })
+}
+
+/// The gate of a rise or fall of a part: what the condition is there.
+fn gate_at(
+    alloc: Global,
+    terms: &mut Terms,
+    cond: TermId,
+    part: &Part,
+    rise: bool,
+    presents: &[(TermId, TermId)],
+) -> Result<TermId, NoMemory>
+    requires is_in { IsIn terms.old cond }
+    requires bit { part.now.ty ≡ int_type 1 }
+    requires presents { IsPresents terms.old (tree_at (trees terms.old) cond) presents.now }
+    ensures made { IfOk result (λ gate. StandsForTree terms.new gate (tri.gate_of rise part.now (tree_at (trees terms.old) cond))) }
+    ensures kept { Grows terms.old terms.new }
+{
+    let swap = swap_at(alloc, terms, cond, part, rise, presents)?;
+    terms.subst(cond, &swap)
 }
 
 /// Whether it is the constant 0 of one bit.

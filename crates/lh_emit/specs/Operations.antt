@@ -33,3 +33,9 @@ each_with_type ns (x ∷ xs) (v ∷ vs) = with_type (type_of (tree_at (trees ns)
 abbrev pub operands_of : List Node → Op → List TermId → TypeTree → List ValueId → List Typed
 operands_of ns op xs d vs =
     if writes_each op then each_with_type ns xs vs else first_with_type (if writes_result op then d else first_of (types_of_all (trees_at ns xs))) vs
+
+-- these are the operands of an operation that gives a value of type d, on the values that these terms have
+pub record IsOperandsOn (vs : Values) (ns : List Node) (op : Op) (xs : List TermId) (d : TypeTree) (args : List Typed) : Type 0 where
+  pub given : List ValueId
+  pub values : AreValues vs xs given
+  pub are : args ≡ operands_of ns op xs d given

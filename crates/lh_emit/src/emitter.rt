@@ -2,11 +2,13 @@
 ghost use Rattle.std.specs.Prelude.{◌≡◌, ◌<◌, List, [], ◌∷◌, true, false, length, Some, IfOk, OnOk};
 ghost use Rattle.std.specs.Result.{IfErr};
 ghost use Rattle.lh_types.specs.Types.{IsLimited};
-ghost use Rattle.lh_term.specs.Arena.{trees, tree_at, IsIn, Grows};
+ghost use Rattle.lh_term.specs.Types.{type_of};
+ghost use Rattle.lh_term.specs.Arena.{trees, tree_at, IsIn, AreIn, Grows};
 ghost use Rattle.lh_unit.specs.Within.{InstWithin};
 ghost use Rattle.lh_body.specs.Lines.{HasRoom, values_alone, NamesGrow};
 ghost use Rattle.lh_emit.specs.Making as making;
 ghost use Rattle.lh_emit.specs.Underway.{CanTakePart, TakesPartOr, Looks, IsNewPart, CanMake, GivesInstOr, MakesOr, CanGo, GoesOr, CanTakeTerm, TakesTermOr, tops};
+ghost use Rattle.lh_emit.specs.Operations.{HaveValues, IsOperandsOn};
 ghost use Rattle.lh_emit.specs.Whole as whole;
 ghost use Rattle.lh_emit.specs.Begun.{HasArgs};
 ghost use Rattle.lh_origin.specs.Origins.{IsOrigin, source_by};
@@ -22,19 +24,19 @@ use crate::making::{Form, form_of, made_of, probed, scalar};
 use crate::operands::signal;
 use crate::operations::{operands, value_of, values_of};
 use crate::parts::{PartKey, Parts};
-use crate::steps::take_steps;
+use crate::steps::take_route;
 use crate::tasks::{Task, need_alone, push, push_needs};
 use crate::values::Values;
 use lh_body::lines::{EmitFault, Lines};
 use lh_names::name::Name;
 use lh_origin::origin::Origin;
 use lh_term::part::Part;
-use lh_term::term::TermId;
+use lh_term::term::{TermId, TermList};
 use lh_term::terms::Terms;
 use lh_types::op::Op;
 use lh_types::ty::{NoMemory, Ty, TyKind};
 use lh_unit::constant::Constant;
-use lh_unit::inst::{Arg, Inst, OperandList, ValueId};
+use lh_unit::inst::{Arg, Inst, OperandList, TypedList, ValueId};
 use std::alloc::Global;
 
 /// An entity underway.
@@ -158,7 +160,7 @@ impl Emitter {
         let _ = terms;
         let route = origin.steps(alloc, &key.part)?;
         let from = ValueId(key.part.arg);
-        let value = take_steps(alloc, &mut self.lines, from, route.as_slice())?;
+        let value = take_route(alloc, &mut self.lines, from, route)?;
         self.parts.keep(key, value)?;
         Ok(value)
     }
@@ -211,7 +213,23 @@ impl Emitter {
         ensures { GivesInstOr terms.now origin.now self.old t terms.now self.new result }
     {
         let part = probed(terms, t)?;
-        let value = self.take_part(alloc, origin, terms, &part)?;
+        self.probe(alloc, origin, terms, t, &part)
+    }
+
+    /// The `prb` of the part whose value a term is; the part belongs to the caller, so no failure here has one to drop.
+    fn probe(
+        &mut self,
+        alloc: Global,
+        origin: &Origin<'_>,
+        terms: &Terms,
+        _t: TermId,
+        part: &Part,
+    ) -> Result<Inst, EmitFault>
+        requires can { CanMake terms.now origin.now self.old _t }
+        requires probed { making.IsProbed (tree_at (trees terms.now) _t) part.now }
+        ensures { GivesInstOr terms.now origin.now self.old _t terms.now self.new result }
+    {
+        let value = self.take_part(alloc, origin, terms, part)?;
         let from = signal(alloc, value, &part.ty)?;
         Ok(Inst::Prb(from))
     }
@@ -232,17 +250,34 @@ impl Emitter {
         let _ = origin;
         let of = made_of(alloc, terms, t)?;
         terms.are_apart();
+        let args = self.operands_on(alloc, terms, t, &op, of)?;
+        let args = OperandList::from_list(args);
+        Ok(Inst::Pure { op, args })
+    }
+
+    /// The operands of an operation that gives a term, on what the term is made of.
+    fn operands_on(
+        &self,
+        alloc: Global,
+        terms: &Terms,
+        t: TermId,
+        op: &Op,
+        of: TermList,
+    ) -> Result<TypedList, NoMemory>
+        requires is_in { IsIn terms.now t }
+        requires within { AreIn terms.now of }
+        requires have { HaveValues self.now.values of }
+        ensures { IfOk result (IsOperandsOn self.now.values terms.now op.now of (type_of (tree_at (trees terms.now) t))) }
+    {
         let values = values_of(alloc, &self.values, of.as_slice())?;
-        let args = operands(
+        operands(
             alloc,
             terms,
-            &op,
+            op,
             of.as_slice(),
             values.as_slice(),
             terms.ty(t),
-        )?;
-        let args = OperandList::from_list(args);
-        Ok(Inst::Pure { op, args })
+        )
     }
 
     /// Emits a term, of which all has a value that it is made of.

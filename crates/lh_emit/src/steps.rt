@@ -8,7 +8,7 @@ ghost use Rattle.lh_emit.specs.Steps.{AllData, Walks, WalksNot};
 
 use crate::operands::signal;
 use lh_body::lines::{EmitFault, Lines};
-use lh_origin::origin::RouteStep;
+use lh_origin::origin::{Route, RouteStep};
 use lh_types::ty::NoMemory;
 use lh_unit::inst::{Inst, OperandList, TypedList, ValueId};
 use std::alloc::Global;
@@ -34,6 +34,22 @@ pub fn take_steps(
         left = rest;
     }
     Ok(value)
+}
+
+/// The same for a route that is needed no more.
+pub(crate) fn take_route(
+    alloc: Global,
+    lines: &mut Lines,
+    from: ValueId,
+    route: Route,
+) -> Result<ValueId, EmitFault>
+    requires room { HasRoom lines.old }
+    requires within { from.0 < length lines.old.names }
+    requires types { AllData route }
+    ensures walks { IfOk result (λ v. Walks route lines.old from lines.new v []) }
+    ensures cause { IfErr result (WalksNot route lines.old from) }
+{
+    take_steps(alloc, lines, from, route.as_slice())
 }
 
 /// The instruction of a step from a value.

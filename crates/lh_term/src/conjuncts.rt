@@ -1,5 +1,5 @@
 //! The conjuncts of a condition.
-ghost use Rattle.std.specs.Prelude.{◌≡◌, IfOk};
+ghost use Rattle.std.specs.Prelude.{◌≡◌, [], IfOk, OnOk};
 ghost use Rattle.lh_term.specs.Arena.{trees, tree_at, trees_at, IsIn, AreIn};
 ghost use Rattle.lh_term.specs.Conjuncts.{conjuncts_of};
 ghost use Rattle.lh_term.specs.Found.{FindsJoined};
@@ -20,10 +20,29 @@ impl Terms {
         ensures within { IfOk result (λ ts. AreIn self.now ts) }
         ensures conjuncts { IfOk result (λ ts. trees_at self.now ts ≡ conjuncts_of (tree_at (trees self.now) t)) }
     {
-        self.are_apart();
         let mut found = TermList::new(self.allocator());
         let mut seen = HashSet::new(self.allocator());
         let mut open = Vec::new(self.allocator());
+        self.walk(t, &mut found, &mut seen, &mut open)?;
+        Ok(found)
+    }
+
+    /// The conjuncts, by the terms seen and those open, which belong to the caller: then no failure here has anything to drop.
+    fn walk(
+        &self,
+        t: TermId,
+        found: &mut TermList,
+        seen: &mut HashSet<usize>,
+        open: &mut Vec<TermId>,
+    ) -> Result<(), NoMemory>
+        requires is_in { IsIn self.now t }
+        requires none_found { found.old ≡ [] }
+        requires none_seen { seen.old.keys ≡ [] }
+        requires none_open { open.old.items ≡ [] }
+        ensures within { OnOk result (AreIn self.now found.new) }
+        ensures conjuncts { OnOk result (trees_at self.now found.new ≡ conjuncts_of (tree_at (trees self.now) t)) }
+    {
+        self.are_apart();
         open.push(t)?;
         while let Some(x) = open.pop() {
             let is_new = seen.insert(x.0)?;
@@ -37,7 +56,7 @@ impl Terms {
                 found.push(x)?;
             }
         }
-        Ok(found)
+        Ok(())
     }
 
     /// `a` and `b` where the term is `and(a, b)` on one bit.

@@ -2,8 +2,9 @@ use Rattle.std.proofs.Common.{List, sym, subst}
 use Rattle.lh_term.specs.declared.part.Part.{Part}
 use Rattle.lh_region.specs.declared.rows.DriveRow.{DriveRow}
 use Rattle.lh_emission.proofs.Sites.{comb-no_fault}
+use Rattle.lh_term.proofs.Swaps.{grows_on}
 use Rattle.lh_bodies.specs.Putting.{CanPutProbes, PutsProbes, PutsProbesNot, CanPutDrives, PutsDrives, PutsDrivesNot}
-use Rattle.lh_bodies.proofs.Made.{comb-can-probes, comb-probes-not, comb-can-drives, comb-drives-not, comb-made}
+use Rattle.lh_bodies.proofs.Made.{comb-memory, comb-can-probes, comb-probes-not, comb-can-drives, comb-drives-not, comb-made}
 use Rattle.lh_bodies.proofs.bodies.comb_body.Goals as goal
 
 pub put_probes-requires : goal.put_probes-requires
@@ -44,3 +45,12 @@ returns-clause-is c =
     comb-made o waited drives ns x c.in_ok-emitter.ensures m1 x1 c.in_ok-put_probes.ensures.kept put comb-no_fault m2 x2
     (subst (λ (l : List DriveRow). PutsDrives m1 o x1 l m2 x2) c.as_slice-2.ensures c.in_ok-put_drives.ensures.put)
     c.body_of.result c.body_of.ensures.names c.body_of.ensures.lines
+
+pub returns-in_err-put_drives-clause-kept : goal.returns-in_err-put_drives-clause-kept
+returns-in_err-put_drives-clause-kept c = grows_on c.args.terms.now c.put_probes.new.terms c.put_drives.new.terms c.in_ok-put_probes.ensures.kept c.in_err-put_drives.ensures.kept
+
+pub returns-clause-kept : goal.returns-clause-kept
+returns-clause-kept c = grows_on c.args.terms.now c.put_probes.new.terms c.put_drives.new.terms c.in_ok-put_probes.ensures.kept c.in_ok-put_drives.ensures.kept
+
+pub returns-in_err-emitter-clause-is : goal.returns-in_err-emitter-clause-is
+returns-in_err-emitter-clause-is c = comb-memory c.args.origin.now c.args.waited.now c.args.drives.now c.args.terms.now c.from_residual.result c.from_residual.ensures.1

@@ -2,7 +2,7 @@ use Rattle.std.proofs.Common.{List, sym, subst}
 use Rattle.lh_edge.specs.declared.triggers.EdgeRow.{EdgeRow}
 use Rattle.lh_emission.proofs.Sites.{edge-no_fault}
 use Rattle.lh_bodies.specs.Putting.{CanPutRegisters, PutsRegisters, PutsRegistersNot}
-use Rattle.lh_bodies.proofs.Made.{edge-can-registers, edge-registers-not, edge-made}
+use Rattle.lh_bodies.proofs.Made.{edge-memory, edge-can-registers, edge-registers-not, edge-made}
 use Rattle.lh_bodies.proofs.bodies.edge_body.Goals as goal
 
 pub put_registers-requires : goal.put_registers-requires
@@ -23,3 +23,6 @@ returns-clause-is c =
     let m2 = c.put_registers.new.terms in let x2 = c.put_registers.new.emitter in
     edge-made o rows ns x c.in_ok-emitter.ensures edge-no_fault m2 x2 (subst (λ (l : List EdgeRow). PutsRegisters ns o x l m2 x2) c.as_slice.ensures c.in_ok-put_registers.ensures.put)
     c.body_of.result c.body_of.ensures.names c.body_of.ensures.lines
+
+pub returns-in_err-emitter-clause-is : goal.returns-in_err-emitter-clause-is
+returns-in_err-emitter-clause-is c = edge-memory c.args.origin.now c.args.rows.now c.args.terms.now c.from_residual.result c.from_residual.ensures.1

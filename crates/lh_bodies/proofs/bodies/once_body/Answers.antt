@@ -2,7 +2,7 @@ use Rattle.std.proofs.Common.{List, sym, subst}
 use Rattle.lh_region.specs.declared.rows.DriveRow.{DriveRow}
 use Rattle.lh_emission.proofs.Sites.{once-no_fault}
 use Rattle.lh_bodies.specs.Putting.{CanPutDrives, PutsDrives, PutsDrivesNot}
-use Rattle.lh_bodies.proofs.Made.{once-can-drives, once-drives-not, once-made}
+use Rattle.lh_bodies.proofs.Made.{once-memory, once-can-drives, once-drives-not, once-made}
 use Rattle.lh_bodies.proofs.bodies.once_body.Goals as goal
 
 pub put_drives-requires : goal.put_drives-requires
@@ -23,3 +23,6 @@ returns-clause-is c =
     let m2 = c.put_drives.new.terms in let x2 = c.put_drives.new.emitter in
     once-made o drives ns x c.in_ok-emitter.ensures once-no_fault m2 x2 (subst (λ (l : List DriveRow). PutsDrives ns o x l m2 x2) c.as_slice.ensures c.in_ok-put_drives.ensures.put)
     c.body_of.result c.body_of.ensures.names c.body_of.ensures.lines
+
+pub returns-in_err-emitter-clause-is : goal.returns-in_err-emitter-clause-is
+returns-in_err-emitter-clause-is c = once-memory c.args.origin.now c.args.drives.now c.args.terms.now c.from_residual.result c.from_residual.ensures.1

@@ -1,6 +1,7 @@
 use Rattle.lh_unit.specs.declared.inst.Inst.TheVariants as inst
+use Rattle.lh_term.proofs.Swaps.{grows_on}
 use Rattle.lh_bodies.specs.Putting.{PutsDriveNot}
-use Rattle.lh_bodies.proofs.Testing.{err-has}
+use Rattle.lh_bodies.proofs.Testing.{err-has, err-memory}
 use Rattle.lh_bodies.proofs.Driven.{can-delay, can-cond, can-part, value-not, after-value, delay-not, after-delay, cond-not, after-cond, part-not, has-room, drv-within, put-ok, put-err}
 use Rattle.lh_bodies.proofs.bodies.put_drive.Goals as goal
 
@@ -73,3 +74,26 @@ returns-clause-cause c =
     put-err o row ns x _ _ c.in_ok-value.value c.in_ok-value.ensures.kept c.in_ok-value.ensures.needed _ _ c.in_ok-after.after c.in_ok-after.ensures.kept c.in_ok-after.ensures.needed
     _ _ c.in_ok-cond.cond c.in_ok-cond.ensures.kept c.in_ok-cond.ensures.tested _ c.in_ok-part.part c.in_ok-part.ensures.needed
     (inst.Drv c.in_ok-to.to c.in_ok-value.value c.in_ok-after.after c.in_ok-cond.cond) _ c.put.result c.put.ensures
+
+pub returns-in_err-after-clause-kept : goal.returns-in_err-after-clause-kept
+returns-in_err-after-clause-kept c = grows_on c.args.terms.now c.term.new.terms c.term-2.new.terms c.in_ok-value.ensures.kept c.in_err-after.ensures.kept
+
+pub returns-in_err-cond-clause-kept : goal.returns-in_err-cond-clause-kept
+returns-in_err-cond-clause-kept c =
+    grows_on c.args.terms.now c.term-2.new.terms c.condition.new.terms (grows_on c.args.terms.now c.term.new.terms c.term-2.new.terms c.in_ok-value.ensures.kept c.in_ok-after.ensures.kept) c.in_err-cond.ensures.kept
+
+pub returns-in_err-part-clause-kept : goal.returns-in_err-part-clause-kept
+returns-in_err-part-clause-kept c =
+    grows_on c.args.terms.now c.term-2.new.terms c.condition.new.terms (grows_on c.args.terms.now c.term.new.terms c.term-2.new.terms c.in_ok-value.ensures.kept c.in_ok-after.ensures.kept) c.in_ok-cond.ensures.kept
+
+pub returns-in_err-to-clause-kept : goal.returns-in_err-to-clause-kept
+returns-in_err-to-clause-kept c =
+    grows_on c.args.terms.now c.term-2.new.terms c.condition.new.terms (grows_on c.args.terms.now c.term.new.terms c.term-2.new.terms c.in_ok-value.ensures.kept c.in_ok-after.ensures.kept) c.in_ok-cond.ensures.kept
+
+pub returns-clause-kept : goal.returns-clause-kept
+returns-clause-kept c =
+    grows_on c.args.terms.now c.term-2.new.terms c.condition.new.terms (grows_on c.args.terms.now c.term.new.terms c.term-2.new.terms c.in_ok-value.ensures.kept c.in_ok-after.ensures.kept) c.in_ok-cond.ensures.kept
+
+pub returns-in_err-to-clause-cause : goal.returns-in_err-to-clause-cause
+returns-in_err-to-clause-cause c =
+    err-memory c.from_residual-in_err-to.result (PutsDriveNot c.args.terms.now c.args.origin.now c.args.emitter.now c.args.row.now) c.from_residual-in_err-to.ensures.1 tt

@@ -1,8 +1,11 @@
 use Rattle.std.proofs.Common.{◌+◌, drop}
+use Rattle.std.proofs.lemmas.List.{drop_all}
 use Rattle.lh_unit.proofs.Lists.{drop-item}
+use Rattle.lh_term.proofs.Swaps.{grows_on}
 use Rattle.lh_bodies.specs.Putting.{PutsDrivesNot}
 use Rattle.lh_bodies.proofs.Testing.{err-has}
-use Rattle.lh_bodies.proofs.Drives.{drives-next, drives-not}
+use Rattle.lh_bodies.proofs.Growing.{grows-same}
+use Rattle.lh_bodies.proofs.Drives.{drives-begin, drives-can, drives-next, drives-not, drives-end}
 use Rattle.lh_bodies.proofs.bodies.put_drives.Goals as goal
 
 pub returns-in_err-put_drive-clause-cause : goal.returns-in_err-put_drive-clause-cause
@@ -19,3 +22,23 @@ loop-row-preserved c =
     drives-next o all ns x c.loop-row.terms c.loop-row.emitter c.row-item.result (drop (i + 1) all) (drop i all) (drop-item all i c.row-item.result c.loop-row-test.true c.row-item.is)
     c.loop-row.invariant
     _ _ c.in_ok-put_drive.ensures.kept c.in_ok-put_drive.ensures.put
+
+pub returns-in_err-put_drive-clause-kept : goal.returns-in_err-put_drive-clause-kept
+returns-in_err-put_drive-clause-kept c = grows_on c.args.terms.now c.loop-row.terms c.put_drive.new.terms c.loop-row.invariant.grows c.in_err-put_drive.ensures.kept
+
+pub returns-clause-kept : goal.returns-clause-kept
+returns-clause-kept c = c.loop-row.invariant.grows
+
+pub loop-row-init : goal.loop-row-init
+loop-row-init c = drives-begin c.args.origin.now c.args.rows.now c.args.terms.now c.args.emitter.now (grows-same c.args.terms.now) c.requires
+
+pub put_drive-requires : goal.put_drive-requires
+put_drive-requires c =
+    let all = c.args.rows.now in let i = c.loop-row.row-index in
+    drives-can c.args.origin.now all c.args.terms.now c.args.emitter.now c.loop-row.terms c.loop-row.emitter c.row-item.result (drop (i + 1) all) (drop i all) (drop-item all i c.row-item.result c.loop-row-test.true c.row-item.is)
+    c.loop-row.invariant
+
+pub returns-clause-put : goal.returns-clause-put
+returns-clause-put c =
+    let all = c.args.rows.now in let i = c.loop-row.row-index in
+    drives-end c.args.origin.now all c.args.terms.now c.args.emitter.now c.loop-row.terms c.loop-row.emitter (drop i all) (drop_all i all c.loop-row-test.false) c.loop-row.invariant

@@ -1,3 +1,4 @@
+use Rattle.lh_term.proofs.Swaps.{grows_on}
 use Rattle.lh_bodies.specs.Putting.{NeedsTriggerNot}
 use Rattle.lh_bodies.proofs.Testing.{err-has}
 use Rattle.lh_bodies.proofs.Tells.{names-then}
@@ -57,3 +58,22 @@ returns-clause-needed c =
     needs-trigger o row g ns x _ _ c.in_ok-value.value c.in_ok-value.ensures.kept c.in_ok-value.ensures.needed _ _ c.in_ok-now.now c.in_ok-now.ensures.kept c.in_ok-now.ensures.needed
     _ _ c.in_ok-gate.gate c.in_ok-gate.ensures.kept c.in_ok-gate.ensures.tested
     _ _ c.in_ok-after.after c.in_ok-after.ensures.needed c.in_ok-now.ensures.grows c.in_ok-gate.ensures.grows c.in_ok-after.ensures.grows c.mode_of-mode.result c.mode_of-mode.ensures
+
+pub returns-in_err-now-clause-kept : goal.returns-in_err-now-clause-kept
+returns-in_err-now-clause-kept c = grows_on c.args.terms.now c.term.new.terms c.now.new.terms c.in_ok-value.ensures.kept c.in_err-now.ensures.kept
+
+pub returns-in_err-gate-clause-kept : goal.returns-in_err-gate-clause-kept
+returns-in_err-gate-clause-kept c =
+    grows_on c.args.terms.now c.now.new.terms c.condition.new.terms (grows_on c.args.terms.now c.term.new.terms c.now.new.terms c.in_ok-value.ensures.kept c.in_ok-now.ensures.kept) c.in_err-gate.ensures.kept
+
+pub returns-in_err-after-clause-kept : goal.returns-in_err-after-clause-kept
+returns-in_err-after-clause-kept c =
+    grows_on c.args.terms.now c.condition.new.terms c.term-2.new.terms
+    (grows_on c.args.terms.now c.now.new.terms c.condition.new.terms (grows_on c.args.terms.now c.term.new.terms c.now.new.terms c.in_ok-value.ensures.kept c.in_ok-now.ensures.kept) c.in_ok-gate.ensures.kept)
+    c.in_err-after.ensures.kept
+
+pub returns-clause-kept : goal.returns-clause-kept
+returns-clause-kept c =
+    grows_on c.args.terms.now c.condition.new.terms c.term-2.new.terms
+    (grows_on c.args.terms.now c.now.new.terms c.condition.new.terms (grows_on c.args.terms.now c.term.new.terms c.now.new.terms c.in_ok-value.ensures.kept c.in_ok-now.ensures.kept) c.in_ok-gate.ensures.kept)
+    c.in_ok-after.ensures.kept

@@ -1,8 +1,9 @@
 use Rattle.std.proofs.Common.{◌+◌, drop, sym, subst}
 use Rattle.std.proofs.lemmas.List.{drop_all}
 use Rattle.lh_unit.proofs.Lists.{drop-item}
+use Rattle.lh_term.proofs.Swaps.{grows_on}
 use Rattle.lh_bodies.specs.Putting.{NeedsTriggersNot}
-use Rattle.lh_bodies.proofs.Testing.{err-has}
+use Rattle.lh_bodies.proofs.Testing.{err-has, err-memory}
 use Rattle.lh_bodies.proofs.Growing.{grows-same}
 use Rattle.lh_bodies.proofs.Registers.{TriggersSoFar, triggers-begin, triggers-can, triggers-next, triggers-not, triggers-end}
 use Rattle.lh_bodies.proofs.bodies.row_triggers.Goals as goal
@@ -41,3 +42,16 @@ returns-clause-needed c =
     let o = c.args.origin.now in let row = c.args.row.now in let ns = c.args.terms.now in let x = c.args.emitter.now in
     let all = c.as_slice-trigger-items.result.now in let i = c.loop-trigger.trigger-index in
     triggers-end o row ns x c.loop-trigger.terms c.loop-trigger.emitter c.loop-trigger.triggers (drop i all) (drop_all i all c.loop-trigger-test.false) c.loop-trigger.invariant
+
+pub returns-in_err-made-clause-kept : goal.returns-in_err-made-clause-kept
+returns-in_err-made-clause-kept c = grows_on c.args.terms.now c.loop-trigger.terms c.reg_trigger.new.terms c.loop-trigger.invariant.grows c.in_err-made.ensures.kept
+
+pub returns-in_err-push-clause-kept : goal.returns-in_err-push-clause-kept
+returns-in_err-push-clause-kept c = grows_on c.args.terms.now c.loop-trigger.terms c.reg_trigger.new.terms c.loop-trigger.invariant.grows c.in_ok-made.ensures.kept
+
+pub returns-clause-kept : goal.returns-clause-kept
+returns-clause-kept c = c.loop-trigger.invariant.grows
+
+pub returns-in_err-push-clause-cause : goal.returns-in_err-push-clause-cause
+returns-in_err-push-clause-cause c =
+    err-memory c.from_residual-in_err-push.result (NeedsTriggersNot c.args.terms.now c.args.origin.now c.args.emitter.now c.args.row.now) c.from_residual-in_err-push.ensures.1 tt

@@ -2,10 +2,11 @@ use Rattle.std.proofs.Common.{◌≡◌, ◌<◌, ◌≤◌, List, [], ◌∷◌
 use Rattle.lh_term.specs.declared.term.TermId.{TermId}
 use Rattle.lh_term.specs.Arena.{tree_at, trees}
 use Rattle.lh_term.specs.Reach.{AreReached}
+use Rattle.lh_term.proofs.Swaps.{grows_on}
 use Rattle.lh_edge.specs.Atoms.{subterms}
 use Rattle.lh_edge.specs.Reached.{joined_by}
 use Rattle.lh_edge.specs.Steps.{AreAllIdsOf}
-use Rattle.lh_edge.proofs.Found.{too_many, found_of_none, found_of_some, more_than, present_next, the_atoms}
+use Rattle.lh_edge.proofs.Found.{too_many, found_of_none, found_of_some, more_than, present_start, present_next, the_atoms}
 use Rattle.lh_edge.proofs.atoms.atoms_of.Goals as goal
 
 pub found_subterms-requires : goal.found_subterms-requires
@@ -37,3 +38,20 @@ returns-clause-found c =
     let l : length c.loop-k.atoms.items ≤ 12 = omega (arith, c.if-len-gt-MAX_ATOMS.false, c.len.ensures) in
     let n : c.loop-k.k ≡ length c.in-Some.atoms.items = omega (arith, c.loop-k-test.false, c.loop-k.auto.k-end, c.len-k-end.ensures) in
     the_atoms c.args.terms.now c.loop-k.terms (tree_at (trees c.args.terms.now) c.args.edge) c.in-Some.atoms.items c.loop-k.atoms.items c.loop-k.k a c.loop-k.invariant n l
+
+pub loop-k-init : goal.loop-k-init
+loop-k-init c =
+    present_start c.args.terms.now (tree_at (trees c.args.terms.now) c.args.edge) c.in-Some.atoms.items
+    (found_of_some c.args.terms.now (subterms (tree_at (trees c.args.terms.now) c.args.edge)) _ c.in-Some.atoms c.in-Some.is c.in_ok-atoms.ensures)
+
+pub add_present-requires-clause-are_in : goal.add_present-requires-clause-are_in
+add_present-requires-clause-are_in c = c.loop-k.invariant.of.are_in
+
+pub returns-in_err-add_present-clause-kept : goal.returns-in_err-add_present-clause-kept
+returns-in_err-add_present-clause-kept c = grows_on c.args.terms.now c.loop-k.terms c.add_present.new.terms c.loop-k.invariant.grows c.in_err-add_present.ensures.kept
+
+pub returns-then-len-gt-MAX_ATOMS-clause-kept : goal.returns-then-len-gt-MAX_ATOMS-clause-kept
+returns-then-len-gt-MAX_ATOMS-clause-kept c = c.loop-k.invariant.grows
+
+pub returns-clause-kept : goal.returns-clause-kept
+returns-clause-kept c = c.loop-k.invariant.grows

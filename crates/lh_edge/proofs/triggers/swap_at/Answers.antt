@@ -1,8 +1,48 @@
-use Rattle.std.proofs.Common.{◌≡◌, ◌++◌, ◌∷◌, [], length, ap, ◌∙◌, arith}
+use Rattle.std.proofs.Common.{◌≡◌, List, ◌++◌, ◌∷◌, [], length, ap, ◌∙◌, arith}
 use Rattle.lh_term.specs.Arena.{tree_at, trees, Grows}
 use Rattle.lh_term.proofs.Swaps.{grows_on, stands_grown}
-use Rattle.lh_edge.proofs.Gathered.{gate_start, gate_next, gate_last}
+use Rattle.lh_edge.proofs.Gathered.{gate_start, gate_first, gate_next, gate_last}
+use Rattle.lh_term.specs.declared.term.Node.{Node}
 use Rattle.lh_edge.proofs.triggers.swap_at.Goals as goal
+
+-- the terms of four calls in turn
+all_kept : (a b c d e : List Node) → Grows a b → Grows b c → Grows c d → Grows d e → Grows a e
+all_kept a b c d e f g h i = grows_on a b e f (grows_on b c e g (grows_on c d e h i))
+
+-- the terms that grew at each failure
+pub returns-in_err-after-clause-kept : goal.returns-in_err-after-clause-kept
+returns-in_err-after-clause-kept c = grows_on c.args.terms.now c.konst_bit.new.terms c.konst_bit-2.new.terms c.in_ok-before.ensures.kept c.in_err-after.ensures.kept
+
+pub returns-in_err-past-clause-kept : goal.returns-in_err-past-clause-kept
+returns-in_err-past-clause-kept c =
+    grows_on c.args.terms.now c.konst_bit.new.terms c.past.new.self c.in_ok-before.ensures.kept
+    (grows_on c.konst_bit.new.terms c.konst_bit-2.new.terms c.past.new.self c.in_ok-after.ensures.kept c.in_err-past.ensures.kept)
+
+pub returns-in_err-now-clause-kept : goal.returns-in_err-now-clause-kept
+returns-in_err-now-clause-kept c =
+    all_kept c.args.terms.now c.konst_bit.new.terms c.konst_bit-2.new.terms c.past.new.self c.now.new.self c.in_ok-before.ensures.kept c.in_ok-after.ensures.kept c.in_ok-past.ensures.kept c.in_err-now.ensures.kept
+
+pub returns-in_err-push-clause-kept : goal.returns-in_err-push-clause-kept
+returns-in_err-push-clause-kept c =
+    all_kept c.args.terms.now c.konst_bit.new.terms c.konst_bit-2.new.terms c.past.new.self c.now.new.self c.in_ok-before.ensures.kept c.in_ok-after.ensures.kept c.in_ok-past.ensures.kept c.in_ok-now.ensures.kept
+
+pub returns-in_err-push-2-clause-kept : goal.returns-in_err-push-2-clause-kept
+returns-in_err-push-2-clause-kept c =
+    all_kept c.args.terms.now c.konst_bit.new.terms c.konst_bit-2.new.terms c.past.new.self c.now.new.self c.in_ok-before.ensures.kept c.in_ok-after.ensures.kept c.in_ok-past.ensures.kept c.in_ok-now.ensures.kept
+
+pub returns-in_err-add_pair-clause-kept : goal.returns-in_err-add_pair-clause-kept
+returns-in_err-add_pair-clause-kept c = c.loop-left.invariant.grows
+
+pub returns-clause-kept : goal.returns-clause-kept
+returns-clause-kept c = c.loop-left.invariant.grows
+
+pub add_pair-requires-clause-pairs_in : goal.add_pair-requires-clause-pairs_in
+add_pair-requires-clause-pairs_in c = c.loop-left.invariant.swap_in
+
+pub add_pair-requires-clause-is_in : goal.add_pair-requires-clause-is_in
+add_pair-requires-clause-is_in c =
+    gate_first c.args.terms.now c.now.new.self c.args.rise c.args.part.now c.args.presents.now c.loop-left.left.now c.loop-left.swap (record { 0 = 0 }, record { 0 = 0 })
+    c.loop-left.invariant c.in-len1-up.len_at_least
 
 pub loop-left-init : goal.loop-left-init
 loop-left-init c =

@@ -3,7 +3,7 @@ use Rattle.lh_types.specs.ValueOf.{datum_of}
 use Rattle.lh_term.specs.Tree.{constant}
 use Rattle.lh_term.specs.Arena.{StandsForTree}
 use Rattle.lh_types.specs.declared.val.Val.{Val}
-use Rattle.lh_emit.proofs.Composing.{constants-next}
+use Rattle.lh_emit.proofs.Composing.{constants-next, constants-end}
 use Rattle.lh_emit.proofs.making.constants.Goals as goal
 
 pub loop-left-preserved : goal.loop-left-preserved
@@ -12,3 +12,6 @@ loop-left-preserved c =
     constants-next c.args.terms.now c.args.values.now c.loop-left.terms c.konst.new.self c.loop-left.list c.push.new.self c.loop-left.left.now c.value-item.result c.in_ok-id.id c.loop-left.invariant
     c.in-len1-up.len_at_least
     c.konst.ensures.kept (subst (λ (v : Val). StandsForTree c.konst.new.self c.in_ok-id.id (constant (datum_of v))) e c.in_ok-id.ensures.made) c.in_ok-push.ensures.ok
+
+pub returns-clause-made : goal.returns-clause-made
+returns-clause-made c = constants-end c.args.terms.now c.args.values.now c.loop-left.terms c.loop-left.list c.loop-left.left.now c.loop-left.invariant c.in_default.len_below

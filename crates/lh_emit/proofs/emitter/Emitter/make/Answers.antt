@@ -1,5 +1,5 @@
 use Rattle.std.proofs.Common.{◌≡◌}
-use Rattle.lh_emit.proofs.Giving.{can-give, makes-inst, makes-not, make-cause}
+use Rattle.lh_emit.proofs.Giving.{can-give, makes-inst, makes-not, make-cause, make-no-memory}
 use Rattle.lh_emit.proofs.Walking.{gives-fault}
 use Rattle.lh_emit.proofs.emitter.Emitter.make.Goals as goal
 
@@ -27,3 +27,8 @@ returns-clause-made c =
     makes-inst c.args.terms.now c.args.origin.now c.args.self.now c.args.t c.inst_of.new.terms c.inst_of.new.self c.in_ok-inst.inst c.give.new.self c.in_ok-value.value c.keep.new.self
     c.inst_of.ensures.kept c.are_apart.ensures
     c.in_ok-inst.ensures.given c.in_ok-value.ensures c.in_ok-keep.ensures
+
+pub returns-in_err-keep-clause-made : goal.returns-in_err-keep-clause-made
+returns-in_err-keep-clause-made c =
+    make-no-memory c.args.terms.now c.args.origin.now c.args.self.now c.args.t c.inst_of.new.terms record { lines = c.give.new.self; values = c.keep.new.self; parts = c.inst_of.new.self.parts }
+    c.from_residual-in_err-keep.result c.from_residual-in_err-keep.ensures.1

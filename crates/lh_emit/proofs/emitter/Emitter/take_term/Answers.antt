@@ -1,7 +1,7 @@
 use Rattle.std.proofs.Common.{◌≡◌, ◌∙◌, [], ◌∷◌, List, length, refl, sym, arith}
 use Rattle.lh_term.proofs.Swaps.{grows_on}
 use Rattle.lh_emit.specs.declared.tasks.Task.{Task}
-use Rattle.lh_emit.proofs.Going.{gone-first, can-step, gone-next, less-left, step-cause, nothing-left, takes-term, term-valued, term-cause}
+use Rattle.lh_emit.proofs.Going.{gone-first, can-step, gone-next, less-left, step-cause, nothing-left, takes-term, term-valued, term-cause, term-no-memory}
 use Rattle.lh_emit.proofs.emitter.Emitter.take_term.Goals as goal
 
 pub loop-task-init : goal.loop-task-init
@@ -51,3 +51,7 @@ returns-clause-taken c =
     takes-term c.args.terms.now c.args.origin.now c.args.self.now c.args.term c.loop-task.terms c.loop-task.self c.value_of.result c.requires.within c.loop-task.invariant.grows
     c.loop-task.invariant.names
     (nothing-left c.args.terms.now c.args.origin.now c.args.self.now c.args.term c.loop-task.terms c.loop-task.self c.loop-task.tasks.items e c.loop-task.invariant) c.value_of.ensures
+
+pub returns-in_err-tasks-clause-taken : goal.returns-in_err-tasks-clause-taken
+returns-in_err-tasks-clause-taken c =
+    term-no-memory c.args.terms.now c.args.origin.now c.args.self.now c.args.term c.args.terms.now c.args.self.now c.from_residual.result c.from_residual.ensures.1

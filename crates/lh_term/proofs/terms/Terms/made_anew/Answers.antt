@@ -1,6 +1,6 @@
-use Rattle.std.proofs.Common.{◌≡◌, nat_eq, arith}
+use Rattle.std.proofs.Common.{◌≡◌, ◌≤◌, length, nat_eq, arith}
 use Rattle.std.specs.HashMap as hash
-use Rattle.lh_term.proofs.Swaps.{turn_in, turn_pairs, turn_swaps, turn_operands, turn_next, turn_last}
+use Rattle.lh_term.proofs.Swaps.{grows_on, making_start, turn_in, turn_pairs, turn_swaps, turn_operands, turn_next, turn_last}
 use Rattle.lh_term.proofs.terms.Terms.made_anew.Goals as goal
 
 pub remade-requires-clause-is_in : goal.remade-requires-clause-is_in
@@ -41,3 +41,17 @@ returns-clause-made c =
     let z : c.loop-k.k ≡ 0 = omega (arith, c.loop-k-test.false) in
     (turn_last c.args.self.now c.loop-k.self c.args.by.now (hash.get nat_eq c.loop-k.made) c.args.t c.args.made_of.now c.loop-k.k c.loop-k.invariant.making c.requires.made_of z).stands
     c.made_at.result c.made_at.ensures
+
+pub loop-k-init : goal.loop-k-init
+loop-k-init c =
+    let l : length c.args.made_of.now ≤ length c.args.made_of.now = omega arith in
+    record { within = l; making = making_start c.args.self.now c.args.by.now (hash.get nat_eq c.new-made.result) c.args.made_of.now (length c.args.made_of.now) l }
+
+pub returns-in_err-x-clause-kept : goal.returns-in_err-x-clause-kept
+returns-in_err-x-clause-kept c = grows_on c.args.self.now c.loop-k.self c.remade.new.self c.loop-k.invariant.making.grows c.in_err-x.ensures.kept
+
+pub returns-in_err-insert-clause-kept : goal.returns-in_err-insert-clause-kept
+returns-in_err-insert-clause-kept c = grows_on c.args.self.now c.loop-k.self c.remade.new.self c.loop-k.invariant.making.grows c.in_ok-x.ensures.kept
+
+pub returns-clause-kept : goal.returns-clause-kept
+returns-clause-kept c = c.loop-k.invariant.making.grows
