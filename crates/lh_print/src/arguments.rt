@@ -1,11 +1,11 @@
 //! Arguments of units.
 #![tactic(auto, using(crate::proofs::Joined::steps))]
 
-ghost use Rattle.std.specs.Prelude.{◌≡◌, ◌<◌, ◌++◌, ◌∷◌, [], map, OnOk};
+ghost use Rattle.std.specs.Prelude.{◌≡◌, ◌<◌, ◌++◌, ◌∷◌, map, OnOk};
 ghost use Rattle.lh_unit.specs.Table.{ArgsWithin};
 ghost use Rattle.lh_unit.specs.Arena.{value_count, naming, args_at, result_type_at};
 ghost use Rattle.lh_unit.specs.Naming.{arg_text};
-ghost use Rattle.lh_unit.specs.Pieces.{render, behind_commas, in_parens, ◌␣◌};
+ghost use Rattle.lh_unit.specs.Pieces.{render, in_parens, ◌␣◌};
 ghost use Rattle.lh_unit.specs.Canon.{argument, arguments, on_side, side_of, ports, result_pieces};
 
 use crate::names::put_value;
@@ -35,21 +35,10 @@ fn put_arguments(out: &mut Vec<u8>, view: UnitView<'_>, args: &[Arg]) -> Result<
     requires placed { ArgsWithin (value_count view.module.now view.unit.0) args.now }
     ensures { OnOk result (out.new.items ≡ out.old.items ++ render (arguments (map (arg_text (naming view.entry.module.now view.entry.unit.0)) args.now))) }
 {
-    match args.split_first() {
-        None => Ok(()),
-        Some((first, rest)) => {
-            put_argument(out, b"", view, first)?;
-            put_arguments_behind(out, view, rest)
-        }
-    }
-}
-
-fn put_arguments_behind(out: &mut Vec<u8>, view: UnitView<'_>, args: &[Arg]) -> Result<(), NoMemory>
-    requires placed { ArgsWithin (value_count view.module.now view.unit.0) args.now }
-    ensures { OnOk result (out.new.items ≡ out.old.items ++ render (behind_commas (map argument (map (arg_text (naming view.entry.module.now view.entry.unit.0)) args.now)))) }
-{
+    let mut before: &[u8] = b"";
     for arg in args {
-        put_argument(out, b", ", view, arg)?;
+        put_argument(out, before, view, arg)?;
+        before = b", ";
     }
     Ok(())
 }
@@ -71,44 +60,12 @@ fn put_side(
     requires placed { ArgsWithin (value_count view.module.now view.unit.0) args.now }
     ensures { OnOk result (out.new.items ≡ out.old.items ++ render (arguments (side_of output (map (arg_text (naming view.entry.module.now view.entry.unit.0)) args.now)))) }
 {
-    let mut rest = args;
-    while let Some((arg, more)) = rest.split_first() {
-        if is_on_side(output, arg, view) {
-            put_argument(out, b"", view, arg)?;
-            return put_side_behind(out, output, view, more);
-        }
-        rest = more;
-    }
-    Ok(())
-}
-
-/// Writes an argument behind a comma, where it is on this side.
-fn put_if_on_side(
-    out: &mut Vec<u8>,
-    output: bool,
-    view: UnitView<'_>,
-    arg: &Arg,
-) -> Result<(), NoMemory>
-    requires placed { arg.now.value.0 < value_count view.module.now view.unit.0 }
-    ensures { OnOk result (out.new.items ≡ out.old.items ++ render (behind_commas (map argument (side_of output (arg_text (naming view.entry.module.now view.entry.unit.0) arg.now ∷ []))))) }
-{
-    if !is_on_side(output, arg, view) {
-        return Ok(());
-    }
-    put_argument(out, b", ", view, arg)
-}
-
-fn put_side_behind(
-    out: &mut Vec<u8>,
-    output: bool,
-    view: UnitView<'_>,
-    args: &[Arg],
-) -> Result<(), NoMemory>
-    requires placed { ArgsWithin (value_count view.module.now view.unit.0) args.now }
-    ensures { OnOk result (out.new.items ≡ out.old.items ++ render (behind_commas (map argument (side_of output (map (arg_text (naming view.entry.module.now view.entry.unit.0)) args.now))))) }
-{
+    let mut before: &[u8] = b"";
     for arg in args {
-        put_if_on_side(out, output, view, arg)?;
+        if is_on_side(output, arg, view) {
+            put_argument(out, before, view, arg)?;
+            before = b", ";
+        }
     }
     Ok(())
 }

@@ -12,7 +12,7 @@ ghost use Rattle.lh_unit.specs.CanonTypes.{const_pieces};
 
 use crate::names::{put_label, put_maybe, put_unit_name, put_value};
 use crate::operands::{
-    put_edges, put_operand, put_operands, put_operation, put_signals_behind, put_triggers_behind,
+    put_bracketed, put_edges, put_operand, put_operation, put_signals_behind, put_triggers_behind,
 };
 use crate::types::put_type;
 use crate::values::put_const;
@@ -108,13 +108,9 @@ fn put_child(
     requires outputs { Each (OperandWithin (sizes view.module.now view.unit.0)) outputs.now }
     ensures { let f = naming view.entry.module.now view.entry.unit.0 in OnOk result (out.new.items ≡ out.old.items ++ render (inst_pieces (child_text (f.unit_name unit.0) (map (operand_text f) inputs.now) (map (operand_text f) outputs.now)))) }
 {
-    put(out, b"inst ")?;
-    put_unit_name(out, view.module().unit_name(unit))?;
-    put(out, b" (")?;
-    put_operands(out, view, inputs)?;
-    put(out, b") -> (")?;
-    put_operands(out, view, outputs)?;
-    put(out, b")")
+    put_unit_name(out, b"inst ", view.module().unit_name(unit))?;
+    put_bracketed(out, b" (", view, inputs, b")")?;
+    put_bracketed(out, b" -> (", view, outputs, b")")
 }
 
 /// Writes `call R @f (V1 %a1)`.
@@ -131,11 +127,8 @@ fn put_call(
 {
     put(out, b"call ")?;
     put_type(out, result_type)?;
-    put(out, b" ")?;
-    put_unit_name(out, view.module().unit_name(unit))?;
-    put(out, b" (")?;
-    put_operands(out, view, args)?;
-    put(out, b")")
+    put_unit_name(out, b" ", view.module().unit_name(unit))?;
+    put_bracketed(out, b" (", view, args, b")")
 }
 
 /// Writes `phi V [%v, %b]`.

@@ -14,15 +14,14 @@ use lh_types::ty::NoMemory;
 use lh_unit::inst::{BlockId, ValueId};
 use lh_unit::view::UnitView;
 
-/// Writes the name of a unit.
-pub fn put_unit_name(out: &mut Vec<u8>, name: &UnitName) -> Result<(), NoMemory>
-    ensures { OnOk result (out.new.items ≡ out.old.items ++ render (unit_name_pieces name.now)) }
+/// Writes a text, and then the name of a unit.
+#[inline]
+pub fn put_unit_name(out: &mut Vec<u8>, before: &[u8], name: &UnitName) -> Result<(), NoMemory>
+    ensures { OnOk result (out.new.items ≡ out.old.items ++ (before.now ++ render (unit_name_pieces name.now))) }
 {
-    if name.sigil == b'@' {
-        put(out, b"@")?;
-        return put_name(out, &name.name);
-    }
-    put(out, b"%")?;
+    put(out, before)?;
+    let sigil: &[u8] = if name.sigil == b'@' { b"@" } else { b"%" };
+    put(out, sigil)?;
     put_name(out, &name.name)
 }
 

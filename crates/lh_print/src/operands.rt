@@ -49,7 +49,7 @@ pub fn put_operand(
 }
 
 /// Writes operands, with a comma and a space between them.
-pub fn put_operands(out: &mut Vec<u8>, view: UnitView<'_>, args: &[Typed]) -> Result<(), NoMemory>
+fn put_operands(out: &mut Vec<u8>, view: UnitView<'_>, args: &[Typed]) -> Result<(), NoMemory>
     requires placed { Each (OperandWithin (sizes view.module.now view.unit.0)) args.now }
     ensures { OnOk result (out.new.items ≡ out.old.items ++ render (operands (map (operand_text (naming view.entry.module.now view.entry.unit.0)) args.now))) }
 {
@@ -141,25 +141,10 @@ pub fn put_edges(out: &mut Vec<u8>, view: UnitView<'_>, edges: &[PhiEdge]) -> Re
     requires placed { Each (EdgeWithin (sizes view.module.now view.unit.0)) edges.now }
     ensures { OnOk result (out.new.items ≡ out.old.items ++ render (commas (map edge (map (edge_text (naming view.entry.module.now view.entry.unit.0)) edges.now)))) }
 {
-    match edges.split_first() {
-        None => Ok(()),
-        Some((first, rest)) => {
-            put_edge(out, b"", view, first)?;
-            put_edges_behind(out, view, rest)
-        }
-    }
-}
-
-fn put_edges_behind(
-    out: &mut Vec<u8>,
-    view: UnitView<'_>,
-    edges: &[PhiEdge],
-) -> Result<(), NoMemory>
-    requires placed { Each (EdgeWithin (sizes view.module.now view.unit.0)) edges.now }
-    ensures { OnOk result (out.new.items ≡ out.old.items ++ render (behind_commas (map edge (map (edge_text (naming view.entry.module.now view.entry.unit.0)) edges.now)))) }
-{
+    let mut before: &[u8] = b"";
     for e in edges {
-        put_edge(out, b", ", view, e)?;
+        put_edge(out, before, view, e)?;
+        before = b", ";
     }
     Ok(())
 }
@@ -187,7 +172,8 @@ fn put_numbers_behind(out: &mut Vec<u8>, op: Op) -> Result<(), NoMemory>
 }
 
 /// Writes operands between brackets.
-fn put_bracketed(
+#[inline]
+pub fn put_bracketed(
     out: &mut Vec<u8>,
     begin: &[u8],
     view: UnitView<'_>,

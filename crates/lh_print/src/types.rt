@@ -4,7 +4,7 @@
 ghost use Rattle.std.specs.Prelude.{◌≡◌, ◌++◌, OnOk};
 ghost use Rattle.lh_types.specs.Types.{row_of};
 ghost use Rattle.lh_unit.specs.Pieces.{render};
-ghost use Rattle.lh_unit.specs.CanonTypes.{type_pieces, row_pieces, row_behind};
+ghost use Rattle.lh_unit.specs.CanonTypes.{type_pieces, row_pieces};
 
 use lh_types::text::{put, put_number};
 use lh_types::ty::{NoMemory, Ty, TyKind};
@@ -51,22 +51,11 @@ pub fn put_type(out: &mut Vec<u8>, t: &Ty) -> Result<(), NoMemory>
 pub fn put_types(out: &mut Vec<u8>, types: &[Ty]) -> Result<(), NoMemory>
     ensures { OnOk result (out.new.items ≡ out.old.items ++ render (row_pieces (row_of types.now))) }
 {
-    match types.split_first() {
-        None => Ok(()),
-        Some((first, rest)) => {
-            put_type(out, first)?;
-            put_types_behind(out, rest)
-        }
-    }
-}
-
-#[cycle(put_type)]
-fn put_types_behind(out: &mut Vec<u8>, types: &[Ty]) -> Result<(), NoMemory>
-    ensures { OnOk result (out.new.items ≡ out.old.items ++ render (row_behind (row_of types.now))) }
-{
+    let mut before: &[u8] = b"";
     for t in types {
-        put(out, b", ")?;
+        put(out, before)?;
         put_type(out, t)?;
+        before = b", ";
     }
     Ok(())
 }

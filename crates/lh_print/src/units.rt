@@ -102,8 +102,7 @@ fn put_blocks(out: &mut Vec<u8>, view: UnitView<'_>, blocks: &[BlockId]) -> Resu
 fn put_func_header(out: &mut Vec<u8>, view: UnitView<'_>) -> Result<(), NoMemory>
     ensures { let u = unit_text_at view.entry.module.now view.entry.unit.0 in OnOk result (out.new.items ≡ out.old.items ++ render (header kind.Func u.name u.args u.result)) }
 {
-    put(out, b"func ")?;
-    put_unit_name(out, view.name())?;
+    put_unit_name(out, b"func ", view.name())?;
     put_signature(out, view)
 }
 
@@ -111,8 +110,7 @@ fn put_func_header(out: &mut Vec<u8>, view: UnitView<'_>) -> Result<(), NoMemory
 fn put_ports_header(out: &mut Vec<u8>, word: &[u8], view: UnitView<'_>) -> Result<(), NoMemory>
     ensures { let u = unit_text_at view.entry.module.now view.entry.unit.0 in OnOk result (out.new.items ≡ out.old.items ++ (word.now ++ render (unit_name_pieces u.name ␣ ports u.args))) }
 {
-    put(out, word)?;
-    put_unit_name(out, view.name())?;
+    put_unit_name(out, word, view.name())?;
     put_ports(out, view)
 }
 
@@ -137,15 +135,21 @@ fn put_unit(out: &mut Vec<u8>, view: UnitView<'_>) -> Result<(), NoMemory>
     put(out, b"}\n")
 }
 
+/// Writes a text, and then types and a closing parenthesis.
+fn put_listed(out: &mut Vec<u8>, before: &[u8], types: &[Ty]) -> Result<(), NoMemory>
+    ensures { OnOk result (out.new.items ≡ out.old.items ++ (before.now ++ (render (spec.types types.now) ++ 41 ∷ []))) }
+{
+    put(out, before)?;
+    put_types(out, types)?;
+    put(out, b")")
+}
+
 /// Writes `declare @n (V1, V2)`.
 fn put_declared(out: &mut Vec<u8>, name: &UnitName, params: &[Ty]) -> Result<(), NoMemory>
     ensures { OnOk result (out.new.items ≡ out.old.items ++ render (keyword "declare" ␣ unit_name_pieces name.now ␣ in_parens (spec.types params.now))) }
 {
-    put(out, b"declare ")?;
-    put_unit_name(out, name)?;
-    put(out, b" (")?;
-    put_types(out, params)?;
-    put(out, b")")
+    put_unit_name(out, b"declare ", name)?;
+    put_listed(out, b" (", params)
 }
 
 /// Writes a declaration, without the end of its line.
@@ -168,9 +172,7 @@ fn put_declaration(out: &mut Vec<u8>, declare: &Declare) -> Result<(), NoMemory>
             outputs,
         } => {
             put_declared(out, name, inputs.as_slice())?;
-            put(out, b" -> (")?;
-            put_types(out, outputs.as_slice())?;
-            put(out, b")")
+            put_listed(out, b" -> (", outputs.as_slice())
         }
     }
 }

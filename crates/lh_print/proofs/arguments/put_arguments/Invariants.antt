@@ -1,0 +1,11 @@
+use Rattle.std.proofs.Common.{◌≡◌, ◌++◌, drop, map}
+use Rattle.lh_unit.specs.Arena.{naming}
+use Rattle.lh_unit.specs.Naming.{arg_text}
+use Rattle.lh_unit.specs.Pieces.{render}
+use Rattle.lh_unit.specs.Canon.{argument, arguments}
+use Rattle.lh_print.proofs.Joined.{in_row}
+use Rattle.lh_print.proofs.arguments.put_arguments.Given as goal
+
+abbrev pub invariant-loop-arg : goal.invariant-loop-arg
+invariant-loop-arg l = l.out.items ++ in_row l.before (map argument (map (arg_text (naming l.view.module.now l.view.unit.0)) (drop l.arg-index l.args))) ≡ l.initial.out.items
+    ++ render (arguments (map (arg_text (naming l.view.module.now l.view.unit.0)) l.args))
