@@ -17,7 +17,7 @@
 //!
 //! Where a text does not read, is not well formed, or has no such top, the answer is what the program says of it.
 use crate::design::{file_of, of_top};
-use crate::program::{Ran, run_by};
+use crate::program::{Program, Ran};
 use lh_print::print;
 use lh_types::text::{put, put_number};
 use lh_types::ty::NoMemory;
@@ -27,25 +27,35 @@ use std::alloc::Global;
 const RUNAWAY: u8 = 10;
 
 /// The answer to a text.
-pub fn answer(alloc: Global, how: &[u8], text: &[u8]) -> Result<Vec<u8>, NoMemory> {
+pub fn answer<P: Program>(
+    alloc: Global,
+    program: &P,
+    how: &[u8],
+    text: &[u8],
+) -> Result<Vec<u8>, NoMemory> {
     match str::from_utf8(how) {
-        Ok(how) => answer_to(alloc, how, text),
+        Ok(how) => answer_to(alloc, program, how, text),
         Err(_) => said(alloc, b"these words are no text\n"),
     }
 }
 
-fn answer_to(alloc: Global, how: &str, text: &[u8]) -> Result<Vec<u8>, NoMemory> {
+fn answer_to<P: Program>(
+    alloc: Global,
+    program: &P,
+    how: &str,
+    text: &[u8],
+) -> Result<Vec<u8>, NoMemory> {
     let (word, rest) = how.split_once(' ').unwrap_or((how, ""));
     match word {
-        "check" | "lower" | "simulate" => shown(alloc, how, text),
-        "run" => left(alloc, rest, text),
-        "verify" => verified(alloc, text),
-        "same" => compared(alloc, text),
-        "both" => beside_lowered(alloc, rest, text),
-        "print" => printed(alloc, text),
-        "line" => line_of(alloc, number(rest), text),
+        "check" | "lower" | "simulate" => shown(alloc, program, how, text),
+        "run" => left(alloc, program, rest, text),
+        "verify" => verified(alloc, program, text),
+        "same" => compared(alloc, program, text),
+        "both" => beside_lowered(alloc, program, rest, text),
+        "print" => printed(alloc, program, text),
+        "line" => line_of(alloc, program, number(rest), text),
         "cut" => cut(alloc, text),
-        "design" | "definition" | "senses" | "watch" => of_top(alloc, word, rest, text),
+        "design" | "definition" | "senses" | "watch" => of_top(alloc, program, word, rest, text),
         _ => said(alloc, b"there are no such words\n"),
     }
 }
@@ -66,8 +76,13 @@ fn said_alike(alloc: Global, alike: bool) -> Result<Vec<u8>, NoMemory> {
 }
 
 /// What the program writes, and then its log.
-pub fn shown(alloc: Global, words: &str, text: &[u8]) -> Result<Vec<u8>, NoMemory> {
-    let ran = run_by(alloc, words, text)?;
+pub fn shown<P: Program>(
+    alloc: Global,
+    program: &P,
+    words: &str,
+    text: &[u8],
+) -> Result<Vec<u8>, NoMemory> {
+    let ran = program.run(alloc, words, text)?;
     let mut answer = Vec::from_slice(alloc, ran.out.written())?;
     if ran.code != RUNAWAY {
         put(&mut answer, ran.log.written())?;
@@ -76,8 +91,13 @@ pub fn shown(alloc: Global, words: &str, text: &[u8]) -> Result<Vec<u8>, NoMemor
 }
 
 /// The code with which the program ends, what it writes, and its log.
-fn left(alloc: Global, words: &str, text: &[u8]) -> Result<Vec<u8>, NoMemory> {
-    let ran = run_by(alloc, words, text)?;
+fn left<P: Program>(
+    alloc: Global,
+    program: &P,
+    words: &str,
+    text: &[u8],
+) -> Result<Vec<u8>, NoMemory> {
+    let ran = program.run(alloc, words, text)?;
     let mut answer = Vec::new(alloc);
     put_left(&mut answer, &ran)?;
     Ok(answer)
@@ -93,8 +113,8 @@ fn put_left(to: &mut Vec<u8>, ran: &Ran) -> Result<(), NoMemory> {
 }
 
 /// Whether a file is well formed.
-fn verified(alloc: Global, text: &[u8]) -> Result<Vec<u8>, NoMemory> {
-    let ran = run_by(alloc, "check", text)?;
+fn verified<P: Program>(alloc: Global, program: &P, text: &[u8]) -> Result<Vec<u8>, NoMemory> {
+    let ran = program.run(alloc, "check", text)?;
     if ran.code == 0 {
         return said(alloc, b"well formed\n");
     }
@@ -115,16 +135,21 @@ fn without_name(alloc: Global, line: &str) -> Result<Vec<u8>, NoMemory> {
 }
 
 /// Whether the program writes a text as it is.
-fn compared(alloc: Global, text: &[u8]) -> Result<Vec<u8>, NoMemory> {
-    let ran = run_by(alloc, "check", text)?;
+fn compared<P: Program>(alloc: Global, program: &P, text: &[u8]) -> Result<Vec<u8>, NoMemory> {
+    let ran = program.run(alloc, "check", text)?;
     said_alike(alloc, ran.out.written() == text)
 }
 
 /// Whether the lowered file shows what the file shows, where that is something.
-fn beside_lowered(alloc: Global, words: &str, text: &[u8]) -> Result<Vec<u8>, NoMemory> {
-    let lowered = run_by(alloc, "lower", text)?;
-    let one = run_by(alloc, words, text)?;
-    let other = run_by(alloc, words, lowered.out.written())?;
+fn beside_lowered<P: Program>(
+    alloc: Global,
+    program: &P,
+    words: &str,
+    text: &[u8],
+) -> Result<Vec<u8>, NoMemory> {
+    let lowered = program.run(alloc, "lower", text)?;
+    let one = program.run(alloc, words, text)?;
+    let other = program.run(alloc, words, lowered.out.written())?;
     said_alike(alloc, are_alike(&one, &other))
 }
 
@@ -134,9 +159,9 @@ fn are_alike(one: &Ran, other: &Ran) -> bool {
 }
 
 /// The canonical text of a text that reads. It has to be its own canonical text.
-fn printed(alloc: Global, text: &[u8]) -> Result<Vec<u8>, NoMemory> {
+fn printed<P: Program>(alloc: Global, program: &P, text: &[u8]) -> Result<Vec<u8>, NoMemory> {
     let Some(once) = canonical(alloc, text)? else {
-        return shown(alloc, "check", text);
+        return shown(alloc, program, "check", text);
     };
     let Some(twice) = canonical(alloc, &once)? else {
         return said(alloc, b"the canonical text does not read\n");
@@ -156,11 +181,16 @@ fn canonical(alloc: Global, text: &[u8]) -> Result<Option<Vec<u8>>, NoMemory> {
 }
 
 /// A line of the canonical text.
-fn line_of(alloc: Global, number: u32, text: &[u8]) -> Result<Vec<u8>, NoMemory> {
+fn line_of<P: Program>(
+    alloc: Global,
+    program: &P,
+    number: u32,
+    text: &[u8],
+) -> Result<Vec<u8>, NoMemory> {
     if file_of(alloc, text).is_none() {
-        return shown(alloc, "check", text);
+        return shown(alloc, program, "check", text);
     }
-    let printed = printed(alloc, text)?;
+    let printed = printed(alloc, program, text)?;
     let before = number.saturating_sub(1) as usize;
     let line = str::from_utf8(&printed)
         .unwrap_or("")

@@ -3,6 +3,7 @@ ghost use Rattle.std.specs.Prelude.{◌≡◌, IfSome};
 ghost use Rattle.lh_elab.specs.Answer.{IsDesignOf};
 
 use crate::answer::{number, said, shown};
+use crate::program::Program;
 use crate::stepped::{sensed, stepped};
 use crate::watched::watched;
 use lh_design::Design;
@@ -59,17 +60,24 @@ fn design_of(alloc: Global, file: &Verified, name: &str) -> Option<Design>
 }
 
 /// The answer to a question about the design of a top; where there is none, what the program says of that top.
-pub fn of_top(alloc: Global, asked: &str, words: &str, text: &[u8]) -> Result<Vec<u8>, NoMemory> {
+pub fn of_top<P: Program>(
+    alloc: Global,
+    program: &P,
+    asked: &str,
+    words: &str,
+    text: &[u8],
+) -> Result<Vec<u8>, NoMemory> {
     let (top, words) = words.split_once(' ').unwrap_or((words, ""));
     match load(alloc, text) {
-        Some(file) => of_file(alloc, asked, top, words, &file, text),
-        None => shown(alloc, "check", text),
+        Some(file) => of_file(alloc, program, asked, top, words, &file, text),
+        None => shown(alloc, program, "check", text),
     }
 }
 
 /// The answer to a question about the design of a top of a file.
-fn of_file(
+fn of_file<P: Program>(
     alloc: Global,
+    program: &P,
     asked: &str,
     top: &str,
     words: &str,
@@ -78,7 +86,7 @@ fn of_file(
 ) -> Result<Vec<u8>, NoMemory> {
     let Some(design) = design_of(alloc, file, top) else {
         let words = format!(in alloc; "simulate --top {top} --steps 1")?;
-        return shown(alloc, words.as_str(), text);
+        return shown(alloc, program, words.as_str(), text);
     };
     let m = file.module();
     match asked {

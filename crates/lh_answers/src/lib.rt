@@ -1,8 +1,8 @@
-//! The answers of the crates that are tried to texts, by the words by which a text is run.
+//! The answers of the crates that are tried to texts, by the words by which a text is run. The caller provides what runs the program.
 #![tactic(auto)]
 
 pub mod answer;
 mod design;
-mod program;
+pub mod program;
 mod stepped;
 mod watched;

@@ -16,10 +16,10 @@ use Rattle.lh_unit.specs.Arena.{Arena, IsArena, contents, item_text_at, unit_tex
 use Rattle.lh_unit.specs.Within.{Each}
 use Rattle.lh_unit.proofs.Arenas.{same_unit_name-is}
 use Rattle.lh_lowered.specs.Lowering.{Outcome, outcome_in, in_place, verdict_of, lowered_as, lowered_item, row_as, item_row}
-use Rattle.lh_lowered.specs.Report.{RowText}
+use Rattle.lh_lowered.specs.Report.{RowText, row_text}
+use Rattle.lh_lowered.specs.declared.report.ReportRow.{ReportRow}
 use Rattle.lh_lowered.proofs.Keeping.{unit-name}
-use Rattle.lh_lower.specs.Lowers.{row_text, IsBehind}
-use Rattle.lh_lower.specs.declared.lowering.ReportRow.{ReportRow}
+use Rattle.lh_lower.specs.Lowers.{IsBehind}
 
 -- ---- what stands behind
 

@@ -24,13 +24,13 @@ use Rattle.lh_lowered.specs.declared.report.Verdict.{Verdict}
 use Rattle.lh_lowered.specs.declared.report.Verdict.TheVariants as verdict
 use Rattle.lh_lowered.specs.Lowering as text
 use Rattle.lh_lowered.specs.Lowering.{lowered, lowered_item, item_row, outcome_in, report}
-use Rattle.lh_lowered.specs.Report.{RowText}
+use Rattle.lh_lowered.specs.Report.{RowText, row_text}
+use Rattle.lh_lowered.specs.declared.report.ReportRow.{ReportRow}
 use Rattle.lh_shape.specs.declared.reason.Reason.{Reason}
 use Rattle.lh_lower.specs.Outcomes.{IsOutcomeAt}
-use Rattle.lh_lower.specs.Lowers.{row_text, IsLowering, IsBehind, IsNext, LowersItem}
+use Rattle.lh_lower.specs.Lowers.{IsLowering, IsBehind, IsNext, LowersItem}
 use Rattle.lh_lower.specs.declared.outcome.Outcome.{Outcome}
 use Rattle.lh_lower.specs.declared.outcome.Outcome.TheVariants as outcome
-use Rattle.lh_lower.specs.declared.lowering.ReportRow.{ReportRow}
 use Rattle.lh_lower.specs.declared.lowering.Lowering.{Lowering}
 use Rattle.lh_lower.proofs.Lowerings.{within, begun, fresh, lowered-more, rows-more, as-kept, as-process, rows-push, within-push}
 

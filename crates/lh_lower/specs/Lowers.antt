@@ -1,18 +1,14 @@
 -- What `lower` answers: the lowered module, and a row for each process.
 use Rattle.std.specs.Prelude.{◌≡◌, ◌<◌, List, [], ◌∷◌, ◌++◌, map}
 use Rattle.std.specs.List.{flat_map}
-use Rattle.lh_unit.specs.Arena.{Arena, IsArena, contents, item_text_at, unit_count, unit_name_at}
+use Rattle.lh_unit.specs.Arena.{Arena, IsArena, contents, item_text_at, unit_count}
 use Rattle.lh_unit.specs.declared.inst.Item.{Item}
 use Rattle.lh_unit.specs.Within.{Each}
 use Rattle.lh_lowered.specs.Lowering.{lowered, lowered_item, item_row, report}
-use Rattle.lh_lowered.specs.Report.{RowText}
+use Rattle.lh_lowered.specs.Report.{row_text}
+use Rattle.lh_lowered.specs.declared.report.ReportRow.{ReportRow}
 use Rattle.lh_copy.specs.Copying.{IsCopying}
-use Rattle.lh_lower.specs.declared.lowering.ReportRow.{ReportRow}
 use Rattle.lh_lower.specs.declared.lowering.Lowering.{Lowering}
-
--- a row with the name of its unit
-abbrev pub row_text : Arena → ReportRow → RowText
-row_text a r = record { unit = unit_name_at a r.unit.0; verdict = r.verdict }
 
 -- The module is the lowered one, and the rows are its report.
 pub record IsLowered (a b : Arena) (rows : List ReportRow) : Type 0 where

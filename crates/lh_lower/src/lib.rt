@@ -6,7 +6,8 @@ pub mod outcome;
 pub mod process;
 pub mod text;
 
-pub use crate::lowering::{Lowered, ReportList, ReportRow, lower};
+pub use crate::lowering::{Lowered, lower};
 pub use crate::outcome::{Outcome, outcome_of};
 pub use crate::process::shape_of_flat;
 pub use crate::text::text_of;
+pub use lh_lowered::{ReportList, ReportRow};

@@ -11,25 +11,13 @@ ghost use Rattle.lh_lower.specs.Lowers.{IsLowered, IsLowering, IsNext, LowersIte
 use crate::outcome::{Outcome, outcome_of};
 use lh_copy::Copying;
 use lh_flat::Flattener;
-use lh_lowered::Verdict;
+use lh_lowered::{ReportList, ReportRow, Verdict};
 use lh_same::laws::{same_trace_law, well_formed_law};
-use lh_types::list::ListOf;
 use lh_types::ty::NoMemory;
 use lh_unit::inst::{Item, UnitId, UnitKind};
 use lh_unit::module::Module;
 use lh_verify::verify::Verified;
 use std::alloc::Global;
-
-/// What became of a process.
-#[derive(Drop)]
-pub struct ReportRow {
-    /// The process, by its id in the module that was lowered.
-    pub unit: UnitId,
-    pub verdict: Verdict,
-}
-
-/// Rows in file order.
-pub type ReportList = ListOf<ReportRow>;
 
 /// A lowered module, and a row for each process.
 #[derive(Drop)]

@@ -1,17 +1,23 @@
 -- What a report says: a line for each process.
 use Rattle.std.specs.Prelude.{ℕ, List, [], ◌∷◌, ◌++◌, codes}
 use Rattle.std.specs.List.{flat_map}
+use Rattle.lh_unit.specs.Arena.{Arena, unit_name_at}
 use Rattle.lh_names.specs.declared.name.UnitName.{UnitName}
 use Rattle.lh_shape.specs.Names.{reason_word}
 use Rattle.lh_lowered.specs.declared.report.Kind.{Kind}
 use Rattle.lh_lowered.specs.declared.report.Kind.TheVariants as kind
 use Rattle.lh_lowered.specs.declared.report.Verdict.{Verdict}
 use Rattle.lh_lowered.specs.declared.report.Verdict.TheVariants as verdict
+use Rattle.lh_lowered.specs.declared.report.ReportRow.{ReportRow}
 
 -- a row of a report: the name of a process, and what becomes of it
 pub record RowText : Type 0 where
   pub unit : UnitName
   pub verdict : Verdict
+
+-- a row with the name of its unit
+abbrev pub row_text : Arena → ReportRow → RowText
+row_text a r = record { unit = unit_name_at a r.unit.0; verdict = r.verdict }
 
 -- the word of a shape
 abbrev pub kind_word : Kind → List ℕ

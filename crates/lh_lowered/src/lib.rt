@@ -4,4 +4,4 @@
 pub mod laws;
 mod report;
 
-pub use crate::report::{Kind, Verdict};
+pub use crate::report::{Kind, ReportList, ReportRow, Verdict};

@@ -3,6 +3,8 @@ ghost use Rattle.lh_lowered.specs.Report.{kind_word, verdict_word, verdict_name}
 ghost use Rattle.std.specs.Prelude.{◌≡◌};
 
 use lh_shape::Reason;
+use lh_types::list::ListOf;
+use lh_unit::inst::UnitId;
 
 /// The shape by which a process becomes an entity.
 #[derive(Clone, Copy, Debug, PartialEq, Eq)]
@@ -58,3 +60,14 @@ impl Verdict {
         }
     }
 }
+
+/// What became of a process.
+#[derive(Drop)]
+pub struct ReportRow {
+    /// The process, by its id in the module that was lowered.
+    pub unit: UnitId,
+    pub verdict: Verdict,
+}
+
+/// Rows in file order.
+pub type ReportList = ListOf<ReportRow>;

@@ -1,11 +1,1 @@
-pub mod Writes
-pub mod Readings
-pub mod Results
-pub mod Callings
-pub mod Performances
-pub mod Simulations
-pub mod Lowerings
-pub mod Loading
-pub mod Tops
-pub mod Accounts
 pub mod Faithfully

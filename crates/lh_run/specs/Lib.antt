@@ -1,7 +1,8 @@
-pub mod Called
-pub mod Simulated
-pub mod Result
-pub mod StatusLines
-pub mod Account
-pub mod Steps
+pub use Rattle.lh_outcome.specs.Called
+pub use Rattle.lh_outcome.specs.Simulated
+pub use Rattle.lh_outcome.specs.Result
+pub use Rattle.lh_outcome.specs.StatusLines
+pub use Rattle.lh_outcome.specs.Account
+pub use Rattle.lh_outcome.specs.Steps
+pub use Rattle.lh_outcome.specs.Written
 pub mod Faithful

@@ -2,9 +2,8 @@
 #![tactic(auto)]
 
 mod command;
-mod load;
 mod lowering;
 mod selftest;
-mod simulate;
-pub mod status;
 pub mod top;
+
+pub use lh_outcome::status;

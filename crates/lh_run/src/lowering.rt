@@ -1,28 +1,21 @@
 //! The command `lower`.
 ghost use Rattle.std.specs.Prelude.{◌≡◌, ◌≤◌, IfOk};
 ghost use Rattle.lh_unit.specs.Arena.{contents};
-ghost use Rattle.lh_run.specs.Account.{use_of};
+ghost use Rattle.lh_outcome.specs.Account.{use_of};
+ghost use Rattle.lh_outcome.specs.Steps.{ended};
+ghost use Rattle.lh_outcome.specs.Written.{WritesLowered, IsTexts};
+ghost use Rattle.lh_outcome.specs.declared.status.Status.TheVariants.{Done};
 ghost use Rattle.lh_run.specs.Faithful.{KeepsTrace};
-ghost use Rattle.lh_run.specs.Steps.{WritesLowered, IsTexts, ended};
-ghost use Rattle.lh_run.specs.declared.status.Status.TheVariants.{Done};
 
-use crate::load::SOURCE_LIMIT;
-use crate::status::Status;
 use lh_io::stream::Sink;
-use lh_io::whole::write_all;
 use lh_lower::{lower, text_of};
 use lh_lowered::laws::lowering_law;
+use lh_outcome::status::Status;
+use lh_outcome::texts::{Texts, write_texts};
 use lh_print::print;
 use lh_types::ty::NoMemory;
 use lh_verify::verify::Verified;
 use std::alloc::Global;
-
-/// The text of a lowered module, and that of the report.
-#[derive(Drop)]
-struct Texts {
-    module: Vec<u8>,
-    report: Vec<u8>,
-}
 
 /// Writes the canonical text of the lowered module, and then a line for each process to the log. Where the text has more bytes than a
 /// source may give, nothing is written.
@@ -37,12 +30,7 @@ pub fn lower_file<O: Sink, L: Sink>(
     ensures never_fall { L.faults log.old ≤ L.faults log.new }
 {
     let texts = texts_of(alloc, file)?;
-    if texts.module.len() > SOURCE_LIMIT {
-        return Err(Status::OutputTooLong);
-    }
-    write_all(out, &texts.module)?;
-    write_all(log, &texts.report)?;
-    Ok(())
+    write_texts(&texts, out, log)
 }
 
 /// The texts of a file that is lowered.

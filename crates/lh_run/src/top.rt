@@ -2,16 +2,17 @@
 ghost use Rattle.std.specs.Prelude.{◌≡◌, ◌≤◌, ◌↔◌, ℕ, List, IfSome, map};
 ghost use Rattle.lh_io.specs.Streams.{Rose};
 ghost use Rattle.lh_io.specs.Whole.{TakesBytes};
-ghost use Rattle.lh_run.specs.Called.{AskSelfTest, IsMisuse};
+ghost use Rattle.lh_outcome.specs.Called.{AskSelfTest, IsMisuse};
 ghost use Rattle.lh_run.specs.Faithful.{LowersFaithfully};
-ghost use Rattle.lh_run.specs.Account.{use_of, OfSource, IsCountFor, IsReadToEndFor, Performs, Account, HasOneResult, IsResultOrNoMemory};
+ghost use Rattle.lh_outcome.specs.Account.{use_of, OfSource, IsCountFor, IsReadToEndFor, Performs, Account, HasOneResult, IsResultOrNoMemory};
 
-use crate::command::{called, carry_out};
-use crate::load::load;
+use crate::command::carry_out;
 use crate::selftest::test_itself;
-use crate::status::Status;
 use lh_chain::laws::reading_law;
 use lh_io::stream::{Sink, Source};
+use lh_outcome::called::called;
+use lh_outcome::load::load;
+use lh_outcome::status::Status;
 use lh_types::list::TextList;
 use lh_watch::watcher::Watcher;
 use lh_words::command::Command;

@@ -2,14 +2,13 @@
 ghost use Rattle.std.specs.Prelude.{◌≡◌, map, count_by, not};
 ghost use Rattle.lh_unit.specs.Arena.{contents};
 ghost use Rattle.lh_lowered.specs.Lowering.{report};
-ghost use Rattle.lh_lower.specs.Lowers.{row_text};
-ghost use Rattle.lh_lower.specs.declared.lowering.ReportRow.{ReportRow as Row};
+ghost use Rattle.lh_lowered.specs.Report.{row_text};
+ghost use Rattle.lh_lowered.specs.declared.report.ReportRow.{ReportRow as Row};
 ghost use Rattle.lh_selftest.specs.Counted.{is_unit_item};
 ghost use Rattle.lh_selftest.specs.SelfTest.{is_lowered as became_entity, units_of};
 
 use lh_generator::summary::Units;
-use lh_lower::ReportRow;
-use lh_lowered::Verdict;
+use lh_lowered::{ReportRow, Verdict};
 use lh_unit::inst::Item;
 use lh_unit::module::Module;
 

@@ -3,12 +3,15 @@
 //!
 //! The program is given the names of files of trials, runs the trials in each, and writes a line for each group of them; above it stands
 //! each trial whose answer is another than the file says. It ends with code 0 where every answer was as said. `lh_script` has the
-//! form of such a file, and `lh_answers` the words by which a text is run.
+//! form of such a file, and `lh_answers` the words by which a text is run; `program` runs the program for them.
 #![tactic(auto)]
 
 ghost use Rattle.std.specs.Prelude.{◌≡◌, nat_eq, if◌then◌else◌};
 ghost use Rattle.std.specs.Process.{exit_status};
 
+mod program;
+
+use crate::program::InMemory;
 use lh_answers::answer::answer;
 use lh_script::score::Score;
 use lh_script::script::{Answers, Script};
@@ -23,7 +26,7 @@ struct Tried;
 
 impl Answers for Tried {
     fn answer(&self, alloc: Global, how: &[u8], text: &[u8]) -> Result<Vec<u8>, NoMemory> {
-        answer(alloc, how, text)
+        answer(alloc, &InMemory, how, text)
     }
 }
 

@@ -1,0 +1,10 @@
+pub mod Writes
+pub mod Readings
+pub mod Results
+pub mod Callings
+pub mod Performances
+pub mod Simulations
+pub mod Loading
+pub mod Tops
+pub mod Accounts
+pub mod Lowerings
