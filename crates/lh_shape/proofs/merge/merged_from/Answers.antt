@@ -1,7 +1,8 @@
 use Rattle.std.proofs.Common.{◌+◌, drop}
 use Rattle.std.proofs.lemmas.List.{drop_all}
 use Rattle.lh_unit.proofs.Lists.{drop-item}
-use Rattle.lh_shape.proofs.Merged.{next-fits, merged-next, merged-end}
+use Rattle.lh_term.proofs.Swaps.{grows_on}
+use Rattle.lh_shape.proofs.Merged.{merged-none, next-fits, merged-next, merged-end}
 use Rattle.lh_shape.proofs.merge.merged_from.Goals as goal
 
 pub take-requires-clause-drive_fits : goal.take-requires-clause-drive_fits
@@ -22,3 +23,19 @@ returns-clause-are c =
     let all = c.args.rest.now in let i = c.loop-drive.drive-index in
     merged-end c.args.terms.now c.loop-drive.terms _ c.loop-drive.merged c.push.new.self c.loop-drive.last (drop i all) (drop_all i all c.loop-drive-test.false) c.in_ok-push.ensures.ok
     c.loop-drive.invariant
+
+pub loop-drive-init : goal.loop-drive-init
+loop-drive-init c =
+    merged-none c.args.terms.now c.args.first.now c.in_ok-last.last c.new-merged.result c.args.rest.now c.new-merged.ensures c.in_ok-last.ensures c.requires.first_fits c.requires.rest_fits
+
+pub take-requires-clause-last_fits : goal.take-requires-clause-last_fits
+take-requires-clause-last_fits c = c.loop-drive.invariant.fits
+
+pub returns-in_err-last-2-clause-kept : goal.returns-in_err-last-2-clause-kept
+returns-in_err-last-2-clause-kept c = grows_on c.args.terms.now c.loop-drive.terms c.take.new.terms c.loop-drive.invariant.grows c.take.ensures.kept
+
+pub returns-in_err-push-clause-kept : goal.returns-in_err-push-clause-kept
+returns-in_err-push-clause-kept c = c.loop-drive.invariant.grows
+
+pub returns-clause-kept : goal.returns-clause-kept
+returns-clause-kept c = c.loop-drive.invariant.grows

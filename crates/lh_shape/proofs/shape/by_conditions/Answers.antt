@@ -1,4 +1,5 @@
 use Rattle.std.proofs.Common.{◌∙◌, ap, subst}
+use Rattle.lh_term.proofs.Swaps.{grows_on}
 use Rattle.lh_shape.specs.ByIds.{parts_on, drives_at, later_drives}
 use Rattle.lh_shape.specs.Answers.{AreRegisters}
 use Rattle.lh_shape.specs.declared.kinds.Shape.TheVariants as kind
@@ -30,3 +31,15 @@ returns-in-Left-clause-is c =
     shape-by ns r x h mid (kind.Left c.in-Left.reason) c.requires.later c.requires.none
     (conditions-left ns r x h mid on c.in-Left.reason (c.in_ok-waited.ensures ∙ ap parts_on c.as_slice.ensures)
     (subst (λ (z : Registers). AreRegisters mid on (drives_at ns (later_drives r)) z) c.in-Left.is c.in_ok-rows.ensures.are))
+
+pub returns-in_err-rows-clause-kept : goal.returns-in_err-rows-clause-kept
+returns-in_err-rows-clause-kept c = c.later_registers.ensures.kept
+
+pub returns-in-Left-clause-kept : goal.returns-in-Left-clause-kept
+returns-in-Left-clause-kept c = c.later_registers.ensures.kept
+
+pub returns-in_err-shape-in-Rows-clause-kept : goal.returns-in_err-shape-in-Rows-clause-kept
+returns-in_err-shape-in-Rows-clause-kept c = grows_on c.args.terms.now c.later_registers.new.terms c.by_target.new.terms c.later_registers.ensures.kept c.by_target.ensures.kept
+
+pub returns-in_ok-shape-in-Rows-clause-kept : goal.returns-in_ok-shape-in-Rows-clause-kept
+returns-in_ok-shape-in-Rows-clause-kept c = grows_on c.args.terms.now c.later_registers.new.terms c.by_target.new.terms c.later_registers.ensures.kept c.by_target.ensures.kept

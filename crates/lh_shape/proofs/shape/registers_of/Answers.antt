@@ -1,10 +1,12 @@
 use Rattle.std.proofs.Common.{◌+◌, Bool, drop, subst, sym}
+use Rattle.std.proofs.lemmas.List.{drop_all}
 use Rattle.lh_unit.proofs.Lists.{drop-item}
+use Rattle.lh_term.proofs.Swaps.{grows_on}
 use Rattle.lh_shape.specs.ByIds.{drives_at}
 use Rattle.lh_shape.specs.Answers.{AddsFound}
 use Rattle.lh_shape.specs.declared.shape.Added.{Added}
 use Rattle.lh_shape.specs.declared.shape.Added.TheVariants as added
-use Rattle.lh_shape.proofs.Edging.{RegistersSoFar, row-fits, found-fits, registers-row, registers-hide, registers-many}
+use Rattle.lh_shape.proofs.Edging.{RegistersSoFar, registers-none, row-fits, found-fits, registers-row, registers-hide, registers-many, registers-end, registers-hidden}
 use Rattle.lh_shape.proofs.shape.registers_of.Goals as goal
 use Rattle.lh_shape.proofs.shape.registers_of.Goals.{in-Row, in-Hidden}
 
@@ -52,3 +54,41 @@ loop-drive-preserved c =
         c.found_for-found.ensures.finds,
       )
     ]
+
+pub loop-drive-init : goal.loop-drive-init
+loop-drive-init c = (registers-none c.args.terms.now c.args.waited.now c.new-rows.result c.args.drives.now c.new-rows.ensures c.requires, tt)
+
+pub found_for-found-requires-clause-is_in : goal.found_for-found-requires-clause-is_in
+found_for-found-requires-clause-is_in c =
+    let all = c.args.drives.now in let i = c.loop-drive.drive-index in let d = c.drive-item.result in
+    let fits = row-fits c.args.terms.now c.loop-drive.terms c.loop-drive.terms c.args.waited.now (drives_at c.args.terms.now all) c.loop-drive.is_hidden c.loop-drive.rows c.loop-drive.rows (drop i all)
+    (drop (i + 1) all) d
+    (drop-item all i d c.loop-drive-test.true c.drive-item.is) c.loop-drive.invariant.0 in
+    fits.cond.is_in
+
+pub found_for-found-requires-clause-last : goal.found_for-found-requires-clause-last
+found_for-found-requires-clause-last c = c.loop-drive.invariant.1
+
+pub returns-in-TooMany-clause-kept : goal.returns-in-TooMany-clause-kept
+returns-in-TooMany-clause-kept c = grows_on c.args.terms.now c.loop-drive.terms c.found_for-found.new.terms c.loop-drive.invariant.0.grows c.found_for-found.ensures.kept
+
+pub returns-in_err-add_registers-clause-kept : goal.returns-in_err-add_registers-clause-kept
+returns-in_err-add_registers-clause-kept c = grows_on c.args.terms.now c.loop-drive.terms c.found_for-found.new.terms c.loop-drive.invariant.0.grows c.found_for-found.ensures.kept
+
+pub returns-then-is_hidden-clause-kept : goal.returns-then-is_hidden-clause-kept
+returns-then-is_hidden-clause-kept c = c.loop-drive.invariant.0.grows
+
+pub returns-clause-kept : goal.returns-clause-kept
+returns-clause-kept c = c.loop-drive.invariant.0.grows
+
+pub returns-then-is_hidden-clause-are : goal.returns-then-is_hidden-clause-are
+returns-then-is_hidden-clause-are c =
+    let all = c.args.drives.now in let i = c.loop-drive.drive-index in
+    registers-hidden c.args.terms.now c.loop-drive.terms c.args.waited.now (drives_at c.args.terms.now all) c.loop-drive.is_hidden c.loop-drive.rows (drop i all) (drop_all i all c.loop-drive-test.false)
+    c.if-is_hidden.true c.loop-drive.invariant.0
+
+pub returns-clause-are : goal.returns-clause-are
+returns-clause-are c =
+    let all = c.args.drives.now in let i = c.loop-drive.drive-index in
+    registers-end c.args.terms.now c.loop-drive.terms c.args.waited.now (drives_at c.args.terms.now all) c.loop-drive.is_hidden c.loop-drive.rows (drop i all) (drop_all i all c.loop-drive-test.false)
+    c.if-is_hidden.false c.loop-drive.invariant.0
