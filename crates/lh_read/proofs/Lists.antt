@@ -1,18 +1,23 @@
 -- Parts of an instruction that are given ids one after another.
-use Rattle.std.proofs.Common.{◌≡◌, ℕ, ◌+◌, ◌<◌, List, [], ◌∷◌, ◌++◌, length, map, take, get_or, Ok, refl, ap, sym, ◌∙◌, subst, append_assoc, arith, add-one}
+use Rattle.std.proofs.Common.{◌≡◌, ℕ, ◌+◌, ◌<◌, List, [], ◌∷◌, ◌++◌, length, map, take, get_or, Option, Ok, refl, ap, sym, ◌∙◌, subst, append_assoc, arith, add-one}
 use Rattle.std.proofs.Math.Seq.{take-suc}
 use Rattle.std.proofs.lemmas.List.{map-append}
-use Rattle.lh_unit.specs.Naming.{Naming, value_text, operand_text, trigger_text, edge_text}
-use Rattle.lh_unit.specs.Within.{Sizes, Each, ValueWithin, OperandWithin, TriggerWithin, EdgeWithin}
-use Rattle.lh_unit.specs.Arena.{Arena, KeepsEntries, naming, sizes}
-use Rattle.lh_unit.specs.Contents.{OperandText, child_text}
+use Rattle.lh_unit.specs.Naming.{Naming, value_text, maybe_text, operand_text, trigger_text, edge_text}
+use Rattle.lh_unit.specs.Within.{Sizes, Each, ValueWithin, MaybeWithin, OperandWithin, TriggerWithin, EdgeWithin}
+use Rattle.lh_unit.specs.Arena.{Arena, KeepsEntries, Grows, naming, sizes}
+use Rattle.lh_unit.specs.Contents.{OperandText, TriggerText, st_text, drv_text, reg_text, child_text, call_text, branch_text, wait_text}
 use Rattle.lh_unit.specs.Builders.{FindsUnit}
 use Rattle.lh_names.specs.declared.name.UnitName.{UnitName}
+use Rattle.lh_types.specs.Types.{TypeTree}
 use Rattle.lh_unit.specs.declared.inst.UnitId.{UnitId}
+use Rattle.lh_unit.specs.declared.inst.BlockId.{BlockId}
+use Rattle.lh_unit.specs.declared.inst.ValueId.{ValueId}
+use Rattle.lh_unit.specs.declared.inst.Mode.{Mode}
+use Rattle.lh_unit.specs.declared.inst.RegTrigger.{RegTrigger}
 use Rattle.lh_unit.specs.declared.inst.Typed.{Typed}
 use Rattle.lh_unit.specs.declared.inst.Inst.TheVariants as inst
-use Rattle.lh_unit.proofs.ModuleLaws.{KeepsEntries-trans, Grows-trans, Each-push, ValueWithin-keeps, OperandWithin-keeps, TriggerWithin-keeps, EdgeWithin-keeps, value_text-keeps, operand_text-keeps, trigger_text-keeps, edge_text-keeps}
-use Rattle.lh_read.specs.Placing.{Placed, AllPlaced, OperandsPlaced, InstPlacedAs}
+use Rattle.lh_unit.proofs.ModuleLaws.{KeepsEntries-trans, Grows-trans, Each-push, ValueWithin-keeps, MaybeWithin-keeps, OperandWithin-keeps, TriggerWithin-keeps, EdgeWithin-keeps, value_text-keeps, maybe_text-keeps, operand_text-keeps, trigger_text-keeps, edge_text-keeps}
+use Rattle.lh_read.specs.Placing.{LabelWithin, label_said, Placed, LabelPlaced, ValuePlaced, MaybePlaced, OperandPlaced, TriggerPlaced, EdgePlaced, AllPlaced, OperandsPlaced, TriggersPlaced, SignalsPlaced, InstPlacedAs}
 use Rattle.lh_unit.proofs.Within.{Each-more}
 
 -- what is in place stays in place and says the same as entries are added
@@ -22,6 +27,12 @@ pub record Keeps {X T : Type 0} (W : Sizes → X → Type 0) (text : Naming → 
 
 pub values-keep : Keeps ValueWithin value_text
 values-keep = record { within = ValueWithin-keeps; says = value_text-keeps }
+
+maybes-keep : Keeps MaybeWithin maybe_text
+maybes-keep = record { within = MaybeWithin-keeps; says = maybe_text-keeps }
+
+labels-keep : Keeps LabelWithin label_said
+labels-keep = record { within = λ a b u k x h. omega (arith, h, k.labels u); says = λ a b u k x h. k.label_names u x.0 h }
 
 pub operands-keep : Keeps OperandWithin operand_text
 operands-keep = record { within = OperandWithin-keeps; says = operand_text-keeps }
@@ -43,6 +54,14 @@ module _ {X T : Type 0} {W : Sizes → X → Type 0} {text : Naming → X → T}
   still : (a b : Arena) (u : ℕ) (xs : List X) → KeepsEntries a b → Each (W (sizes a u)) xs → map (text (naming b u)) xs ≡ map (text (naming a u)) xs
   still a b u [] k h = refl
   still a b u (x ∷ xs) k h = λ i. keeps.says a b u k x h.0 i ∷ still a b u xs k h.1 i
+
+  -- a part that is in place, once there are more entries
+  later : (a b c : Arena) (u : UnitId) (x : X) (t : T) → Placed W text a b u x t → Grows b c → Placed W text a c u x t
+  later a b c u x t p g = record {
+    grows = Grows-trans a b c p.grows g;
+    within = keeps.within b c u.0 g.entries x p.within;
+    says = keeps.says b c u.0 g.entries x p.within ∙ p.says;
+  }
 
   -- one part more
   pub next-placed : (a b c : Arena) (u : UnitId) (xs zs : List X) (x : X) (ts us : List T) (t : T) → AllPlaced W text a b u xs ts → Placed W text b c u x t → zs ≡ xs ++ x ∷ [] → us ≡ ts ++ t ∷ []
@@ -81,3 +100,66 @@ child-placed a b c d u f ins outs n ss rs p q r =
       );
       says = λ i. child_text ((k.unit_names f.0 p.1 ∙ p.2) i) ((still operands-keep c d u.0 ins r.grows.entries q.within ∙ q.says) i) (r.says i);
     }
+
+-- a `call`, whose unit is found before its operands
+pub call-placed : (a b c : Arena) (u f : UnitId) (ty : TypeTree) (args : List Typed) (n : UnitName) (ss : List OperandText) → FindsUnit (Ok f) a b n → OperandsPlaced b c u args ss
+    → InstPlacedAs a c u (inst.Call f ty args) (call_text n ty ss)
+call-placed a b c u f ty args n ss p q =
+    let k = q.grows.entries in
+    record {
+      grows = Grows-trans a b c p.0.grows q.grows;
+      within = (omega (arith, p.1, k.units), q.within);
+      says = λ i. call_text ((k.unit_names f.0 p.1 ∙ p.2) i) ty (q.says i);
+    }
+
+-- the other parts and instructions of more than one part
+pub st-placed : (a b c : Arena) (u : UnitId) (to : Typed) (v : ValueId) (x : OperandText) (y : List ℕ) → OperandPlaced a b u to x → ValuePlaced b c u v y
+    → InstPlacedAs a c u (inst.St to v) (st_text x y)
+st-placed a b c u to v x y p q =
+    let o = later operands-keep a b c u to x p q.grows in
+    record { grows = o.grows; within = (o.within, q.within); says = λ i. st_text (o.says i) (q.says i) }
+
+pub drv-placed : (a b c d e : Arena) (u : UnitId) (to : Typed) (v after : ValueId) (cond : Option ValueId) (x : OperandText) (y z : List ℕ) (w : Option (List ℕ)) → OperandPlaced a b u to x
+    → ValuePlaced b c u v y → ValuePlaced c d u after z → MaybePlaced d e u cond w → InstPlacedAs a e u (inst.Drv to v after cond) (drv_text x y z w)
+drv-placed a b c d e u to v after cond x y z w p q r s =
+    let g = Grows-trans c d e r.grows s.grows in
+    let o = later operands-keep a b e u to x p (Grows-trans b c e q.grows g) in
+    let m = later values-keep b c e u v y q g in
+    let n = later values-keep c d e u after z r s.grows in
+    record { grows = o.grows; within = (o.within, m.within, n.within, s.within); says = λ i. drv_text (o.says i) (m.says i) (n.says i) (s.says i) }
+
+pub reg-placed : (a b c : Arena) (u : UnitId) (to : Typed) (by : List RegTrigger) (x : OperandText) (ys : List TriggerText) → OperandPlaced a b u to x → TriggersPlaced b c u by ys
+    → InstPlacedAs a c u (inst.Reg to by) (reg_text x ys)
+reg-placed a b c u to by x ys p q =
+    let o = later operands-keep a b c u to x p q.grows in
+    record { grows = o.grows; within = (o.within, q.within); says = λ i. reg_text (o.says i) (q.says i) }
+
+pub branch-placed : (a b c d : Arena) (u : UnitId) (cond : ValueId) (zero one : BlockId) (x y z : List ℕ) → ValuePlaced a b u cond x → LabelPlaced b c u zero y → LabelPlaced c d u one z
+    → InstPlacedAs a d u (inst.Branch cond zero one) (branch_text x y z)
+branch-placed a b c d u cond zero one x y z p q r =
+    let o = later values-keep a b d u cond x p (Grows-trans b c d q.grows r.grows) in
+    let m = later labels-keep b c d u zero y q r.grows in
+    record { grows = o.grows; within = (o.within, m.within, r.within); says = λ i. branch_text (o.says i) (m.says i) (r.says i) }
+
+pub wait-placed : (a b c d : Arena) (u : UnitId) (to : BlockId) (after : Option ValueId) (signals : List ValueId) (x : List ℕ) (y : Option (List ℕ)) (zs : List (List ℕ)) → LabelPlaced a b u to x
+    → MaybePlaced b c u after y → SignalsPlaced c d u signals zs → InstPlacedAs a d u (inst.Wait to after signals) (wait_text x y zs)
+wait-placed a b c d u to after signals x y zs p q r =
+    let o = later labels-keep a b d u to x p (Grows-trans b c d q.grows r.grows) in
+    let m = later maybes-keep b c d u after y q r.grows in
+    record { grows = o.grows; within = (o.within, m.within, r.within); says = λ i. wait_text (o.says i) (m.says i) (r.says i) }
+
+pub edge-placed : (a b c : Arena) (u : UnitId) (v : ValueId) (block : BlockId) (x y : List ℕ) → ValuePlaced a b u v x → LabelPlaced b c u block y
+    → EdgePlaced a c u (record { value = v; block = block }) (record { value = x; block = y })
+edge-placed a b c u v block x y p q =
+    let o = later values-keep a b c u v x p q.grows in
+    record { grows = o.grows; within = (o.within, q.within); says = λ i. record { value = o.says i; block = q.says i } }
+
+pub trigger-placed : (a b c d e : Arena) (u : UnitId) (v : ValueId) (mode : Mode) (on : ValueId) (gate after : Option ValueId) (x y : List ℕ) (z w : Option (List ℕ)) → ValuePlaced a b u v x
+    → ValuePlaced b c u on y → MaybePlaced c d u gate z → MaybePlaced d e u after w
+    → TriggerPlaced a e u (record { value = v; mode = mode; trigger = on; gate = gate; after = after }) (record { value = x; mode = mode; trigger = y; gate = z; after = w })
+trigger-placed a b c d e u v mode on gate after x y z w p q r s =
+    let g = Grows-trans c d e r.grows s.grows in
+    let o = later values-keep a b e u v x p (Grows-trans b c e q.grows g) in
+    let m = later values-keep b c e u on y q g in
+    let n = later maybes-keep c d e u gate z r s.grows in
+    record { grows = o.grows; within = (o.within, m.within, n.within, s.within); says = λ i. record { value = o.says i; mode = mode; trigger = m.says i; gate = n.says i; after = s.says i } }
