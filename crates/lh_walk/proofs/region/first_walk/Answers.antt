@@ -1,11 +1,12 @@
 use Rattle.std.proofs.Common.{refl}
-use Rattle.std.proofs.lemmas.Result.{IfOk-weaker, IfErr-weaker}
+use Rattle.std.proofs.lemmas.Result.{err_from_is_err_and, IfOk-weaker, IfErr-weaker}
 use Rattle.lh_walk.specs.declared.walk.WalkPoint.{WalkPoint}
 use Rattle.lh_walk.specs.Both.{GoesFirst, FirstStops}
 use Rattle.lh_region.specs.Starts.{lines_left}
 use Rattle.lh_walk.specs.Turns.{GoesThrough, GoesNot}
 use Rattle.lh_walk.proofs.First.{IsHeadPlace, constants-grown, can-start, goes-first, first-stops}
 use Rattle.lh_walk.proofs.Forming.{entry-fits}
+use Rattle.lh_term.proofs.Swaps.{grows_on}
 use Rattle.lh_walk.proofs.region.first_walk.Goals as goal
 
 pub start_of-requires : goal.start_of-requires
@@ -63,3 +64,30 @@ returns-clause-cause c =
       cond = c.in_ok-cond.ensures.made;
     } in
     IfErr-weaker c.walk_from.result (GoesNot ns r ps at) (FirstStops r) (λ e g. first-stops r ns ps at k c.requires.goes_on e g) c.walk_from.ensures.cause
+
+pub returns-in_err-start-clause-kept : goal.returns-in_err-start-clause-kept
+returns-in_err-start-clause-kept c = c.start_of.ensures.kept
+
+pub returns-in_err-places-clause-kept : goal.returns-in_err-places-clause-kept
+returns-in_err-places-clause-kept c = c.start_of.ensures.kept
+
+pub returns-in_err-cond-clause-kept : goal.returns-in_err-cond-clause-kept
+returns-in_err-cond-clause-kept c = grows_on c.args.terms.now c.start_of.new.terms c.bit.new.terms c.start_of.ensures.kept c.bit.ensures.kept
+
+pub returns-clause-kept : goal.returns-clause-kept
+returns-clause-kept c = grows_on c.args.terms.now c.bit.new.terms c.walk_from.new.terms (grows_on c.args.terms.now c.start_of.new.terms c.bit.new.terms c.start_of.ensures.kept c.bit.ensures.kept) c.walk_from.ensures.kept
+
+pub returns-in_err-start-clause-cause : goal.returns-in_err-start-clause-cause
+returns-in_err-start-clause-cause c =
+    let p = err_from_is_err_and c.from_residual.result c.from_residual.ensures.1 in
+    rw (p.1, p.2) (λ f h. tt)
+
+pub returns-in_err-places-clause-cause : goal.returns-in_err-places-clause-cause
+returns-in_err-places-clause-cause c =
+    let p = err_from_is_err_and c.from_residual-in_err-places.result c.from_residual-in_err-places.ensures.1 in
+    rw (p.1, p.2) (λ f h. tt)
+
+pub returns-in_err-cond-clause-cause : goal.returns-in_err-cond-clause-cause
+returns-in_err-cond-clause-cause c =
+    let p = err_from_is_err_and c.from_residual-in_err-cond.result c.from_residual-in_err-cond.ensures.1 in
+    rw (p.1, p.2) (λ f h. tt)

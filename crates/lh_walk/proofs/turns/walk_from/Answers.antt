@@ -1,5 +1,7 @@
 use Rattle.std.proofs.Common.{refl, arith}
 use Rattle.lh_walk.proofs.Through.{fresh, start-can, start-turn, start-within, goes-through, goes-not-first, goes-not-later}
+use Rattle.lh_term.proofs.Swaps.{grows_on}
+use Rattle.lh_joins.proofs.Conditions.{grows-none}
 use Rattle.lh_walk.proofs.turns.walk_from.Goals as goal
 
 pub treat-requires : goal.treat-requires
@@ -45,3 +47,15 @@ returns-in-Ok-treat_turns-clause-through c =
     (fresh c.args.region.now c.args.places.items (record { places = c.args.places; ahead = c.in_ok-new.field-0; insts = 0; rows = c.new-2.result; sources = c.new-3.result }) c.len.result c.len.ensures
     refl c.in_ok-new.ensures.here c.in_ok-new.ensures.next refl c.new-2.ensures.probes c.new-2.ensures.drives c.new-2.ensures.asserts c.new-2.ensures.ends c.new-3.ensures) c.treat.new.terms
     c.treat.new.self c.in-Ok.ensures.treated c.treat_turns.new.terms c.treat_turns.new.self c.in-Ok-treat_turns.ensures.passed
+
+pub returns-in_err-new-clause-kept : goal.returns-in_err-new-clause-kept
+returns-in_err-new-clause-kept c = grows-none c.args.terms.now
+
+pub returns-in-Err-clause-kept : goal.returns-in-Err-clause-kept
+returns-in-Err-clause-kept c = c.treat.ensures.kept
+
+pub returns-in-Err-treat_turns-clause-kept : goal.returns-in-Err-treat_turns-clause-kept
+returns-in-Err-treat_turns-clause-kept c = grows_on c.args.terms.now c.treat.new.terms c.treat_turns.new.terms c.treat.ensures.kept c.treat_turns.ensures.kept
+
+pub returns-in-Ok-treat_turns-clause-kept : goal.returns-in-Ok-treat_turns-clause-kept
+returns-in-Ok-treat_turns-clause-kept c = grows_on c.args.terms.now c.treat.new.terms c.treat_turns.new.terms c.treat.ensures.kept c.treat_turns.ensures.kept

@@ -7,6 +7,8 @@ use Rattle.lh_walk.specs.declared.walk.Walk.{Walk}
 use Rattle.lh_walk.specs.Walked.{TakesLine}
 use Rattle.lh_walk.proofs.TakingLines.{drive-told, may-test, tested, drives-on, drive-condition, can-drive, drive-next}
 use Rattle.lh_walk.proofs.Answered.{ok-three}
+use Rattle.lh_term.proofs.Swaps.{grows_on}
+use Rattle.lh_joins.proofs.Conditions.{grows-none}
 use Rattle.lh_walk.proofs.walk.Walk.take_drive.Goals as goal
 
 pub part_of-requires-clause-there : goal.part_of-requires-clause-there
@@ -70,3 +72,12 @@ returns-clause-taken c =
     c.in_ok-cond.cond st os q c.in_ok-part.part c.in-Drv.is c.in_ok-part.ensures c.drive_cond.ensures.kept c.drive.ensures.kept (record { ahead = refl; counted = refl; sources = refl })
     c.in_ok-cond.ensures.same same still rows)
     c.drive.ensures.same c.drive.ensures.still c.drive.ensures.rows
+
+pub returns-in_err-part-clause-kept : goal.returns-in_err-part-clause-kept
+returns-in_err-part-clause-kept c = grows-none c.args.terms.now
+
+pub returns-in_err-cond-clause-kept : goal.returns-in_err-cond-clause-kept
+returns-in_err-cond-clause-kept c = c.drive_cond.ensures.kept
+
+pub returns-clause-kept : goal.returns-clause-kept
+returns-clause-kept c = grows_on c.args.terms.now c.drive_cond.new.terms c.drive.new.terms c.drive_cond.ensures.kept c.drive.ensures.kept

@@ -3,6 +3,7 @@ use Rattle.std.proofs.lemmas.Result.{IfErr-weaker, on_ok_weaker}
 use Rattle.lh_walk.specs.Merges.{EndsLines, EndsLinesFor}
 use Rattle.lh_walk.specs.Walked.{EndsLine, EndsFor}
 use Rattle.lh_walk.proofs.Treated.{last-split, inner-can, inner-nowhere, last-leads, last-can, ends-lines, ends-for}
+use Rattle.lh_term.proofs.Swaps.{grows_on}
 use Rattle.lh_walk.proofs.walk.Walk.take_lines.Goals as goal
 
 pub take_inner-requires-clause-can : goal.take_inner-requires-clause-can
@@ -41,3 +42,9 @@ returns-clause-cause c =
     let ls = c.args.lines.now in let l = c.last-item.result in
     IfErr-weaker c.leave.result (EndsFor ms r q at l) (EndsLinesFor ns r w at ls)
     (λ x e. ends-for ns r w at ls (take (length ls - 1) ls) l (last-split ls l c.in-len1-up.len_at_least c.last-item.is) ms q c.in_ok-take_inner.ensures.taken x e) c.leave.ensures.cause
+
+pub returns-in_err-take_inner-clause-kept : goal.returns-in_err-take_inner-clause-kept
+returns-in_err-take_inner-clause-kept c = c.take_inner.ensures.kept
+
+pub returns-clause-kept : goal.returns-clause-kept
+returns-clause-kept c = grows_on c.args.terms.now c.take_inner.new.terms c.leave.new.terms c.take_inner.ensures.kept c.leave.ensures.kept

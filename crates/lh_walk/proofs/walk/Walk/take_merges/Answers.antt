@@ -3,6 +3,7 @@ use Rattle.lh_flat.specs.declared.flat.FlatBlock.{FlatBlock}
 use Rattle.lh_term.proofs.Swaps.{grows_on}
 use Rattle.lh_region.specs.Heads.{begins_with_phi}
 use Rattle.lh_walk.proofs.Opened.{block-read, plain-between, lines-before, merge-before, merges-taken}
+use Rattle.lh_joins.proofs.Conditions.{grows-none}
 use Rattle.lh_walk.proofs.walk.Walk.take_merges.Goals as goal
 
 pub returns-then-not-begins_with_phi-clause-taken : goal.returns-then-not-begins_with_phi-clause-taken
@@ -41,3 +42,15 @@ returns-clause-taken c f name before h b x xs d o =
     c.take_phis.new.terms c.take_phis.new.places.items c.in_ok-take_phis.ensures.taken c.take_merge.new.terms _
     (grows_on c.args.terms.now c.take_phis.new.terms c.take_merge.new.terms c.take_phis.ensures.kept c.take_merge.ensures.kept)
     refl refl refl refl c.in_ok-take_merge.ensures.taken
+
+pub returns-in_err-take_phis-clause-kept : goal.returns-in_err-take_phis-clause-kept
+returns-in_err-take_phis-clause-kept c = c.take_phis.ensures.kept
+
+pub returns-in_err-take_merge-clause-kept : goal.returns-in_err-take_merge-clause-kept
+returns-in_err-take_merge-clause-kept c = grows_on c.args.terms.now c.take_phis.new.terms c.take_merge.new.terms c.take_phis.ensures.kept c.take_merge.ensures.kept
+
+pub returns-clause-kept : goal.returns-clause-kept
+returns-clause-kept c = grows_on c.args.terms.now c.take_phis.new.terms c.take_merge.new.terms c.take_phis.ensures.kept c.take_merge.ensures.kept
+
+pub returns-then-not-begins_with_phi-clause-kept : goal.returns-then-not-begins_with_phi-clause-kept
+returns-then-not-begins_with_phi-clause-kept c = grows-none c.args.terms.now

@@ -1,9 +1,10 @@
 use Rattle.std.proofs.Common.{◌≡◌, ◌∙◌, ◌+◌, ℕ, List, get_or, ap, subst}
-use Rattle.std.proofs.lemmas.Result.{IfErr-weaker, on_ok_weaker}
+use Rattle.std.proofs.lemmas.Result.{err_from_is_err_and, IfErr-weaker, on_ok_weaker}
 use Rattle.lh_flat.specs.declared.flat.FlatBlock.{FlatBlock}
 use Rattle.lh_walk.specs.Merges.{EndsLines, EndsLinesFor}
 use Rattle.lh_walk.specs.Walked.{Treats, TreatsNot}
-use Rattle.lh_walk.proofs.Treated.{can-treat-counted, lines-after, lines-end, treats, treats-not}
+use Rattle.lh_walk.proofs.Treated.{can-treat-counted, lines-after, lines-end, treats, treats-not, no-memory}
+use Rattle.lh_term.proofs.Swaps.{grows_on}
 use Rattle.lh_walk.proofs.walk.Walk.treat.Goals as goal
 
 pub take_merges-requires : goal.take_merges-requires
@@ -44,3 +45,14 @@ returns-clause-cause c =
     c.in_ok-take_merges.ensures.taken
     (c.in-Some.ensures.0 ∙ ap (λ (k : ℕ). w.insts + k) c.len.ensures) c.in-Some.ensures.1 x e)
     c.take_lines.ensures.cause
+
+pub returns-in_err-take_merges-clause-kept : goal.returns-in_err-take_merges-clause-kept
+returns-in_err-take_merges-clause-kept c = c.take_merges.ensures.kept
+
+pub returns-clause-kept : goal.returns-clause-kept
+returns-clause-kept c = grows_on c.args.terms.now c.take_merges.new.terms c.take_lines.new.terms c.take_merges.ensures.kept c.take_lines.ensures.kept
+
+pub returns-in_err-take_merges-clause-cause : goal.returns-in_err-take_merges-clause-cause
+returns-in_err-take_merges-clause-cause c =
+    let p = err_from_is_err_and c.from_residual.result c.from_residual.ensures.1 in
+    rw (p.1, p.2) (no-memory c.args.terms.now c.args.region.now c.args.self.now c.args.at)

@@ -1,12 +1,16 @@
-use Rattle.std.proofs.Common.{[], ◌∷◌, ◌+◌, refl, sym, subst, ◌∙◌}
-use Rattle.std.proofs.lemmas.Result.{IfErr-weaker, on_ok_weaker}
+use Rattle.std.proofs.Common.{◌≡◌, List, [], ◌∷◌, ◌+◌, length, refl, sym, subst, ◌∙◌, arith}
+use Rattle.std.proofs.lemmas.Result.{err_from_is_err_and, IfErr-weaker, on_ok_weaker}
 use Rattle.lh_joins.specs.Joins.{AreConditions}
 use Rattle.lh_walk.specs.declared.walk.Walk.{Walk}
 use Rattle.lh_walk.specs.declared.walk.WalkPoint.{WalkPoint}
 use Rattle.lh_region.specs.Walking.{place_of}
 use Rattle.lh_walk.specs.Walked.{Treats, TreatsNot}
 use Rattle.lh_walk.specs.Turns.{Passes, Stops, walks_at}
-use Rattle.lh_walk.proofs.Reached.{edges-can, begins-by, some-led, treat-can, passes-block, stops-block}
+use Rattle.lh_walk.proofs.Reached.{reached-none, edges-can, begins-by, some-led, treat-can, passes-block, stops-block}
+use Rattle.lh_term.proofs.Swaps.{grows_on}
+use Rattle.lh_region.specs.declared.rows.RegionFault.TheVariants.{OutOfMemory}
+use Rattle.lh_walk.proofs.Turned.{stops-memory}
+use Rattle.lh_joins.specs.declared.edge.Edge.{Edge}
 use Rattle.lh_walk.proofs.walk.Walk.treat_block.Goals as goal
 
 pub any_of-requires : goal.any_of-requires
@@ -50,3 +54,32 @@ returns-clause-cause c =
     c.in_ok-cond.ensures.made in
     IfErr-weaker c.treat.result (TreatsNot ms r q at) (Stops (walks_at ns r w c.args.turn c.args.block) r (place_of c.args.turn c.args.block ∷ []))
     (λ e t. stops-block ns r w c.args.turn c.args.block c.requires.block some ms q at b c.requires.within e t) c.treat.ensures.cause
+
+pub returns-in_err-cond-clause-kept : goal.returns-in_err-cond-clause-kept
+returns-in_err-cond-clause-kept c = c.any_of.ensures.kept
+
+pub returns-in_err-begin-clause-kept : goal.returns-in_err-begin-clause-kept
+returns-in_err-begin-clause-kept c = c.any_of.ensures.kept
+
+pub returns-clause-kept : goal.returns-clause-kept
+returns-clause-kept c = grows_on c.args.terms.now c.any_of.new.terms c.treat.new.terms c.any_of.ensures.kept c.treat.ensures.kept
+
+pub returns-in_err-cond-clause-cause : goal.returns-in_err-cond-clause-cause
+returns-in_err-cond-clause-cause c =
+    let p = err_from_is_err_and c.from_residual.result c.from_residual.ensures.1 in
+    rw (p.1, p.2) (stops-memory (walks_at c.args.terms.now c.args.region.now c.args.self.now c.args.turn c.args.block) c.args.region.now (place_of c.args.turn c.args.block ∷ []) OutOfMemory refl)
+
+pub returns-in_err-begin-clause-cause : goal.returns-in_err-begin-clause-cause
+returns-in_err-begin-clause-cause c =
+    let p = err_from_is_err_and c.from_residual-in_err-begin.result c.from_residual-in_err-begin.ensures.1 in
+    rw (p.1, p.2) (stops-memory (walks_at c.args.terms.now c.args.region.now c.args.self.now c.args.turn c.args.block) c.args.region.now (place_of c.args.turn c.args.block ∷ []) OutOfMemory refl)
+
+empty : (es : List Edge) → length es ≡ 0 → es ≡ []
+empty [] e = refl
+empty (x ∷ xs) e = absurd (omega (arith, e))
+
+pub returns-then-len-eq0-clause-passed : goal.returns-then-len-eq0-clause-passed
+returns-then-len-eq0-clause-passed c =
+    let w = c.args.self.now in
+    let none = empty c.reach-edges.result (sym c.len.ensures ∙ c.if-len-eq0.true) in
+    reached-none c.args.terms.now c.args.region.now w (record { places = w.places; ahead = c.reach-edges.new.self; insts = w.insts; rows = w.rows; sources = w.sources }) c.args.turn c.args.block (sym c.reach-edges.ensures.edges ∙ none) refl c.reach-edges.ensures.here c.reach-edges.ensures.next refl refl refl

@@ -1,6 +1,9 @@
 use Rattle.std.proofs.Common.{◌≡◌, ◌+◌, ◌<◌, length, refl, arith}
 use Rattle.std.proofs.lemmas.Result.{err_from_is_err_and}
-use Rattle.lh_walk.proofs.Turned.{turn-first, turn-can, turn-next, turn-stops, turn-done}
+use Rattle.lh_walk.proofs.Turned.{stops-memory, turn-first, turn-can, turn-next, turn-stops, turn-done}
+use Rattle.lh_term.proofs.Swaps.{grows_on}
+use Rattle.lh_region.specs.declared.rows.RegionFault.TheVariants.{OutOfMemory}
+use Rattle.lh_walk.specs.Turns.{turns_at, places_of}
 use Rattle.lh_walk.proofs.walk.Walk.treat_turn.Goals as goal
 
 pub loop-block-init : goal.loop-block-init
@@ -31,3 +34,17 @@ returns-clause-passed c =
     turn-done c.args.terms.now c.args.region.now c.args.self.now c.args.turn c.args.first c.loop-block.terms c.loop-block.self c.loop-block.block c.loop-block.invariant
     (record { places = c.loop-block.self.places; ahead = c.turn.new.self; insts = c.loop-block.self.insts; rows = c.loop-block.self.rows; sources = c.loop-block.self.sources }) n e
     c.in_ok-turn.ensures.here c.in_ok-turn.ensures.next refl refl refl refl
+
+pub returns-in_err-treat_block-clause-kept : goal.returns-in_err-treat_block-clause-kept
+returns-in_err-treat_block-clause-kept c = grows_on c.args.terms.now c.loop-block.terms c.treat_block.new.terms c.loop-block.invariant.grows c.treat_block.ensures.kept
+
+pub returns-clause-kept : goal.returns-clause-kept
+returns-clause-kept c = c.loop-block.invariant.grows
+
+pub returns-in_err-turn-clause-kept : goal.returns-in_err-turn-clause-kept
+returns-in_err-turn-clause-kept c = c.loop-block.invariant.grows
+
+pub returns-in_err-turn-clause-cause : goal.returns-in_err-turn-clause-cause
+returns-in_err-turn-clause-cause c =
+    let p = err_from_is_err_and c.from_residual-in_err-turn.result c.from_residual-in_err-turn.ensures.1 in
+    rw (p.1, p.2) (stops-memory (turns_at c.args.terms.now c.args.region.now c.args.self.now c.args.turn c.args.first) c.args.region.now (places_of c.args.turn (length c.args.region.now.flat.now.blocks)) OutOfMemory refl)

@@ -2,6 +2,7 @@ use Rattle.std.proofs.Common.{◌≡◌, ◌+◌, ◌≤◌, length, refl, sym, 
 use Rattle.std.proofs.lemmas.Result.{err_from_is_err_and}
 use Rattle.lh_rows.specs.Regions.{max_turns}
 use Rattle.lh_walk.proofs.Turned.{first-stops, turns-first, turns-can, turns-next, turns-stops, turns-done, turns-end}
+use Rattle.lh_term.proofs.Swaps.{grows_on}
 use Rattle.lh_walk.proofs.walk.Walk.treat_turns.Goals as goal
 
 pub returns-in_err-treat_turn-clause-cause : goal.returns-in_err-treat_turn-clause-cause
@@ -44,3 +45,15 @@ returns-clause-passed c =
     let e : c.loop-turn.turn ≡ 257 = omega (arith, c.loop-turn-test.false, c.loop-turn.auto.turn-end, c.loop-turn.auto.turn) in
     turns-done c.args.terms.now c.args.region.now c.args.self.now c.args.first (length c.args.region.now.flat.now.blocks) c.loop-turn.terms c.loop-turn.self c.loop-turn.turn c.loop-turn.invariant e
     refl
+
+pub returns-in_err-treat_turn-clause-kept : goal.returns-in_err-treat_turn-clause-kept
+returns-in_err-treat_turn-clause-kept c = c.treat_turn.ensures.kept
+
+pub returns-then-is_empty-clause-kept : goal.returns-then-is_empty-clause-kept
+returns-then-is_empty-clause-kept c = c.loop-turn.invariant.grows
+
+pub returns-in_err-treat_turn-2-clause-kept : goal.returns-in_err-treat_turn-2-clause-kept
+returns-in_err-treat_turn-2-clause-kept c = grows_on c.args.terms.now c.loop-turn.terms c.treat_turn-in-loop-turn.new.terms c.loop-turn.invariant.grows c.treat_turn-in-loop-turn.ensures.kept
+
+pub returns-clause-kept : goal.returns-clause-kept
+returns-clause-kept c = c.loop-turn.invariant.grows
