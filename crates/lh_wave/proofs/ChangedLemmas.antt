@@ -97,6 +97,13 @@ same_unchanged (n ∷ ns) [] k e h = absurd (omega arith)
 same_unchanged (n ∷ ns) (w ∷ ws) zero e h = λ d. ap (λ o. present_value o w) (sym h)
 same_unchanged (n ∷ ns) (w ∷ ws) (suc k) e h = same_unchanged ns ws k (omega arith) h
 
+-- one more signal without a new value
+pub none_more : (ns : List (Option Val)) → ((k : ℕ) → HasNone ns k) → (k : ℕ) → HasNone (ns ++ None ∷ []) k
+none_more [] h zero = refl
+none_more [] h (suc k) = refl
+none_more (n ∷ ns) h zero = h 0
+none_more (n ∷ ns) h (suc k) = none_more ns (λ j. h (suc j)) k
+
 none_cleared : (ns : List (Option Val)) (k : ℕ) → k < length ns → (j : ℕ) → HasNone ns j → HasNone (set ns k None) j
 none_cleared ns k l j h = elim (cases_eq j k) [
   | inl s ↦ ap (λ n. get_or (set ns k None) n None) s ∙ get_or-set_same ns k None None l

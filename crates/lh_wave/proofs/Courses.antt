@@ -18,9 +18,10 @@ use Rattle.lh_wave.specs.declared.scribe.Scribe.{Scribe}
 use Rattle.lh_wave.specs.declared.teller.Teller.{Teller}
 use Rattle.lh_wave.specs.declared.run.WaveFault.{WaveFault}
 use Rattle.lh_wave.specs.declared.run.WaveFault.TheVariants.{WriteFault, OutOfMemory}
+use Rattle.lh_wave.specs.declared.ending.End.{End}
 use Rattle.lh_wave.specs.ShownRun.{ShownRun}
 use Rattle.lh_wave.specs.BrokenOff.{HaveSeen, no_more, in_part, one_more, AppendsPrefix, BreaksOff}
-use Rattle.lh_wave.specs.Going.{Going, Went, BrokeOff, IsNext, IsTold, going, shows_one, text_left, text_ahead, pictures_ahead}
+use Rattle.lh_wave.specs.Going.{Going, Went, BrokeOff, IsNext, IsPut, IsPassedOn, IsTold, going, shows_one, text_left, text_ahead, pictures_ahead}
 
 -- two pieces that were appended are one
 pub told_both : (a b c : Option (List ℕ)) (x y : List ℕ) → Appends a b x → Appends b c y → Appends a c (x ++ y)
@@ -75,6 +76,22 @@ none_of e a t o = subst (λ (f : WaveFault). BreaksOff f a a t) (sym o) (at)
 
 pub all_of : (e : WaveFault) (a b : Option (List ℕ)) (p t : List ℕ) → e ≡ OutOfMemory → Appends a b p → BreaksOff e a b (p ++ t)
 all_of e a b p t o h = behind_piece e a b b p t h (none_of e b t o)
+
+-- what was put behind what waited is told, and a piece of it is passed on
+pub told_on : (old new : Scribe) (before : Option (List Datum)) (f : Frame) (was now rest : List ℕ) (a b : Option (List ℕ)) → IsPut old new before f was now → IsPassedOn now rest a b
+    → IsTold old new before f was rest a b
+told_on old new before f was now rest a b p o = record {
+  piece = o.piece;
+  behind = p.behind;
+  text = λ more left end. sym (p.text more left end) ∙ ap (λ l. l ++ text_left new (Some f.values) more left end) o.text ∙ append_assoc o.piece rest (text_left new (Some f.values) more left end);
+  told = o.told;
+}
+
+pub told_broken : (e : WaveFault) (old new : Scribe) (before : Option (List Datum)) (f : Frame) (was now : List ℕ) (a b : Option (List ℕ)) (more : List Frame) (left : List Member) (end : End) → e ≡ WriteFault
+    → IsPut old new before f was now → AppendsProperPrefix a b now → BreaksOff e a b (was ++ text_left old before (f ∷ more) left end)
+told_broken e old new before f was now a b more left end w p h =
+    subst (λ (x : WaveFault). BreaksOff x a b (was ++ text_left old before (f ∷ more) left end)) (sym w)
+    (subst (AppendsProperPrefix a b) (p.text more left end) (in_front_of a b now (text_left new (Some f.values) more left end) h))
 
 or_assoc : (a b c : Bool) → (a || b) || c ≡ a || (b || c)
 or_assoc true b c = refl

@@ -52,6 +52,22 @@ owned_next old new count i os o l e level added a = record {
       ∙ ap (owned_by k 0) (sym (take_more os i o l ∙ ap (λ x. take i os ++ x ∷ []) (sym e)));
 }
 
+-- one more list without a number
+none_more : (ls : List (Vec ℕ Global)) (l : Vec ℕ Global) → l.items ≡ [] → ((k : ℕ) → k < length ls → option_map_or (λ (list : Vec ℕ Global). list.items) (slice_get ls k) [] ≡ [])
+    → (k : ℕ) → k < length ls + 1 → option_map_or (λ (list : Vec ℕ Global). list.items) (slice_get (ls ++ l ∷ []) k) [] ≡ []
+none_more [] l e h zero b = e
+none_more [] l e h (suc k) b = absurd (omega arith)
+none_more (x ∷ ls) l e h zero b = h 0 (omega arith)
+none_more (x ∷ ls) l e h (suc k) b = none_more ls l e (λ j m. h (suc j) (omega arith)) k (omega arith)
+
+pub none_owned : (old new : Vec (Vec ℕ Global) Global) (l : Vec ℕ Global) (count : ℕ) → length old.items ≡ vec_len old → vec_len new ≡ vec_len old + 1 → new.items ≡ old.items ++ l ∷ [] → l.items ≡ []
+    → AreOwned old count [] → AreOwned new (count + 1) []
+none_owned old new l count o n g e a = record {
+  level = omega (arith, n, a.level);
+  each = λ k h. ap (λ ls. option_map_or (λ (list : Vec ℕ Global). list.items) (slice_get ls k) []) g
+      ∙ none_more old.items l e (λ j m. a.each j (omega (arith, o, a.level))) k (omega (arith, o, a.level));
+}
+
 pub owned_end : (lists : Vec (Vec ℕ Global) Global) (count i : ℕ) (os : List (Option ℕ)) → length os ≤ i → AreOwned lists count (take i os) → AreOwned lists count os
 owned_end lists count i os l a = subst (AreOwned lists count) (take_all i os l) a
 

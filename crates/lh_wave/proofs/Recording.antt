@@ -1,8 +1,8 @@
 -- Values of the program written one behind the other, and the text that is left.
-use Rattle.std.proofs.Common.{◌≡◌, ℕ, zero, suc, ◌+◌, ◌-◌, ◌<◌, ◌≤◌, Bool, true, false, not, List, [], ◌∷◌, ◌++◌, length, get_or, set, drop, map, refl, ap, sym, ◌∙◌, append_assoc, cond, eq-eqb, arith}
+use Rattle.std.proofs.Common.{◌≡◌, ℕ, zero, suc, ◌+◌, ◌-◌, ◌<◌, ◌≤◌, Bool, true, false, not, List, [], ◌∷◌, ◌++◌, length, get_or, set, drop, take, map, refl, ap, sym, ◌∙◌, append_assoc, cond, eq-eqb, arith}
 use Rattle.std.specs.Prelude.{nat_eq, ◌||◌, Result, Ok, Err, OnOk}
 use Rattle.std.proofs.lemmas.Bool.Decides.{nat_tests}
-use Rattle.std.proofs.lemmas.List.{append-nil, drop_all, drop_more, length-map, get_or-map}
+use Rattle.std.proofs.lemmas.List.{append-nil, drop_all, drop_more, take_more, map-append, length-map, get_or-map}
 use Rattle.lh_types.specs.Values.{Datum, int_value}
 use Rattle.lh_types.specs.ValueOf.{datum_of}
 use Rattle.lh_types.specs.SameValue.{same_datum}
@@ -35,6 +35,14 @@ AllWriting-next start to next vs i v w h e g =
 
 pub AllWriting-end : (start to : List ℕ) (vs : List Val) (i : ℕ) → AllWriting start to vs i → length vs ≤ i → to ≡ start ++ all_lines 0 (map datum_of vs)
 AllWriting-end start to vs i w h = sym (append-nil to) ∙ ap (λ ds. to ++ all_lines i ds) (sym (values_end vs i h)) ∙ w
+
+-- the values of some changes, and of one more
+pub values_more : (vs more : List Val) (cs : List Change) (i : ℕ) (c : Change) (v : Val) → map datum_of vs ≡ map (λ x. datum_of x.value) (take i cs) → i < length cs → c ≡ get_or cs i c → v ≡ c.value
+    → more ≡ vs ++ v ∷ [] → map datum_of more ≡ map (λ x. datum_of x.value) (take (i + 1) cs)
+values_more vs more cs i c v w h e s g =
+    let value : Change → Datum = λ x. datum_of x.value in
+    ap (map datum_of) g ∙ map-append datum_of vs (v ∷ []) ∙ ap (λ l. l ++ datum_of v ∷ []) w ∙ ap (λ x. map value (take i cs) ++ datum_of x ∷ []) s
+    ∙ ap (λ x. map value (take i cs) ++ value x ∷ []) e ∙ sym (map-append value (take i cs) (get_or cs i c ∷ [])) ∙ ap (map value) (sym (take_more cs i c h))
 
 or_true : (b : Bool) → true ≡ (b || true)
 or_true true = refl

@@ -116,9 +116,15 @@ impl Teller {
     {
         match sim.step(tally)? {
             SimStep::Quiet => Ok(Some(End::Quiet)),
-            SimStep::Frame(f) => Ok(stopped(self.show_frame(&f, ws, out, reports)?)),
+            SimStep::Frame(f) => {
+                let shown = self.show_frame(&f, ws, out, reports);
+                drop(f);
+                Ok(stopped(shown?))
+            }
             SimStep::Runaway(f, instance) => {
-                self.show_frame(&f, ws, out, reports)?;
+                let shown = self.show_frame(&f, ws, out, reports);
+                drop(f);
+                shown?;
                 Ok(Some(End::Runaway(instance)))
             }
         }

@@ -1,5 +1,5 @@
 use Rattle.std.proofs.Common.{◌<◌, length, get_or, ◌∙◌, arith}
-use Rattle.lh_wave.proofs.ChangedLemmas.{taken, moving_over, moving_on, moving_many, moving_end}
+use Rattle.lh_wave.proofs.ChangedLemmas.{taken, moving_start, moving_over, moving_on, moving_many, moving_none, moving_end}
 use Rattle.lh_wave.proofs.changed.move_new.Goals as goal
 
 pub loop-k-preserved-in_default : goal.loop-k-preserved-in_default
@@ -17,3 +17,12 @@ loop-k-preserved c =
 
 pub returns-clause-written : goal.returns-clause-written
 returns-clause-written c = moving_end _ _ _ _ _ c.loop-k.invariant c.loop-k-test.false
+
+pub loop-k-init : goal.loop-k-init
+loop-k-init c = moving_start c.args.numbers.now c.args.values.now.items c.args.written.now.items c.requires.listed c.requires.level
+
+pub returns-clause-level : goal.returns-clause-level
+returns-clause-level c = c.loop-k.invariant.level
+
+pub returns-clause-none : goal.returns-clause-none
+returns-clause-none c = moving_none _ _ _ _ _ c.loop-k.invariant c.loop-k-test.false

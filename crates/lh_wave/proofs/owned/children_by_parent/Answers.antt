@@ -1,4 +1,7 @@
-use Rattle.lh_wave.proofs.OwnedLemmas.{owner_next}
+use Rattle.std.proofs.Common.{◌≤◌, length, ap, arith}
+use Rattle.std.proofs.lemmas.List.{length-map}
+use Rattle.lh_wave.specs.Owned.{parents}
+use Rattle.lh_wave.proofs.OwnedLemmas.{owner_next, owned_end}
 use Rattle.lh_wave.proofs.owned.children_by_parent.Goals as goal
 
 pub loop-number-preserved : goal.loop-number-preserved
@@ -7,3 +10,8 @@ loop-number-preserved c = record {
   owned = owner_next (λ i. i.parent) _ _ _ _ _ _ _ c.loop-number.invariant.whole c.loop-number-test.true c.instance-item.is c.in_ok-add_number.ensures.level c.in_ok-add_number.ensures.added
       c.loop-number.invariant.owned;
 }
+
+pub returns : goal.returns
+returns c =
+    let past : length (parents c.args.d.now) ≤ c.loop-number.number = omega (arith, length-map c.args.d.now.instances.items (λ i. i.parent), ap length c.loop-number.invariant.whole, c.loop-number-test.false) in
+    owned_end _ _ _ (parents c.args.d.now) past c.loop-number.invariant.owned
