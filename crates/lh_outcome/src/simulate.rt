@@ -153,10 +153,8 @@ fn titles_of(alloc: Global, titles: Titles<'_>) -> Result<TextList, NoMemory>
 fn push_title(alloc: Global, list: &mut TextList, title: &[u8]) -> Result<(), NoMemory>
     ensures { OnOk result (list.new ≡ list.old ++ title.now ∷ []) }
 {
-    match Vec::from_slice(alloc, title) {
-        Ok(bytes) => list.push(ByteList::from_vec(bytes)),
-        Err(_) => Err(NoMemory),
-    }
+    let bytes = Vec::from_slice(alloc, title)?;
+    list.push(ByteList::from_vec(bytes))
 }
 
 // In which form the text is written.
