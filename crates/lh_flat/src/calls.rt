@@ -41,12 +41,12 @@ pub fn callee(view: UnitView<'_>, inst: &Inst) -> Option<UnitId>
 }
 
 /// A unit that is called, unless it is `@llhd.assert`.
-fn called(module: &Module, unit: UnitId) -> Option<UnitId>
-    requires { unit.0 < unit_count module.now }
-    ensures callee { result ≡ called_of module.now unit }
-    ensures within { CalleeWithin module.now result }
+fn called(m: &Module, unit: UnitId) -> Option<UnitId>
+    requires { unit.0 < unit_count m.now }
+    ensures callee { result ≡ called_of m.now unit }
+    ensures within { CalleeWithin m.now result }
 {
-    if module.unit_name(unit).is_assert() {
+    if m.unit_name(unit).is_assert() {
         None
     } else {
         Some(unit)
@@ -54,13 +54,13 @@ fn called(module: &Module, unit: UnitId) -> Option<UnitId>
 }
 
 /// The units of a module by their ids.
-pub fn graph(alloc: Global, module: &Module) -> Result<Vec<CallNode>, NoMemory>
-    ensures graph { IfOk result (λ nodes. IsGraph module.now nodes.items) }
-    ensures sound { IsArena module.now }
+pub fn graph(alloc: Global, m: &Module) -> Result<Vec<CallNode>, NoMemory>
+    ensures graph { IfOk result (λ nodes. IsGraph m.now nodes.items) }
+    ensures sound { IsArena m.now }
 {
     let mut nodes = Vec::new(alloc);
-    for unit in 0..module.units() {
-        put_node(&mut nodes, unit_node(alloc, module.unit(UnitId(unit)))?)?;
+    for unit in 0..m.units() {
+        put_node(&mut nodes, unit_node(alloc, m.unit(UnitId(unit)))?)?;
     }
     Ok(nodes)
 }

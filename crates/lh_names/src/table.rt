@@ -12,8 +12,11 @@ use std::alloc::Global;
 use std::marker::Model;
 use std::mem;
 
+/// So many names more have room in an index that is made: those of a unit of ordinary size, of which it need not grow.
+const ROOM: usize = 64;
+
 /// Names in the order in which they came, no two alike. They are found by an index, which takes some 30 bytes a name, about as much
-/// as the names do. It is given back where no more are to come; a name that comes all the same makes it anew.
+/// as the names do. The first name makes it; it is given back where no more are to come, and a name that comes all the same makes it anew.
 #[derive(Drop)]
 pub struct NameTable {
     kept: KeptNames,
@@ -43,7 +46,7 @@ impl NameTable {
         ensures { result ≡ [] }
     {
         NameTable {
-            kept: KeptNames::Indexed(IndexSet::new(alloc)),
+            kept: KeptNames::Listed(Vec::new(alloc)),
         }
     }
 
@@ -140,12 +143,13 @@ fn close(kept: &mut KeptNames)
     }
 }
 
-// An index of these names, each copied.
+// An index of these names, each copied, with room for more.
 fn indexed(names: &Vec<Name>) -> Result<IndexSet<Name>, NoMemory>
     requires { AllDistinct names.now.items }
     ensures { IfOk result (λ index. index.keys ≡ names.now.items) }
 {
-    let mut index = IndexSet::with_capacity(*names.allocator(), names.len())?;
+    let room = names.len().saturating_add(ROOM);
+    let mut index = IndexSet::with_capacity(*names.allocator(), room)?;
     for name in names.as_slice() {
         let name = name.copy()?;
         index.insert_full(name)?;

@@ -74,6 +74,28 @@ impl UseList {
         }
     }
 
+    /// One operand.
+    fn one(alloc: Global, operand: Use) -> UseList
+        ensures { result ≡ operand ∷ [] }
+    {
+        let none = Use::default();
+        let items = [operand, none, none, none];
+        UseList {
+            items: SmallVec::from_buf_and_len(alloc, items, 1),
+        }
+    }
+
+    /// Two operands.
+    fn two(alloc: Global, first: Use, second: Use) -> UseList
+        ensures { result ≡ first ∷ second ∷ [] }
+    {
+        let none = Use::default();
+        let items = [first, second, none, none];
+        UseList {
+            items: SmallVec::from_buf_and_len(alloc, items, 2),
+        }
+    }
+
     /// Adds an operand at the end.
     fn push(&mut self, operand: Use) -> Result<(), NoMemory>
         ensures { OnOk result (self.new ≡ self.old ++ operand ∷ []) }
@@ -94,9 +116,39 @@ impl UseList {
 pub fn uses(alloc: Global, inst: &Inst) -> Result<UseList, NoMemory>
     ensures { IfOk result (λ list. list ≡ uses_of inst.now) }
 {
-    let mut list = UseList::new(alloc);
-    put_uses(&mut list, inst)?;
-    Ok(list)
+    match inst {
+        Inst::Pure { op, args } => operation_uses(alloc, *op, args.as_slice()),
+        _ => {
+            let mut list = UseList::new(alloc);
+            put_uses(&mut list, inst)?;
+            Ok(list)
+        }
+    }
+}
+
+/// The operands of an operation. Most have one or two, and most instructions are operations.
+fn operation_uses(alloc: Global, op: Op, args: &[Typed]) -> Result<UseList, NoMemory>
+    ensures { IfOk result (λ list. list ≡ all_used (spec.operation_need op args.now) args.now) }
+{
+    let need = operation_need(op, args);
+    match args {
+        [one] => Ok(UseList::one(alloc, used(need, one))),
+        [first, second] => Ok(UseList::two(alloc, used(need, first), used(need, second))),
+        _ => {
+            let mut list = UseList::new(alloc);
+            put_all(&mut list, need, args)?;
+            Ok(list)
+        }
+    }
+}
+
+fn used(need: Need, operand: &Typed) -> Use
+    ensures { result ≡ used need operand.now.value }
+{
+    Use {
+        value: operand.value,
+        need,
+    }
 }
 
 fn put_uses(list: &mut UseList, inst: &Inst) -> Result<(), NoMemory>

@@ -17,6 +17,8 @@ use Rattle.lh_unit.specs.declared.inst.RegTrigger.{RegTrigger}
 use Rattle.lh_unit.specs.declared.inst.Typed.{Typed}
 use Rattle.lh_unit.specs.declared.inst.Inst.TheVariants as inst
 use Rattle.lh_unit.proofs.ModuleLaws.{KeepsEntries-trans, Grows-trans, Each-push, ValueWithin-keeps, MaybeWithin-keeps, OperandWithin-keeps, TriggerWithin-keeps, EdgeWithin-keeps, value_text-keeps, maybe_text-keeps, operand_text-keeps, trigger_text-keeps, edge_text-keeps}
+use Rattle.lh_syntax.specs.declared.syntax.Operand.{Operand}
+use Rattle.lh_syntax.specs.SyntaxOf.{operand_of, operands_of}
 use Rattle.lh_read.specs.Placing.{LabelWithin, label_said, Placed, LabelPlaced, ValuePlaced, MaybePlaced, OperandPlaced, TriggerPlaced, EdgePlaced, AllPlaced, OperandsPlaced, TriggersPlaced, SignalsPlaced, InstPlacedAs}
 use Rattle.lh_unit.proofs.Within.{Each-more}
 
@@ -84,6 +86,26 @@ module _ {X T : Type 0} {W : Sizes → X → Type 0} {text : Naming → X → T}
     next-placed a b c u xs zs x p.0 _ (said y) p.1 q z refl,
     append_assoc p.0 (said y ∷ []) (map said rest) ∙ ap (λ l. p.0 ++ map said l) (sym f) ∙ p.2,
   )
+
+  -- two parts, of which the second is placed after the first
+  pub two-placed : (a b c : Arena) (u : UnitId) (x y : X) (s t : T) → Placed W text a b u x s → Placed W text b c u y t → AllPlaced W text a c u (x ∷ y ∷ []) (s ∷ t ∷ [])
+  two-placed a b c u x y s t p q =
+      let o = later a b c u x s p q.grows in
+      record { grows = o.grows; within = (o.within, (q.within, tt)); says = λ i. o.says i ∷ q.says i ∷ [] }
+
+-- a list of two is its first and its second
+pub pair : {X : Type 0} (xs : List X) (x y : X) → length xs ≡ 2 → xs ≡ get_or xs 0 x ∷ get_or xs 1 y ∷ []
+pair [] x y n = absurd (omega (arith, n))
+pair (a ∷ []) x y n = absurd (omega (arith, n))
+pair (a ∷ b ∷ []) x y n = refl
+pair (a ∷ b ∷ c ∷ cs) x y n = absurd (omega (arith, n))
+
+-- two operands, of which the second is read after the first
+pub two-read : (a b c : Arena) (u : UnitId) (x y : Typed) (list : List Typed) (from : List Operand) (f g : Operand) → OperandPlaced a b u x (operand_of f) → OperandPlaced b c u y (operand_of g)
+    → list ≡ x ∷ y ∷ [] → from ≡ f ∷ g ∷ [] → OperandsPlaced a c u list (operands_of from)
+two-read a b c u x y list from f g p q e h =
+    let both = two-placed operands-keep a b c u x y (operand_of f) (operand_of g) p q in
+    subst (λ (l : List Typed). OperandsPlaced a c u l (operands_of from)) (sym e) (subst (λ (os : List Operand). OperandsPlaced a c u (x ∷ y ∷ []) (operands_of os)) (sym h) both)
 
 -- an `inst`, whose unit is found before its operands
 pub child-placed : (a b c d : Arena) (u f : UnitId) (ins outs : List Typed) (n : UnitName) (ss rs : List OperandText) → FindsUnit (Ok f) a b n → OperandsPlaced b c u ins ss

@@ -13,11 +13,12 @@ use crate::known::{Known, digest, is_named};
 use crate::taken::Taken;
 use lh_scan::tokens::{NameText, UnitNameText};
 use lh_syntax::syntax::{EdgeSyntax, Operand, TriggerSyntax};
+use lh_types::few::{Few, FewOf};
 use lh_types::list::ListOf;
 use lh_types::ty::NoMemory;
 use lh_unit::inst::{
-    BlockId, PhiEdge, PhiEdgeList, RegTrigger, RegTriggerList, Typed, TypedList, UnitId, ValueId,
-    ValueIdList,
+    BlockId, OperandList, PhiEdge, PhiEdgeList, RegTrigger, RegTriggerList, Typed, TypedList,
+    UnitId, ValueId, ValueIdList,
 };
 use lh_unit::module::Module;
 use std::alloc::Global;
@@ -109,6 +110,22 @@ pub fn maybe_id(
 }
 
 /// The operand; the operands of a file share their types.
+fn lent_operand(
+    alloc: Global,
+    known: &mut Known,
+    m: &mut Module,
+    unit: UnitId,
+    from: &Operand,
+) -> Result<Typed, NoMemory>
+    requires { unit.0 < unit_count m.old }
+    ensures { IfOk result (λ t. OperandPlaced m.old m.new unit t (operand_of from.now)) }
+{
+    let value = value_id(alloc, known, m, unit, &from.value)?;
+    let ty = known.types.share(alloc, from.ty.as_ref())?;
+    Ok(Typed { value, ty })
+}
+
+/// The same of an operand that is not needed any more.
 pub fn operand(
     alloc: Global,
     known: &mut Known,
@@ -119,9 +136,7 @@ pub fn operand(
     requires { unit.0 < unit_count m.old }
     ensures { IfOk result (λ t. OperandPlaced m.old m.new unit t (operand_of from.entry)) }
 {
-    let value = value_id(alloc, known, m, unit, &from.value)?;
-    let ty = known.types.share(alloc, from.ty.as_ref())?;
-    Ok(Typed { value, ty })
+    lent_operand(alloc, known, m, unit, &from)
 }
 
 /// The trigger of a register.
@@ -182,6 +197,66 @@ pub fn operands(
         to.push(placed)?;
     }
     Ok(to)
+}
+
+/// One operand.
+fn one_operand(
+    alloc: Global,
+    known: &mut Known,
+    m: &mut Module,
+    unit: UnitId,
+    from: &[Operand; 1],
+) -> Result<OperandList, NoMemory>
+    requires { unit.0 < unit_count m.old }
+    ensures { IfOk result (λ list. OperandsPlaced m.old m.new unit list (operands_of from.now)) }
+{
+    let one = lent_operand(alloc, known, m, unit, &from[0])?;
+    Ok(OperandList::one(alloc, one))
+}
+
+/// Two operands.
+fn two_operands(
+    alloc: Global,
+    known: &mut Known,
+    m: &mut Module,
+    unit: UnitId,
+    from: &[Operand; 2],
+) -> Result<OperandList, NoMemory>
+    requires { unit.0 < unit_count m.old }
+    ensures { IfOk result (λ list. OperandsPlaced m.old m.new unit list (operands_of from.now)) }
+{
+    let first = lent_operand(alloc, known, m, unit, &from[0])?;
+    let second = lent_operand(alloc, known, m, unit, &from[1])?;
+    Ok(OperandList::two(alloc, first, second))
+}
+
+/// The operands of an operation: one or two are read and kept in place.
+pub fn few_operands(
+    alloc: Global,
+    known: &mut Known,
+    m: &mut Module,
+    unit: UnitId,
+    from: FewOf<Operand>,
+) -> Result<OperandList, NoMemory>
+    requires { unit.0 < unit_count m.old }
+    ensures { IfOk result (λ list. OperandsPlaced m.old m.new unit list (operands_of from.entry)) }
+{
+    match from.into_items() {
+        Few::One(from) => {
+            let list = one_operand(alloc, known, m, unit, &from);
+            drop(from);
+            list
+        }
+        Few::Two(from) => {
+            let list = two_operands(alloc, known, m, unit, &from);
+            drop(from);
+            list
+        }
+        Few::Other(from) => {
+            let list = operands(alloc, known, m, unit, from)?;
+            Ok(OperandList::from_list(list))
+        }
+    }
 }
 
 /// The triggers of a register.

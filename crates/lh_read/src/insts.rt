@@ -9,16 +9,18 @@ ghost use Rattle.lh_syntax.specs.SyntaxOf.{operand_of, maybe_operand_of, operand
 ghost use Rattle.lh_read.specs.Placing.{InstPlacedAs};
 
 use crate::ids::{
-    edges, label_id, maybe_id, operand, operands, signals, triggers, unit_id, value_id,
+    edges, few_operands, label_id, maybe_id, operand, operands, signals, triggers, unit_id,
+    value_id,
 };
 use crate::known::Known;
 use lh_scan::tokens::{NameText, UnitNameText};
 use lh_syntax::syntax::{EdgeSyntax, InstSyntax, Operand, TriggerSyntax};
+use lh_types::few::FewOf;
 use lh_types::list::ListOf;
 use lh_types::op::Op;
 use lh_types::ty::{NoMemory, Ty};
 use lh_unit::constant::Constant;
-use lh_unit::inst::{Inst, OperandList, UnitId};
+use lh_unit::inst::{Inst, UnitId};
 use lh_unit::module::Module;
 use std::alloc::Global;
 
@@ -77,12 +79,12 @@ fn pure(
     m: &mut Module,
     unit: UnitId,
     op: Op,
-    args: ListOf<Operand>,
+    args: FewOf<Operand>,
 ) -> Result<Inst, NoMemory>
     requires { unit.0 < unit_count m.old }
     ensures { IfOk result (λ i. InstPlacedAs m.old m.new unit i (pure_text op (operands_of args.entry))) }
 {
-    let args = OperandList::from_list(operands(alloc, known, m, unit, args)?);
+    let args = few_operands(alloc, known, m, unit, args)?;
     Ok(Inst::Pure { op, args })
 }
 

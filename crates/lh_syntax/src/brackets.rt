@@ -10,7 +10,7 @@ use lh_scan::fault::ScanFault::{self, NotSpelled};
 use lh_scan::list::parts;
 use lh_scan::numbers::count;
 use lh_scan::tokens::Tokens;
-use lh_types::list::ListOf;
+use lh_types::few::FewOf;
 use lh_types::op::Op;
 use lh_types::ty::{NoMemory, Ty, TyFault, TyList};
 use std::alloc::Global;
@@ -64,9 +64,8 @@ fn repeated<'a>(alloc: Global, len: u32, operand: Operand<'a>) -> Result<InstSyn
         drop(operand);
         return Err(NotSpelled);
     }
-    let mut args = ListOf::new(alloc);
-    args.push(operand)?;
     let op = Op::Repeat(len);
+    let args = FewOf::one(alloc, operand);
     Ok(InstSyntax::Pure { op, args })
 }
 
@@ -113,6 +112,7 @@ fn array<'a>(alloc: Global, tokens: &Tokens<'a>) -> Result<InstSyntax<'a>, ScanF
         return Err(NotSpelled);
     }
     let op = Op::Array;
+    let args = FewOf::from_list(args);
     Ok(InstSyntax::Pure { op, args })
 }
 
@@ -167,5 +167,6 @@ pub fn tuple<'a>(alloc: Global, tokens: &Tokens<'a>) -> Result<InstSyntax<'a>, S
         return Err(NotSpelled);
     }
     let op = Op::Tuple;
+    let args = FewOf::from_list(args);
     Ok(InstSyntax::Pure { op, args })
 }

@@ -9,12 +9,16 @@ use lh_scan::fault::ScanFault::{self, NotSpelled};
 use lh_scan::list::Part;
 use lh_scan::tokens::{NameText, Tokens};
 use lh_scan::types::ty;
+use lh_types::few::FewOf;
 use lh_types::list::ListOf;
 use lh_types::ty::NoMemory;
 use std::alloc::Global;
 
 /// Operands, and what follows them.
 pub type OperandsAt<'a> = Result<(ListOf<Operand<'a>>, Tokens<'a>), ScanFault>;
+
+/// The operands of an operation, and what follows them.
+pub type FewOperandsAt<'a> = Result<(FewOf<Operand<'a>>, Tokens<'a>), ScanFault>;
 
 /// `T %a`, and what follows it.
 #[tactic(auto, unfolding(crate::specs::Operands::typed_at))]
@@ -60,6 +64,46 @@ impl<'a> Part<'a> for Operand<'a> {
     ghost shorter = { free_at-shorter };
 }
 
+/// `D %a`, and what follows it.
+#[tactic(auto, unfolding(crate::specs::Operands::one_at))]
+fn one<'a>(alloc: Global, tokens: &Tokens<'a>) -> FewOperandsAt<'a>
+    ensures { ReadsAsFound result (one_at tokens.now) }
+{
+    let (a, rest) = typed(alloc, tokens)?;
+    Ok((FewOf::one(alloc, a), rest))
+}
+
+/// `, %a`, and what follows it.
+fn next_bare<'a>(tokens: &Tokens<'a>) -> Option<(Operand<'a>, Tokens<'a>)>
+    ensures { result ≡ next_bare_at tokens.now }
+{
+    let rest = tokens.punct(b',')?;
+    bare(&rest)
+}
+
+/// `D %a, %b`, and what follows it.
+#[tactic(auto, unfolding(crate::specs::Operands::two_at))]
+fn two<'a>(alloc: Global, tokens: &Tokens<'a>) -> FewOperandsAt<'a>
+    ensures { ReadsAsFound result (two_at tokens.now) }
+{
+    let (a, rest) = typed(alloc, tokens)?;
+    match next_bare(&rest) {
+        Some((b, rest)) => Ok((FewOf::two(alloc, a, b), rest)),
+        None => {
+            drop(a);
+            Err(NotSpelled)
+        }
+    }
+}
+
+/// `, ?%a`, and what follows it.
+fn next_free<'a>(alloc: Global, tokens: &Tokens<'a>) -> Result<(Operand<'a>, Tokens<'a>), ScanFault>
+    ensures { ReadsAsFound result (next_free_at tokens.now) }
+{
+    let rest = tokens.punct(b',').ok_or(NotSpelled)?;
+    free(alloc, &rest)
+}
+
 /// Operands and one more.
 fn with<'a>(
     mut operands: ListOf<Operand<'a>>,
@@ -74,12 +118,12 @@ fn with<'a>(
     Ok(operands)
 }
 
-/// `D %a` in a list with room for so many, and what follows it.
+/// `D %a` in a list with room for three, and what follows it.
 #[tactic(auto, unfolding(crate::specs::Operands::one_at))]
-fn first<'a>(alloc: Global, room: usize, tokens: &Tokens<'a>) -> OperandsAt<'a>
+fn first_of_three<'a>(alloc: Global, tokens: &Tokens<'a>) -> OperandsAt<'a>
     ensures { ReadsAsFound result (one_at tokens.now) }
 {
-    let operands = ListOf::with_room(alloc, room)?;
+    let operands = ListOf::with_room(alloc, 3)?;
     match typed(alloc, tokens) {
         Ok((a, rest)) => Ok((with(operands, a)?, rest)),
         Err(fault) => {
@@ -87,37 +131,6 @@ fn first<'a>(alloc: Global, room: usize, tokens: &Tokens<'a>) -> OperandsAt<'a>
             Err(fault)
         }
     }
-}
-
-/// `, %a`, and what follows it.
-fn next_bare<'a>(tokens: &Tokens<'a>) -> Option<(Operand<'a>, Tokens<'a>)>
-    ensures { result ≡ next_bare_at tokens.now }
-{
-    let rest = tokens.punct(b',')?;
-    bare(&rest)
-}
-
-/// `D %a, %b`, and what follows it.
-#[tactic(auto, unfolding(crate::specs::Operands::two_at, crate::specs::Operands::one_at))]
-fn two<'a>(alloc: Global, tokens: &Tokens<'a>) -> OperandsAt<'a>
-    ensures { ReadsAsFound result (two_at tokens.now) }
-{
-    let (operands, rest) = first(alloc, 2, tokens)?;
-    match next_bare(&rest) {
-        Some((b, rest)) => Ok((with(operands, b)?, rest)),
-        None => {
-            drop(operands);
-            Err(NotSpelled)
-        }
-    }
-}
-
-/// `, ?%a`, and what follows it.
-fn next_free<'a>(alloc: Global, tokens: &Tokens<'a>) -> Result<(Operand<'a>, Tokens<'a>), ScanFault>
-    ensures { ReadsAsFound result (next_free_at tokens.now) }
-{
-    let rest = tokens.punct(b',').ok_or(NotSpelled)?;
-    free(alloc, &rest)
 }
 
 /// These operands and `, ?%a`, and what follows it.
@@ -136,20 +149,21 @@ fn and_free<'a>(alloc: Global, operands: ListOf<Operand<'a>>, tokens: &Tokens<'a
 
 /// `D %b, ?%h, ?%n`, and what follows it.
 #[tactic(auto, unfolding(crate::specs::Operands::shift_at, crate::specs::Operands::one_at, crate::specs::Operands::and_free_at))]
-fn shift<'a>(alloc: Global, tokens: &Tokens<'a>) -> OperandsAt<'a>
+fn shift<'a>(alloc: Global, tokens: &Tokens<'a>) -> FewOperandsAt<'a>
     ensures { ReadsAsFound result (shift_at tokens.now) }
 {
-    let (base, rest) = first(alloc, 3, tokens)?;
+    let (base, rest) = first_of_three(alloc, tokens)?;
     let (both, rest) = and_free(alloc, base, &rest)?;
-    and_free(alloc, both, &rest)
+    let (all, rest) = and_free(alloc, both, &rest)?;
+    Ok((FewOf::from_list(all), rest))
 }
 
 /// The operands of an operation, and what follows them.
-pub fn columns<'a>(alloc: Global, columns: Columns, tokens: &Tokens<'a>) -> OperandsAt<'a>
+pub fn columns<'a>(alloc: Global, columns: Columns, tokens: &Tokens<'a>) -> FewOperandsAt<'a>
     ensures { ReadsAsFound result (columns_at columns tokens.now) }
 {
     match columns {
-        Columns::One => first(alloc, 1, tokens),
+        Columns::One => one(alloc, tokens),
         Columns::Two => two(alloc, tokens),
         Columns::Shift => shift(alloc, tokens),
     }

@@ -2,6 +2,7 @@
 ghost use Rattle.std.specs.Prelude.{◌≡◌};
 
 use lh_scan::tokens::{NameText, UnitNameText};
+use lh_types::few::FewOf;
 use lh_types::list::ListOf;
 use lh_types::op::Op;
 use lh_types::ty::{Ty, TyList};
@@ -76,7 +77,7 @@ pub enum InstSyntax<'a> {
     /// An operation on values or parts of signals, its operands in the order of the spelling.
     Pure {
         op: Op,
-        args: ListOf<Operand<'a>>,
+        args: FewOf<Operand<'a>>,
     },
     /// `var`
     Var(Operand<'a>),

@@ -22,36 +22,36 @@ impl Terms {
     {
         let mut found = TermList::new(self.allocator());
         let mut seen = HashSet::new(self.allocator());
-        let mut open = Vec::new(self.allocator());
-        self.walk(t, &mut found, &mut seen, &mut open)?;
+        let mut ahead = Vec::new(self.allocator());
+        self.walk(t, &mut found, &mut seen, &mut ahead)?;
         Ok(found)
     }
 
-    /// The conjuncts, by the terms seen and those open, which belong to the caller: then no failure here has anything to drop.
+    /// The conjuncts, by the terms seen and those ahead, which belong to the caller: then no failure here has anything to drop.
     fn walk(
         &self,
         t: TermId,
         found: &mut TermList,
         seen: &mut HashSet<usize>,
-        open: &mut Vec<TermId>,
+        ahead: &mut Vec<TermId>,
     ) -> Result<(), NoMemory>
         requires is_in { IsIn self.now t }
         requires none_found { found.old ≡ [] }
         requires none_seen { seen.old.keys ≡ [] }
-        requires none_open { open.old.items ≡ [] }
+        requires none_ahead { ahead.old.items ≡ [] }
         ensures within { OnOk result (AreIn self.now found.new) }
         ensures conjuncts { OnOk result (trees_at self.now found.new ≡ conjuncts_of (tree_at (trees self.now) t)) }
     {
         self.are_apart();
-        open.push(t)?;
-        while let Some(x) = open.pop() {
+        ahead.push(t)?;
+        while let Some(x) = ahead.pop() {
             let is_new = seen.insert(x.0)?;
             if !is_new {
                 continue;
             }
             if let Some((a, b)) = self.joined(x) {
-                open.push(b)?;
-                open.push(a)?;
+                ahead.push(b)?;
+                ahead.push(a)?;
             } else if !self.is_bit(x, 1) {
                 found.push(x)?;
             }

@@ -1,5 +1,6 @@
 //! Lists that are mostly short.
-ghost use Rattle.std.specs.Prelude.{◌≡◌};
+ghost use Rattle.std.specs.Prelude.{◌≡◌, ◌∷◌, []};
+ghost use Rattle.lh_types.specs.Few.{few_items};
 
 use crate::list::ListOf;
 use std::alloc::Global;
@@ -12,10 +13,14 @@ pub struct FewOf<T> {
     items: Few<T>,
 }
 
+/// What such a list holds.
 #[derive(Drop)]
-enum Few<T> {
+pub enum Few<T> {
+    /// One item, in place.
     One([T; 1]),
+    /// Two items, in place.
     Two([T; 2]),
+    /// Any items, mostly none or many.
     Other(ListOf<T>),
 }
 
@@ -43,6 +48,29 @@ impl<T> FewOf<T> {
     /// The allocator that the list was made with.
     pub fn allocator(&self) -> Global {
         self.alloc
+    }
+
+    /// The items as they are held, without memory.
+    pub fn into_items(self) -> Few<T>
+        ensures { few_items result ≡ self }
+    {
+        self.items
+    }
+
+    /// The list of one item.
+    pub fn one(alloc: Global, item: T) -> FewOf<T>
+        ensures { result ≡ item ∷ [] }
+    {
+        let items = Few::One([item]);
+        FewOf { alloc, items }
+    }
+
+    /// The list of two items.
+    pub fn two(alloc: Global, first: T, second: T) -> FewOf<T>
+        ensures { result ≡ first ∷ second ∷ [] }
+    {
+        let items = Few::Two([first, second]);
+        FewOf { alloc, items }
     }
 }
 

@@ -2,4 +2,4 @@ use Rattle.lh_flat.proofs.Reading.{GraphTo}
 use Rattle.lh_flat.proofs.calls.graph.Given as goal
 
 abbrev pub invariant-loop-unit : goal.invariant-loop-unit
-invariant-loop-unit l = GraphTo l.module l.unit l.nodes.items
+invariant-loop-unit l = GraphTo l.m l.unit l.nodes.items

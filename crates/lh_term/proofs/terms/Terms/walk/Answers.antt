@@ -7,7 +7,7 @@ use Rattle.lh_term.proofs.Walks.{start_at, popped, open_within, pop_seen, pop_jo
 use Rattle.lh_term.proofs.terms.Terms.walk.Goals as goal
 
 pub loop-x-init : goal.loop-x-init
-loop-x-init c = start_at _ _ _ _ _ (marks_none _ _ c.requires.none_seen) c.requires.none_found (c.in_ok-push.ensures.items ∙ ap (λ xs. xs ++ c.args.t ∷ []) c.requires.none_open)
+loop-x-init c = start_at _ _ _ _ _ (marks_none _ _ c.requires.none_seen) c.requires.none_found (c.in_ok-push.ensures.items ∙ ap (λ xs. xs ++ c.args.t ∷ []) c.requires.none_ahead)
 
 pub loop-x-smaller-then-not-is_new : goal.loop-x-smaller-then-not-is_new
 loop-x-smaller-then-not-is_new c =
