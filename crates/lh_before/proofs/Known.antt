@@ -177,7 +177,7 @@ phi-from k (Some n) = value-known-turned k n
 phi-on-turned : (os : List EdgeText) (e : RegionEdge) → phi_on os (edge_turned e) ≡ option_map turned (phi_on os e)
 phi-on-turned os e = phi-from e.known (edge_from e.from os)
 
-value-if : (o : Option Tree) → option_map known_value (option_map turned o) ≡ option_map known_turned (option_map known_value o)
+pub value-if : (o : Option Tree) → option_map known_value (option_map turned o) ≡ option_map known_turned (option_map known_value o)
 value-if None = refl
 value-if (Some t) = refl
 

@@ -1,10 +1,10 @@
 -- The regions of a flat text, with the values that parts have before and now exchanged.
-use Rattle.std.proofs.Common.{◌≡◌, ℕ, ◌+◌, List, [], ◌∷◌, length, map, Bool, true, false, ◌&&◌, ◌||◌, nat_eq, nat_lt, Option, Some, None, refl, ap, sym, ◌∙◌, subst}
+use Rattle.std.proofs.Common.{◌≡◌, ℕ, ◌+◌, List, [], ◌∷◌, length, map, Bool, true, false, ◌||◌, nat_eq, nat_lt, Option, Some, None, refl, ap, sym, ◌∙◌, subst}
 use Rattle.std.specs.Bool.{if◌then◌else◌}
 use Rattle.std.specs.Prelude.{slice_get}
 use Rattle.std.specs.Option.{option_and_then, option_map_or}
 use Rattle.std.specs.List.{list_all}
-use Rattle.std.proofs.lemmas.Bool.{false≢true}
+use Rattle.std.proofs.lemmas.Bool.{false≢true, and_parts}
 use Rattle.std.proofs.lemmas.Option.{same_Some, none-some}
 use Rattle.lh_unit.specs.Contents.{InstText, const_text, LineText}
 use Rattle.lh_unit.specs.Within.{Each}
@@ -178,15 +178,11 @@ that-is : (n : ℕ) (o : Option ℕ) → is_that n o ≡ true → o ≡ Some n
 that-is n None h = absurd (false≢true h)
 that-is n (Some m) h = ap Some (sym (nat_eq-is n m h))
 
-and-parts : (a b : Bool) → (a && b) ≡ true → (a ≡ true) × (b ≡ true)
-and-parts true b h = (refl, h)
-and-parts false b h = absurd (false≢true h)
-
 alike-wait : (n : ℕ) (w : Way) (es : List RegionEnd) → list_all (λ (f : RegionEnd). waits_alike n w f.way) es ≡ true → Each (λ (e : RegionEnd). waits_for e.way ≡ Some n) es
 alike-wait n w [] h = tt
 alike-wait n w (e ∷ es) h =
-    let z = and-parts (waits_alike n w e.way) (list_all (λ (f : RegionEnd). waits_alike n w f.way) es) h in
-    let y = and-parts (is_that n (waits_for e.way)) _ z.0 in
+    let z = and_parts (waits_alike n w e.way) (list_all (λ (f : RegionEnd). waits_alike n w f.way) es) h in
+    let y = and_parts (is_that n (waits_for e.way)) _ z.0 in
     (that-is n (waits_for e.way) y.0, alike-wait n w es z.1)
 
 -- each waits for the one block

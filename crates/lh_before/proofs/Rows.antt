@@ -2,6 +2,7 @@
 use Rattle.std.proofs.Common.{◌≡◌, ℕ, ◌+◌, List, [], ◌∷◌, ◌++◌, map, Bool, true, false, ◌&&◌, nat_eq, Option, Some, None, refl, ap, sym, ◌∙◌}
 use Rattle.std.specs.Bool.{if◌then◌else◌}
 use Rattle.std.specs.Option.{option_and_then, option_map, is_some}
+use Rattle.std.proofs.lemmas.List.{map_push}
 use Rattle.lh_types.specs.Types.{TypeTree}
 use Rattle.lh_types.specs.Parts.{range_of}
 use Rattle.lh_types.specs.declared.op.Op.{Op}
@@ -15,12 +16,12 @@ use Rattle.lh_flat.specs.Flat.{FlatBlockText}
 use Rattle.lh_term.specs.Tree.{Tree, constant}
 use Rattle.lh_term.specs.Make.{is_zero, make_operation}
 use Rattle.lh_term.specs.declared.part.Part.{Part}
-use Rattle.lh_term.proofs.Arenas.{map_append, map_push}
+use Rattle.lh_term.proofs.Arenas.{map_append}
 use Rattle.lh_rows.specs.Known.{Known, known_value, known_cell, known_part, Knowledge, value_known, cell_known, part_known, values_known, parts_known}
 use Rattle.lh_rows.specs.Rows.{Drive, Way, halts, enters_head, RegionEnd, Rows}
 use Rattle.lh_rows.specs.Places.{Region, Here, Midst, block_number, stepped, part_stepped, operated, gives, probes, both, drive_cond, with_drive, drives, asserts, ends, next_place, goes, goes_if, leads, branches, wait_way, ends_if, takes, takes_all}
 use Rattle.lh_before.proofs.Trees.{turned, all_turned, zero-turned, make-turned}
-use Rattle.lh_before.proofs.Known.{known_turned, all_known_turned, value-known-turned, cell-known-turned, part-known-turned, values-known-turned, parts-known-turned, given-turned, edge_turned, edges_turned}
+use Rattle.lh_before.proofs.Known.{known_turned, all_known_turned, value-known-turned, cell-known-turned, part-known-turned, values-known-turned, parts-known-turned, given-turned, edge_turned, edges_turned, value-if}
 
 -- ---- rows
 
@@ -76,10 +77,6 @@ operated-turned k o os =
 
 gives-turned : (m : Midst) (r : Option (List ℕ)) (x : Option Known) → gives (midst_turned m) r (option_map known_turned x) ≡ midst_turned (gives m r x)
 gives-turned m r x = λ i. record { known = given-turned m.known r x i; edges = edges_turned m.edges; rows = rows_turned m.rows }
-
-values-of : (o : Option Tree) → option_map known_value (option_map turned o) ≡ option_map known_turned (option_map known_value o)
-values-of None = refl
-values-of (Some t) = refl
 
 cells-of : (o : Option Tree) → option_map known_cell (option_map turned o) ≡ option_map known_turned (option_map known_cell o)
 cells-of None = refl
@@ -204,7 +201,7 @@ module _ (blocks : List FlatBlockText) (head : ℕ) (probe other : Part → Tree
       ∙ gives-turned m r (option_map known_cell (value_known m.known a.value))
   takes-turned h (ld_text a) r m =
       ap (λ z. gives (midst_turned m) r (option_map known_value z)) (cell-known-turned m.known a.value)
-      ∙ ap (gives (midst_turned m) r) (values-of (cell_known m.known a.value))
+      ∙ ap (gives (midst_turned m) r) (value-if (cell_known m.known a.value))
       ∙ gives-turned m r (option_map known_value (cell_known m.known a.value))
   takes-turned h (st_text to value) r m =
       ap (λ z. gives (midst_turned m) (Some to.value) (option_map known_cell z)) (value-known-turned m.known value)

@@ -1,7 +1,6 @@
 -- Every term of the second region is typed: its edges are the ends of the first region by the values that parts had before, which all wait for its first block.
 use Rattle.std.proofs.Common.{◌≡◌, ℕ, List, [], ◌∷◌, map, true, false, Some, refl, ap, sym, ◌∙◌, subst}
 use Rattle.std.proofs.lemmas.Option.{same_Some, none-some}
-use Rattle.lh_types.specs.Types.{IsData}
 use Rattle.lh_names.specs.declared.name.UnitName.{UnitName}
 use Rattle.lh_unit.specs.Contents.{UnitText}
 use Rattle.lh_unit.specs.Within.{Each}
@@ -14,20 +13,15 @@ use Rattle.lh_rows.specs.Known.{Knowledge}
 use Rattle.lh_rows.specs.Rows.{Way, halts, enters_head, waits, RegionEnd}
 use Rattle.lh_rows.specs.Places.{Region}
 use Rattle.lh_rows.specs.Regions.{begins_with_phi, lines_at, head_of, edge_into, edges_of_ends, waits_for, one_target, Course, comes_to, then_course, region_from, first_region, second_region}
-use Rattle.lh_rows.specs.Typed.{IsOfType, JoinEdge}
+use Rattle.lh_rows.specs.Typed.{JoinEdge}
 use Rattle.lh_rows.specs.Laws.{DriveTyped, EndTyped}
 use Rattle.lh_rows.specs.Right.{as_block, BlockAt, JoinsAt, WayRight}
 use Rattle.lh_rows.proofs.Steps.{RegionOf}
+use Rattle.lh_rows.proofs.Second.{past-typed, now-typed}
 use Rattle.lh_rows.proofs.Activations as Activations
 use Rattle.lh_rows.proofs.Courses as Courses
 use Rattle.lh_before.specs.Before.{SecondRowsAreTyped}
 use Rattle.lh_before.proofs.Regions.{regions-are-alike, targets-are-alike, has-end}
-
-pub past-typed : (p : Part) → IsData p.ty → IsOfType p.ty (past_of p)
-past-typed p d = record { typed = d; type = refl }
-
-pub now-typed : (p : Part) → IsData p.ty → IsOfType p.ty (now_of p)
-now-typed p d = record { typed = d; type = refl }
 
 pub way-joins : (u : UnitText) (g : Region) (w : Way) (n : ℕ) (from : List ℕ) (k : Knowledge) → waits_for w ≡ Some n → WayRight u g w from k → JoinsAt u g n from k
 way-joins u g halts n from k q h = absurd (none-some n q)

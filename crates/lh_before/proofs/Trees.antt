@@ -3,6 +3,7 @@ use Rattle.std.proofs.Common.{◌≡◌, ℕ, ◌-◌, ◌^◌, List, [], ◌∷
 use Rattle.std.specs.Bool.{if◌then◌else◌}
 use Rattle.std.specs.Option.{option_map}
 use Rattle.std.specs.List.{list_any}
+use Rattle.std.proofs.lemmas.List.{map_push}
 use Rattle.lh_types.specs.Types.{int_type, same_type}
 use Rattle.lh_types.specs.Values.{int_value}
 use Rattle.lh_types.specs.Apply.{apply}
@@ -14,7 +15,7 @@ use Rattle.lh_term.specs.Same.{same_op}
 use Rattle.lh_term.specs.SameTree.{same_tree, same_trees}
 use Rattle.lh_term.specs.Make.{is_constant, all_constant, value_in, values_in, is_zero, is_ones, is_bit, is_bit_value, negated, is_that, is_not_of, anded, halves, zero_like, ones_like, width_in, bit_of, found_or, not_rows, make_not, and_rows, or_rows, eq_rows, neq_rows, rows_of, make_operation, make_choice}
 use Rattle.lh_term.specs.Conjuncts.{joins_bits, all_conjuncts, joined_conjuncts, with_term, with_terms, conjuncts_of, conjunction_from, conjunction}
-use Rattle.lh_term.proofs.Arenas.{map_append, map_push}
+use Rattle.lh_term.proofs.Arenas.{map_append}
 
 abbrev mutual
   -- the term with the values before and now exchanged

@@ -1,9 +1,10 @@
 -- Runs of bits of words: their length, their parts, and when two are equal.
-use Rattle.std.proofs.Common.{◌≡◌, ℕ, ◌+◌, ◌-◌, ◌/◌, ◌%◌, ◌^◌, ◌<◌, ◌≤◌, ◌≢◌, ◌⊎◌, inl, inr, zero, suc, Bool, false, nat_eq, List, [], ◌∷◌, ◌++◌, length, take, drop, replicate, get_or, Some, refl, ap, sym, ◌∙◌, arith}
+use Rattle.std.proofs.Common.{◌≡◌, ℕ, ◌+◌, ◌-◌, ◌/◌, ◌%◌, ◌^◌, ◌<◌, ◌≤◌, ◌≢◌, inl, inr, zero, suc, Bool, false, nat_eq, List, [], ◌∷◌, ◌++◌, length, take, drop, replicate, get_or, Some, refl, ap, sym, ◌∙◌, arith}
 use Rattle.std.specs.List.{slice_get}
 use Rattle.std.specs.Int.{bit_at}
 use Rattle.std.proofs.lemmas.Bool.Decides.{nat_tests}
 use Rattle.std.proofs.lemmas.Nat.Bits.{bit_at-lt, bit_at_lowest, bit_at-suc, bit_at-zero, same_from_bits_below}
+use Rattle.std.proofs.lemmas.Bool.{cases_lt}
 use Rattle.lh_bits.specs.Flags.{word_bit, flags}
 use Rattle.lh_types.specs.Bits.{number_bits}
 use Rattle.lh_types.specs.Parts.{bits_within}
@@ -121,13 +122,10 @@ flags-zeros (suc n) i m = rw (word_bit-zeros m i) (ap (λ bs. false ∷ bs) (fla
 pub length_view : (n i : ℕ) (ws : List ℕ) (bs : List Bool) → flags n i ws ≡ bs → length bs ≡ n
 length_view n i ws bs e = ap length (sym e) ∙ length-flags n i ws
 
-lt_or_le : (a b : ℕ) → (a < b) ⊎ (b ≤ a)
-lt_or_le a b = grind arith
-
 -- one step of a write: n more bits, which are those of x
 pub written_more : (f : ℕ → ℕ) (m n lo x : ℕ) (new old : List ℕ) → ((j : ℕ) → j < m → word_bit old (lo + j) ≡ f j) → ((i : ℕ) → i < lo + m → word_bit new i ≡ word_bit old i)
     → ((j : ℕ) → j < n → word_bit new (lo + m + j) ≡ bit_at x j) → ((j : ℕ) → j < n → bit_at x j ≡ f (m + j)) → (j : ℕ) → j < m + n → word_bit new (lo + j) ≡ f j
-written_more f m n lo x new old was before each read j h = elim (lt_or_le j m) [
+written_more f m n lo x new old was before each read j h = elim (cases_lt j m) [
   | inl p ↦ before (lo + j) (omega arith) ∙ was j p
   | inr p ↦
       let e : lo + j ≡ lo + m + (j - m) = omega arith in

@@ -1,10 +1,11 @@
 -- A number of up to 128 bits in words: its halves, and the bits that a list of bits has for it.
-use Rattle.std.proofs.Common.{◌≡◌, ℕ, ◌+◌, ◌-◌, ◌*◌, ◌/◌, ◌%◌, ◌^◌, ◌<◌, ◌≤◌, ◌⊎◌, inl, inr, List, ap, sym, ◌∙◌, arith}
+use Rattle.std.proofs.Common.{◌≡◌, ℕ, ◌+◌, ◌-◌, ◌*◌, ◌/◌, ◌%◌, ◌^◌, ◌<◌, ◌≤◌, inl, inr, List, ap, sym, ◌∙◌, arith}
 use Rattle.std.specs.Int.{bit_at}
 use Rattle.std.specs.Int.RustNames.{bit_or, bit_and}
 use Rattle.std.proofs.Math.Nat.{pow-le-pow_right, div-eq_of_lt}
 use Rattle.std.proofs.lemmas.Nat.{or_shifted, pow-add, shl_whole}
 use Rattle.std.proofs.lemmas.Nat.Bits.{bit_at_cat_low, bit_at_cat_high}
+use Rattle.std.proofs.lemmas.Bool.{cases_lt}
 use Rattle.lh_bits.specs.Flags.{word_bit, flags}
 use Rattle.lh_types.specs.Bits.{bits_number}
 use Rattle.lh_bits.proofs.NumberBits.{bits_number-number_bits}
@@ -22,12 +23,9 @@ halves-lt w h l p q r =
     let s : 2 ^ w ≡ 2 ^ (w - 64) * 2 ^ 64 = ap (λ k. 2 ^ k) e ∙ pow-add 2 (w - 64) 64 in
     omega (arith, s)
 
-lt_or_le : (a b : ℕ) → (a < b) ⊎ (b ≤ a)
-lt_or_le a b = grind arith
-
 pub halves_bit : (w at h l j : ℕ) (ws : List ℕ) → l < 2 ^ 64 → ((i : ℕ) → i < 64 → bit_at l i ≡ word_bit ws (at + i)) → ((i : ℕ) → i < w - 64 → bit_at h i ≡ word_bit ws (at + 64 + i)) → j < w
     → bit_at (h * 2 ^ 64 + l) j ≡ word_bit ws (at + j)
-halves_bit w at h l j ws r f g b = elim (lt_or_le j 64) [
+halves_bit w at h l j ws r f g b = elim (cases_lt j 64) [
   | inl p ↦ bit_at_cat_low h 64 l j p ∙ f j p
   | inr p ↦
       let e : at + 64 + (j - 64) ≡ at + j = omega arith in

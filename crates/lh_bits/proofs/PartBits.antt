@@ -16,6 +16,7 @@ use Rattle.lh_types.specs.declared.part.Step.{Step}
 use Rattle.lh_types.specs.declared.part.Step.TheVariants.{Field, Slice}
 use Rattle.lh_bits.proofs.NumberBits.{length-number_bits, number_bits-add, number_bits-mod}
 use Rattle.lh_types.proofs.PartLemmas.{slice_facts, part_if-holds, part_beyond-holds}
+use Rattle.lh_types.proofs.DatumRows.{data_row-parts_of, part_count-data_row, length-parts_of}
 use Rattle.lh_bits.proofs.ValueBits.{length-value_bits, length-row_bits}
 
 -- the middle of three pieces, and three pieces with the middle one replaced
@@ -37,22 +38,6 @@ row_bits-parts_of (more_values v vs) = ap (λ bs. value_bits v ++ bs) (row_bits-
 row_bits-data_row : (vs : List Datum) → row_bits (data_row vs) ≡ flat_map value_bits vs
 row_bits-data_row [] = refl
 row_bits-data_row (v ∷ vs) = ap (λ bs. value_bits v ++ bs) (row_bits-data_row vs)
-
-parts_of-data_row : (vs : List Datum) → parts_of (data_row vs) ≡ vs
-parts_of-data_row [] = refl
-parts_of-data_row (v ∷ vs) = ap (λ ws. v ∷ ws) (parts_of-data_row vs)
-
-data_row-parts_of : (vs : DatumRow) → data_row (parts_of vs) ≡ vs
-data_row-parts_of no_values = refl
-data_row-parts_of (more_values v vs) = ap (more_values v) (data_row-parts_of vs)
-
-part_count-data_row : (vs : List Datum) → part_count (data_row vs) ≡ length vs
-part_count-data_row [] = refl
-part_count-data_row (v ∷ vs) = omega (arith, part_count-data_row vs)
-
-length-parts_of : (vs : DatumRow) → length (parts_of vs) ≡ part_count vs
-length-parts_of no_values = refl
-length-parts_of (more_values v vs) = omega (arith, length-parts_of vs)
 
 -- a list as what stands before a place, there, and after it
 split_at : (xs : List Datum) (k : ℕ) (d : Datum) → k < length xs → xs ≡ take k xs ++ (get_or xs k d ∷ drop (k + 1) xs)

@@ -4,6 +4,7 @@ use Rattle.std.specs.Int.{bit_at, w64}
 use Rattle.std.specs.Int.RustNames.{bit_and, bit_or}
 use Rattle.std.proofs.lemmas.Nat.{and_mask, shr-shr, shl_whole, pow_pos}
 use Rattle.std.proofs.lemmas.Nat.Bits.{bit_at_and, bit_at_or, bit_at_ones, bit_at_ones_above, bit_at_not, bit_at_cat_low, bit_at_cat_high, bit_at-lt, bit_at_above, bit_at-zero}
+use Rattle.std.proofs.lemmas.Bool.{cases_lt}
 use Rattle.lh_bits.specs.Flags.{word_bit}
 
 -- the bits of `x & (2 ^ n - 1)`, and of `x % 2 ^ n`
@@ -131,11 +132,8 @@ two_high x y s j k l e h b =
     let o : bit_at x (s + j) ≡ 0 = bit_at_above x 64 (s + j) l (omega arith) in
     bit_at_or (x / 2 ^ s) (y * 2 ^ (64 - s) % 2 ^ 64) j ∙ omega (arith, z, o, shr_bit x s j)
 
-lt_or_le : (a b : ℕ) → (a < b) ⊎ (b ≤ a)
-lt_or_le a b = grind arith
-
 pub read_two : (ws : List ℕ) (at j : ℕ) → get_or ws (at / 64) 0 < 2 ^ 64 → j < 64 → bit_at (two_words (get_or ws (at / 64) 0) (get_or ws (at / 64 + 1) 0) (at % 64)) j ≡ word_bit ws (at + j)
-read_two ws at j l b = elim (lt_or_le (at % 64 + j) 64) [
+read_two ws at j l b = elim (cases_lt (at % 64 + j) 64) [
   | inl p ↦ two_low (get_or ws (at / 64) 0) (get_or ws (at / 64 + 1) 0) (at % 64) j p
       ∙ sym (bit_in_word ws (at / 64) (at % 64 + j) (at + j) (omega arith) p)
   | inr p ↦ two_high (get_or ws (at / 64) 0) (get_or ws (at / 64 + 1) 0) (at % 64) j (at % 64 + j - 64) l (omega arith) (omega arith) b

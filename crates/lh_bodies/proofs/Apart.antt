@@ -1,11 +1,12 @@
 -- No two names of an entity are one: those of the arguments, and then those of the results in order.
-use Rattle.std.proofs.Common.{◌≡◌, ℕ, zero, suc, ◌+◌, ◌-◌, ◌<◌, ◌≤◌, Bool, true, false, ◌||◌, nat_lt, List, [], ◌∷◌, ◌++◌, length, Option, Some, None, inl, inr, ◌⊎◌, refl, ap, sym, ◌∙◌, subst, arith, length-append, append_assoc, append-nil}
+use Rattle.std.proofs.Common.{◌≡◌, ℕ, zero, suc, ◌+◌, ◌-◌, ◌<◌, ◌≤◌, Bool, true, false, nat_lt, List, [], ◌∷◌, ◌++◌, length, Option, Some, None, inl, inr, ◌⊎◌, refl, ap, sym, ◌∙◌, subst, arith, length-append, append_assoc, append-nil}
 use Rattle.std.specs.Prelude.{slice_index_or}
 use Rattle.std.specs.List.{flat_map}
 use Rattle.std.proofs.Math.ListN.{get_or-append}
 use Rattle.std.proofs.Math.Seq.{get_or-append_right}
 use Rattle.std.proofs.lemmas.List.{map-append}
 use Rattle.std.proofs.lemmas.Grind.{flat_map-append}
+use Rattle.std.proofs.lemmas.Bool.{or_parts}
 use Rattle.lh_unit.specs.Contents.{ArgText, LineText, args_define, is_result_name, lines_define}
 use Rattle.lh_names.specs.Names.{same_name}
 use Rattle.lh_unit.specs.Reads.{args_repeat}
@@ -13,10 +14,6 @@ use Rattle.lh_names.proofs.NameLists.{same_name-refl}
 use Rattle.lh_spelled.specs.Printable.{result_repeats, results_repeat}
 use Rattle.lh_body.specs.Lines.{arg_names, maybe_name, result_name}
 use Rattle.lh_bodies.specs.Bodies.{NamesDiffer}
-
-or-false : (a b : Bool) → (a || b) ≡ false → (a ≡ false) × (b ≡ false)
-or-false false b h = (refl, h)
-or-false true b h = absurd cc
 
 -- the name is none of these
 abbrev Lacks : List ℕ → List (List ℕ) → Type 0
@@ -66,13 +63,13 @@ differ-push ns n d a j k hj hk e =
 lacks-args : (n : List ℕ) (seen : List ArgText) → args_define n seen ≡ false → Lacks n (arg_names seen)
 lacks-args n [] h = lacks-none n
 lacks-args n (a ∷ more) h =
-    let z = or-false (same_name a.name n) (args_define n more) h in
+    let z = or_parts (same_name a.name n) (args_define n more) h in
     lacks-append n (a.name ∷ []) (arg_names more) (lacks-one n a.name z.0) (lacks-args n more z.1)
 
 args-differ : (seen rest : List ArgText) → args_repeat seen rest ≡ false → NamesDiffer (arg_names seen) → NamesDiffer (arg_names (seen ++ rest))
 args-differ seen [] h d = subst (λ (xs : List ArgText). NamesDiffer (arg_names xs)) (sym (append-nil seen)) d
 args-differ seen (a ∷ more) h d =
-    let z = or-false (args_define a.name seen) (args_repeat (seen ++ a ∷ []) more) h in
+    let z = or_parts (args_define a.name seen) (args_repeat (seen ++ a ∷ []) more) h in
     let one : NamesDiffer (arg_names (seen ++ a ∷ [])) = subst NamesDiffer (sym (map-append (λ (b : ArgText). b.name) seen (a ∷ [])))
     (differ-push (arg_names seen) a.name d (lacks-args a.name seen z.0)) in
     subst (λ (xs : List ArgText). NamesDiffer (arg_names xs)) (append_assoc seen (a ∷ []) more) (args-differ (seen ++ a ∷ []) more z.1 one)
@@ -82,7 +79,7 @@ args-differ seen (a ∷ more) h d =
 lacks-lines : (n : List ℕ) (seen : List LineText) → lines_define n seen ≡ false → Lacks n (flat_map result_name seen)
 lacks-lines n [] h = lacks-none n
 lacks-lines n (l ∷ more) h =
-    let z = or-false (is_result_name n l.result) (lines_define n more) h in
+    let z = or_parts (is_result_name n l.result) (lines_define n more) h in
     by l.result z.0 (lacks-lines n more z.1)
   where
     by : (r : Option (List ℕ)) → is_result_name n r ≡ false → Lacks n (flat_map result_name more) → Lacks n (maybe_name r ++ flat_map result_name more)
@@ -93,7 +90,7 @@ results-differ : (args : List ArgText) (seen rest : List LineText) → results_r
     NamesDiffer (arg_names args ++ flat_map result_name (seen ++ rest))
 results-differ args seen [] h d = subst (λ (xs : List LineText). NamesDiffer (arg_names args ++ flat_map result_name xs)) (sym (append-nil seen)) d
 results-differ args seen (l ∷ more) h d =
-    let z = or-false (result_repeats args seen l.result) (results_repeat args (seen ++ l ∷ []) more) h in
+    let z = or_parts (result_repeats args seen l.result) (results_repeat args (seen ++ l ∷ []) more) h in
     subst (λ (xs : List LineText). NamesDiffer (arg_names args ++ flat_map result_name xs)) (append_assoc seen (l ∷ []) more) (results-differ args (seen ++ l ∷ []) more z.1 (one z.0))
   where
     shape : flat_map result_name (seen ++ l ∷ []) ≡ flat_map result_name seen ++ maybe_name l.result
@@ -102,7 +99,7 @@ results-differ args seen (l ∷ more) h d =
     by : (r : Option (List ℕ)) → result_repeats args seen r ≡ false → NamesDiffer (arg_names args ++ (flat_map result_name seen ++ maybe_name r))
     by None z = subst (λ (xs : List (List ℕ)). NamesDiffer (arg_names args ++ xs)) (sym (append-nil (flat_map result_name seen))) d
     by (Some n) z =
-        let k = or-false (args_define n args) (lines_define n seen) z in
+        let k = or_parts (args_define n args) (lines_define n seen) z in
         subst NamesDiffer (append_assoc (arg_names args) (flat_map result_name seen) (n ∷ []))
         (differ-push (arg_names args ++ flat_map result_name seen) n d (lacks-append n (arg_names args) (flat_map result_name seen) (lacks-args n args k.0) (lacks-lines n seen k.1)))
 

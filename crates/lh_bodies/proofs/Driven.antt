@@ -2,6 +2,7 @@
 use Rattle.std.proofs.Common.{◌≡◌, ◌⊎◌, ◌<◌, ◌+◌, true, false, ◌&&◌, List, length, Option, Some, inl, inr, ap, sym, ◌∙◌, subst, arith, length-append}
 use Rattle.std.specs.Prelude.{Result, Ok, Err, IfOk, IfErr}
 use Rattle.std.proofs.lemmas.List.{length-map}
+use Rattle.std.proofs.lemmas.Bool.{and_from, and_right}
 use Rattle.lh_types.specs.Types.{IsData, signal_type}
 use Rattle.lh_unit.specs.Contents.{InstText, drv_text}
 use Rattle.lh_unit.specs.Naming.{inst_text}
@@ -31,7 +32,7 @@ use Rattle.lh_body.specs.declared.lines.EmitFault.TheVariants as fault
 use Rattle.lh_bodies.proofs.Extending.{Extends, extends-then, puts-extends, need-extends, cond-extends, part-extends}
 use Rattle.lh_bodies.proofs.Tells.{names-then, tells-needed, tells-on, cond-on, tells-tested, cond-text, cond-within}
 use Rattle.lh_bodies.proofs.Growing.{drive-grown}
-use Rattle.lh_bodies.proofs.Testing.{and-yes, and-no, is-given, needed-at, not-needed-at, tested-at, not-tested-at}
+use Rattle.lh_bodies.proofs.Testing.{is-given, needed-at, not-needed-at, tested-at, not-tested-at}
 
 -- ---- one instruction too many
 
@@ -81,11 +82,11 @@ module _ (s : Source) (d : Drive) (e : Emitted) where
   value-large (inr h) = longer one one-four h
 
   delay-large : IsTooLarge s d.delay one → DriveTooLarge s d e
-  delay-large (inl q) = inl (and-no (choices_fit d.value) _ (ap (λ b. b && choices_fit d.cond) q))
+  delay-large (inl q) = inl (and_right (choices_fit d.value) _ (ap (λ b. b && choices_fit d.cond) q))
   delay-large (inr h) = longer two two-four h
 
   cond-large : (choices_fit d.cond ≡ false) ⊎ (max_lines < length three.lines) → DriveTooLarge s d e
-  cond-large (inl q) = inl (and-no (choices_fit d.value) _ (and-no (choices_fit d.delay) _ q))
+  cond-large (inl q) = inl (and_right (choices_fit d.value) _ (and_right (choices_fit d.delay) _ q))
   cond-large (inr h) = longer three three-four h
 
 -- ---- the calls
@@ -277,7 +278,7 @@ module _ (o : Origin) (row : DriveRow) (ns : List Node) (x : Emitter) where
             is-driven y h = subst (λ i. IsEmitted m3 src y (puts i last)) drv-is (h m3 src last (part-is c).is)
 
             pub drive-fits : drive_fits c.drive ≡ true
-            drive-fits = and-yes (choices_fit c.drive.value) _ (value-is c).fits (and-yes (choices_fit c.drive.delay) _ (delay-is c).fits (cond-is c).fits)
+            drive-fits = and_from (choices_fit c.drive.value) _ (value-is c).fits (and_from (choices_fit c.drive.delay) _ (delay-is c).fits (cond-is c).fits)
 
           -- what the last call answers
           pub put-ok : (l2 : NamesGrow x1.lines.names x2.lines.names) (l3 : NamesGrow x2.lines.names x3.lines.names) (l4 : NamesGrow x3.lines.names x4.lines.names) (to : Typed)

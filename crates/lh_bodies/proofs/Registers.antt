@@ -2,6 +2,7 @@
 use Rattle.std.proofs.Common.{◌≡◌, ◌⊎◌, ◌<◌, Bool, true, false, ◌&&◌, ◌||◌, List, [], ◌∷◌, ◌++◌, length, map, inl, inr, refl, ap, sym, ◌∙◌, subst, arith, append_assoc, append-nil, ◌≤◌, Some}
 use Rattle.std.specs.Prelude.{fold, Result, Ok, Err, IfOk, IfErr}
 use Rattle.std.specs.List.{list_all}
+use Rattle.std.proofs.lemmas.Bool.{and_from, and_right}
 use Rattle.lh_types.specs.Types.{IsData, signal_type}
 use Rattle.lh_unit.specs.Contents.{reg_text}
 use Rattle.lh_unit.specs.Naming.{inst_text}
@@ -37,7 +38,6 @@ use Rattle.lh_body.specs.declared.lines.EmitFault.TheVariants as fault
 use Rattle.lh_bodies.proofs.Extending.{trigger-extends, triggers-extends, part-extends, puts-extends, registers-extends}
 use Rattle.lh_bodies.proofs.Tells.{triggers-on, triggers-more, triggers-text, triggers-within}
 use Rattle.lh_bodies.proofs.Growing.{row-grown, rows-grown, triggers-grown}
-use Rattle.lh_bodies.proofs.Testing.{and-yes, and-no}
 use Rattle.lh_bodies.proofs.Driven.{one-too-many}
 
 -- ---- whether a row fits
@@ -50,15 +50,15 @@ fits_with r gs = no_triggers gs || (choices_fit r.value && (choices_fit r.delay 
 
 gates-yes : (r : EdgeRowTree) (gs : List TriggerTree) → Each (RegisterFits r) gs → list_all gate_fits gs ≡ true
 gates-yes r [] h = refl
-gates-yes r (g ∷ gs) h = and-yes (gate_fits g) (list_all gate_fits gs) h.0.2 (gates-yes r gs h.1)
+gates-yes r (g ∷ gs) h = and_from (gate_fits g) (list_all gate_fits gs) h.0.2 (gates-yes r gs h.1)
 
 row-yes : (r : EdgeRowTree) (gs : List TriggerTree) → Each (RegisterFits r) gs → fits_with r gs ≡ true
 row-yes r [] h = refl
-row-yes r (g ∷ gs) h = and-yes (choices_fit r.value) _ h.0.0 (and-yes (choices_fit r.delay) _ h.0.1 (gates-yes r (g ∷ gs) h))
+row-yes r (g ∷ gs) h = and_from (choices_fit r.value) _ h.0.0 (and_from (choices_fit r.delay) _ h.0.1 (gates-yes r (g ∷ gs) h))
 
 gates-no : (done : List TriggerTree) (g : TriggerTree) (rest : List TriggerTree) → choices_fit g.gate ≡ false → list_all gate_fits (done ++ g ∷ rest) ≡ false
 gates-no [] g rest q = ap (λ b. b && list_all gate_fits rest) q
-gates-no (d ∷ done) g rest q = and-no (gate_fits d) _ (gates-no done g rest q)
+gates-no (d ∷ done) g rest q = and_right (gate_fits d) _ (gates-no done g rest q)
 
 some-triggers : (done : List TriggerTree) (g : TriggerTree) (rest : List TriggerTree) → no_triggers (done ++ g ∷ rest) ≡ false
 some-triggers [] g rest = refl
@@ -69,8 +69,8 @@ row-no r done g rest h = ap (λ b. b || (choices_fit r.value && (choices_fit r.d
   where
     by : RegisterFitsNot r g → (choices_fit r.value && (choices_fit r.delay && list_all gate_fits (done ++ g ∷ rest))) ≡ false
     by (inl q) = ap (λ b. b && (choices_fit r.delay && list_all gate_fits (done ++ g ∷ rest))) q
-    by (inr (inl q)) = and-no (choices_fit r.value) _ (ap (λ b. b && list_all gate_fits (done ++ g ∷ rest)) q)
-    by (inr (inr q)) = and-no (choices_fit r.value) _ (and-no (choices_fit r.delay) _ (gates-no done g rest q))
+    by (inr (inl q)) = and_right (choices_fit r.value) _ (ap (λ b. b && list_all gate_fits (done ++ g ∷ rest)) q)
+    by (inr (inr q)) = and_right (choices_fit r.value) _ (and_right (choices_fit r.delay) _ (gates-no done g rest q))
 
 -- ---- the triggers of a row
 

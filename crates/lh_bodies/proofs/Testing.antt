@@ -1,6 +1,6 @@
 -- Need of a condition; and what calls tell of a term that an id stands for.
-use Rattle.std.proofs.Common.{◌≡◌, ◌⊎◌, ◌<◌, Bool, true, false, ◌&&◌, if◌then◌else◌, List, length, Option, Some, None, refl, ap, sym, subst}
-use Rattle.std.specs.Prelude.{Result, Ok, Err, IfErr}
+use Rattle.std.proofs.Common.{◌≡◌, ◌⊎◌, ◌<◌, Bool, true, false, if◌then◌else◌, List, length, Option, Some, None, refl, ap, sym, subst}
+use Rattle.std.specs.Prelude.{Result, IfErr}
 use Rattle.std.specs.Result.{IsErrAnd}
 use Rattle.lh_unit.specs.Naming.{Naming}
 use Rattle.lh_names.specs.declared.name.UnitName.{UnitName}
@@ -19,26 +19,15 @@ use Rattle.lh_emit.specs.Emitting.{IsEmitted, IsNeeded, NeedsTerm, IsTooLarge, N
 use Rattle.lh_bodies.specs.Putting.{IsTested, TestsTerm, TestsTermNot}
 use Rattle.lh_origin.specs.declared.origin.Origin.{Origin}
 use Rattle.lh_emit.specs.declared.emitter.Emitter.{Emitter}
+use Rattle.lh_emit.proofs.Walking.{err-cause}
 use Rattle.lh_body.specs.declared.lines.EmitFault.{EmitFault}
 use Rattle.lh_body.specs.declared.lines.EmitFault.TheVariants as fault
 
 -- ---- tests
 
-pub and-yes : (a b : Bool) → a ≡ true → b ≡ true → (a && b) ≡ true
-and-yes a b p q = rw (p, q) refl
-
-pub and-no : (a b : Bool) → b ≡ false → (a && b) ≡ false
-and-no true b q = q
-and-no false b q = refl
-
--- what a fault has, what is handed on has
-pub err-has : {A : Type 0} (r : Result A EmitFault) (f : EmitFault) (P : EmitFault → Type 0) → IsErrAnd r (λ e. e ≡ f) → P f → IfErr r P
-err-has (Ok a) f P e h = tt
-err-has (Err g) f P e h = subst P (sym e) h
-
 -- want of memory
 pub err-memory : {A : Type 0} (r : Result A EmitFault) (P : EmitFault → Type 0) → IsErrAnd r (λ e. e ≡ fault.OutOfMemory) → P fault.OutOfMemory → IfErr r P
-err-memory r P e h = err-has r fault.OutOfMemory P e h
+err-memory r P e h = err-cause r fault.OutOfMemory P e h
 
 -- ---- a condition
 

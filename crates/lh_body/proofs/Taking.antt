@@ -1,5 +1,6 @@
 -- Names that are taken are arguments'.
 use Rattle.std.proofs.Common.{◌≡◌, ℕ, zero, suc, ◌+◌, Bool, true, false, ◌||◌, cond, if◌then◌else◌, List, [], ◌∷◌, ◌++◌, refl, ap, sym, ◌∙◌, subst, length-append}
+use Rattle.std.proofs.Math.Bool.{or-false}
 use Rattle.lh_unit.specs.Contents.{ArgText, args_define}
 use Rattle.lh_names.specs.Names.{same_name}
 use Rattle.lh_unit.specs.Lexemes.{begins}
@@ -19,10 +20,6 @@ define-more n (x ∷ xs) a = ap (λ b. same_name x.name n || b) (define-more n x
     at : (a b c : Bool) → (a || (b || c)) ≡ ((a || b) || c)
     at true b c = refl
     at false b c = refl
-
-or-false : (b : Bool) → (b || false) ≡ b
-or-false true = refl
-or-false false = refl
 
 -- with one more name among those that are taken
 abbrev pub Enters : List ℕ → (old new : List (List ℕ)) → Type 0

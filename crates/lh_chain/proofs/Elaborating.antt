@@ -1,6 +1,6 @@
 -- The chain has a design: it does not nest into itself, and is not too large.
-use Rattle.std.proofs.Common.{◌≡◌, ℕ, ◌+◌, ◌*◌, ◌≤◌, Bool, false, nat_lt, List, [], ◌∷◌, ◌++◌, length, map, Option, None, refl, ap, sym, ◌∙◌, subst, arith, append_assoc}
-use Rattle.std.specs.List.{list_any, sum_by, flat_map, range_with_len}
+use Rattle.std.proofs.Common.{◌≡◌, ℕ, ◌+◌, ◌*◌, ◌≤◌, false, nat_lt, List, [], ◌∷◌, ◌++◌, length, map, Option, None, refl, ap, sym, ◌∙◌, subst, arith, append_assoc}
+use Rattle.std.specs.List.{sum_by, flat_map, range_with_len}
 use Rattle.std.proofs.lemmas.Grind.{common_steps}
 use Rattle.std.proofs.lemmas.List.{append-nil}
 use Rattle.std.proofs.lemmas.List.FromFn.{length-range_with_len}
@@ -11,21 +11,14 @@ use Rattle.lh_unit.specs.Contents.{LineText}
 use Rattle.lh_unit.specs.Held.{Env}
 use Rattle.lh_unit.specs.Within.{Each}
 use Rattle.lh_unit.specs.Hierarchy.{SignalText, Child, Entry, hierarchies, hierarchy_of, static_held, signals_of, children_of}
-use Rattle.lh_unit.specs.Design.{is_one_of, first_some, cycle_at, cycle_from, nests_deeper, instance_count, bits_below, max_nesting, max_instances, max_bits, refusal_by, refusal_of, elaborated, design_of}
+use Rattle.lh_unit.specs.Design.{is_one_of, cycle_at, cycle_from, nests_deeper, instance_count, bits_below, max_nesting, max_instances, max_bits, refusal_by, refusal_of, elaborated, design_of}
+use Rattle.lh_unit.proofs.Lists.{list_any-none, first_some-none}
 use Rattle.lh_generator.specs.Summary.{chain_name}
 use Rattle.lh_chain.specs.Words.{unit_at}
 use Rattle.lh_chain.specs.Chain.{link_signals, link_instances, chain_last, chain_lines, chain_unit, chain_file}
 use Rattle.lh_chain.specs.Laws.{ChainElaborates}
 
 -- ---- lists
-
-all-none : {A B : Type 0} (f : A → Option B) (xs : List A) → Each (λ x. f x ≡ None) xs → first_some f xs ≡ None
-all-none f [] h = refl
-all-none f (x ∷ xs) h = rw h.0 (all-none f xs h.1)
-
-all-fail : {A : Type 0} (f : A → Bool) (xs : List A) → Each (λ x. f x ≡ false) xs → list_any f xs ≡ false
-all-fail f [] h = refl
-all-fail f (x ∷ xs) h = rw h.0 (all-fail f xs h.1)
 
 sum-ones : {A : Type 0} (f : A → ℕ) (xs : List A) → Each (λ x. f x ≡ 1) xs → sum_by f xs ≡ length xs
 sum-ones f [] h = refl
@@ -115,10 +108,10 @@ module _ (n : ℕ) (h : n ≤ 1000) where
   no-cycle : cycle_from (length table) table [] chain_name ≡ None
   no-cycle =
       let f : UnitName → Option UnitName = λ t. cycle_at (cycle_from 3 table (chain_name ∷ [])) (is_one_of (chain_name ∷ []) t) t in
-      all-none f (units_in held (chain_lines n ++ [])) (chain-each held n (λ t. f t ≡ None) refl refl refl)
+      first_some-none f (units_in held (chain_lines n ++ [])) (chain-each held n (λ t. f t ≡ None) refl refl refl)
 
   not-deep : nests_deeper max_nesting table chain_name ≡ false
-  not-deep = all-fail (nests_deeper 63 table) (units_in held (chain_lines n ++ [])) (chain-each held n (λ t. nests_deeper 63 table t ≡ false) refl refl refl)
+  not-deep = list_any-none (nests_deeper 63 table) (units_in held (chain_lines n ++ [])) (chain-each held n (λ t. nests_deeper 63 table t ≡ false) refl refl refl)
 
   few : nat_lt max_instances (instance_count max_nesting table chain_name) ≡ false
   few =

@@ -15,14 +15,11 @@ use Rattle.lh_unit.specs.Typing.{value_type, result_type, inst_giving, line_givi
 use Rattle.lh_unit.specs.TypingRows.{has_type}
 use Rattle.lh_unit.specs.Places.{places_in, places}
 use Rattle.lh_unit.specs.WellFormed.{FaultKind, undefined, wrong_kind, wrong_type, not_here, no_terminator, phi_edges, not_defined, arguments, comes_from_probe, depends_on_probe, HasFault, NoneHasFault, is_undefined, is_wrong_kind, is_wrong_type}
-use Rattle.lh_unit.proofs.Defined.{lines_define-append}
+use Rattle.lh_unit.proofs.ById.{lines_define-append as defined-more}
 use Rattle.lh_chain.specs.Words.{bit, word, typed, signal, gives, number, instance, begins_with}
 use Rattle.lh_chain.specs.Chain.{stage, next_of, chain_first, link_signals, link_register, link_adder, link_instances, chain_last, chain_lines, chain_unit, chain_file}
 use Rattle.lh_chain.proofs.Processes.{site}
 use Rattle.lh_chain.proofs.Signals.{given-front, given-defined, links_from, signal_lines, Wired, clock-wired, next-wired, stage-wired}
-
-defined-more : (n : List ℕ) (xs ys : List LineText) → lines_define n xs ≡ true → lines_define n (xs ++ ys) ≡ true
-defined-more n xs ys h = lines_define-append n xs ys ∙ ap (λ b. b || lines_define n ys) h
 
 module _ (n : ℕ) where
   abbrev y : UnitText

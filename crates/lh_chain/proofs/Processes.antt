@@ -2,7 +2,7 @@
 use Rattle.std.proofs.Common.{◌≡◌, ℕ, Bool, true, false, not, ◌&&◌, ◌||◌, List, [], ◌∷◌, map, Some, refl, ap, sym, ◌∙◌, subst, inl, inr}
 use Rattle.std.specs.List.{list_any, list_all}
 use Rattle.std.proofs.Math.Bool.{or-true}
-use Rattle.std.proofs.lemmas.Bool.{and_parts, or_parts, both_ways as clash}
+use Rattle.std.proofs.lemmas.Bool.{and_parts, both_ways as clash}
 use Rattle.lh_unit.specs.declared.inst.UnitKind.TheVariants as kind
 use Rattle.lh_unit.specs.Contents.{InstText, phi_text, BlockText, LineText, UnitText, ItemText, args_define, lines_define, blocks_define}
 use Rattle.lh_names.specs.Names.{same_name}
@@ -10,7 +10,7 @@ use Rattle.lh_unit.specs.Named.{label_or}
 use Rattle.lh_unit.specs.Places.{InstPlaceText, places, entry_of, IsPath}
 use Rattle.lh_unit.specs.WellFormed.{FaultKind, undefined, wrong_kind, wrong_type, not_here, no_terminator, phi_edges, not_defined, arguments, values_named, is_phi, Lacks, SomeValueLacks, LacksIn, Site, has_local, HasFault, NoneHasFault}
 use Rattle.lh_unit.specs.Within.{Each}
-use Rattle.lh_unit.proofs.Lists.{some_inj}
+use Rattle.lh_unit.proofs.Lists.{some_inj, Each-fails}
 use Rattle.lh_names.proofs.NameLists.{same_name-refl}
 
 abbrev pub site : UnitText → InstPlaceText → Site
@@ -68,13 +68,9 @@ values-lack u p _ h l = l
 abbrev pub kinds : List FaultKind
 kinds = undefined ∷ wrong_kind ∷ wrong_type ∷ not_here ∷ no_terminator ∷ phi_edges ∷ arguments ∷ []
 
-none-any : {X : Type 0} (test : X → Bool) (xs : List X) → list_any test xs ≡ false → Each (λ x. test x ≡ false) xs
-none-any test [] h = tt
-none-any test (x ∷ xs) h = let b = or_parts (test x) (list_any test xs) h in (b.0, none-any test xs b.1)
-
 -- an instruction with none of these has at most the fault of paths
 pub none-at : (items : List ItemText) (s : Site) → list_any (has_local items s) kinds ≡ false → ¬ HasFault items s not_defined → (k : FaultKind) → ¬ HasFault items s k
-none-at items s h d k = at k (none-any (has_local items s) kinds h)
+none-at items s h d k = at k (Each-fails (has_local items s) kinds h)
   where
     at : (k : FaultKind) → Each (λ j. has_local items s j ≡ false) kinds → ¬ HasFault items s k
     at undefined f = clash _ f.0

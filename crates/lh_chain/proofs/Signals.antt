@@ -8,6 +8,7 @@ use Rattle.lh_names.specs.Names.{same_name}
 use Rattle.lh_unit.specs.Kinds.{a_signal, result_kind}
 use Rattle.lh_unit.specs.Typing.{result_type, line_giving}
 use Rattle.lh_unit.proofs.Lists.{Same, same, other, same_or}
+use Rattle.lh_unit.proofs.ById.{line_giving-later}
 use Rattle.lh_names.proofs.NameLists.{same_name-refl}
 use Rattle.lh_chain.specs.Words.{bit, word, begins_with}
 use Rattle.lh_chain.specs.Chain.{stage, next_of, chain_first, link_signals}
@@ -22,15 +23,6 @@ given-front n (x ∷ xs) ys i h = at (is_result_name n x.result) h (given-front 
     at : (b : Bool) → (if b then Some x.inst else line_giving n xs) ≡ Some i → (line_giving n xs ≡ Some i → line_giving n (xs ++ ys) ≡ Some i)
         → (if b then Some x.inst else line_giving n (xs ++ ys)) ≡ Some i
     at true q r = q
-    at false q r = r q
-
-given-behind : (n : List ℕ) (xs ys : List LineText) → line_giving n xs ≡ None → line_giving n (xs ++ ys) ≡ line_giving n ys
-given-behind n [] ys h = refl
-given-behind n (x ∷ xs) ys h = at (is_result_name n x.result) h (given-behind n xs ys)
-  where
-    at : (b : Bool) → (if b then Some x.inst else line_giving n xs) ≡ None → (line_giving n xs ≡ None → line_giving n (xs ++ ys) ≡ line_giving n ys)
-        → (if b then Some x.inst else line_giving n (xs ++ ys)) ≡ line_giving n ys
-    at true q r = absurd cc
     at false q r = r q
 
 -- what is given is defined
@@ -90,7 +82,7 @@ clock-wired n = wired-front chain_first (links_from 0 n) bit (codes "clk") (reco
 pub next-wired : (n i : ℕ) → n ≤ 1000 → i < n → Wired (signal_lines n) word (next_of i)
 next-wired n i h l = record {
   inst = begins_with word "z";
-  gives = given-behind (next_of i) chain_first (links_from 0 n) refl ∙ next-given i 0 n (omega arith) (omega arith) (omega arith);
+  gives = line_giving-later (next_of i) chain_first (links_from 0 n) refl ∙ next-given i 0 n (omega arith) (omega arith) (omega arith);
   type = refl;
   kind = refl;
 }
@@ -105,7 +97,7 @@ later-stage n i h l =
     ≡ None = ap (λ (b : Bool). if b then Some (begins_with word "o") else None) (stages-differ 0 (i + 1) (omega arith) (omega arith) (λ e. omega arith)) in
     record {
       inst = begins_with word "z";
-      gives = given-behind (stage (i + 1)) chain_first (links_from 0 n) none ∙ stage-given i 0 n (omega arith) (omega arith) (omega arith);
+      gives = line_giving-later (stage (i + 1)) chain_first (links_from 0 n) none ∙ stage-given i 0 n (omega arith) (omega arith) (omega arith);
       type = refl;
       kind = refl;
     }

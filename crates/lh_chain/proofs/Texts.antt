@@ -9,21 +9,18 @@ use Rattle.lh_unit.specs.Contents.{LineText, unit_text}
 use Rattle.lh_unit.specs.Marks.{close_brace}
 use Rattle.lh_unit.specs.Pieces.{Piece, render, mark}
 use Rattle.lh_unit.specs.Canon.{canon_inst_line, header, item_lines, text_of, canon}
+use Rattle.lh_unit.proofs.Rendering.{text_of-append}
 use Rattle.lh_generator.specs.Generated.{chain_begins, signals_of, instances_of, chain_ends, chain, register, adder, testbench, generated}
 use Rattle.lh_generator.specs.Summary.{chain_name}
 use Rattle.lh_chain.specs.Words.{bit, word, signal, gives, begins_with, instance}
 use Rattle.lh_chain.specs.Chain.{chain_first, link_signals, link_instances, chain_last, chain_lines, chain_unit, register_unit, adder_unit, testbench_unit, chain_file}
-
-text-append : (a b : List (List Piece)) → text_of (a ++ b) ≡ text_of a ++ text_of b
-text-append [] b = refl
-text-append (l ∷ a) b = ap (λ t. render l ++ 10 ∷ t) (text-append a b) ∙ sym (append_assoc (render l) (10 ∷ text_of a) (text_of b))
 
 -- the text of instructions
 abbrev lines_text : List LineText → List ℕ
 lines_text ls = text_of (map canon_inst_line ls)
 
 lines-append : (a b : List LineText) → lines_text (a ++ b) ≡ lines_text a ++ lines_text b
-lines-append a b = ap text_of (map-append canon_inst_line a b) ∙ text-append (map canon_inst_line a) (map canon_inst_line b)
+lines-append a b = ap text_of (map-append canon_inst_line a b) ∙ text_of-append (map canon_inst_line a) (map canon_inst_line b)
 
 links-text : (f : ℕ → List LineText) (g : ℕ → List ℕ) → ((i : ℕ) → lines_text (f i) ≡ g i) → (is : List ℕ) → lines_text (flat_map f is) ≡ flat_map g is
 links-text f g h [] = refl
@@ -100,7 +97,7 @@ chain-text n =
     let ss : List ℕ = flat_map signals_of (range_with_len 0 n) in
     let is : List ℕ = flat_map instances_of (range_with_len 0 n) in
     ap (λ t. first_line ++ 10 ∷ text_of (t ++ end)) (append-nil ls)
-    ∙ ap (λ t. first_line ++ 10 ∷ t) (text-append ls end ∙ ap (λ t. t ++ text_of end) (chain_lines-text n))
+    ∙ ap (λ t. first_line ++ 10 ∷ t) (text_of-append ls end ∙ ap (λ t. t ++ text_of end) (chain_lines-text n))
     ∙ joined first_line (lines_text chain_first) ss is (lines_text chain_last) (text_of end)
     ∙ ap (λ t. t ++ ss ++ is ++ (lines_text chain_last ++ text_of end)) begins-text
     ∙ ap (λ t. chain_begins ++ ss ++ is ++ t) ends-text
@@ -121,8 +118,8 @@ testbench-text = refl
 
 four : (a b c d : List (List Piece)) → text_of (a ++ (b ++ (c ++ (d ++ [])))) ≡ text_of a ++ text_of b ++ text_of c ++ text_of d
 four a b c d =
-    text-append a (b ++ (c ++ (d ++ [])))
-    ∙ ap (λ t. text_of a ++ t) (text-append b (c ++ (d ++ [])) ∙ ap (λ t. text_of b ++ t) (text-append c (d ++ []) ∙ ap (λ t. text_of c ++ text_of t) (append-nil d)))
+    text_of-append a (b ++ (c ++ (d ++ [])))
+    ∙ ap (λ t. text_of a ++ t) (text_of-append b (c ++ (d ++ [])) ∙ ap (λ t. text_of b ++ t) (text_of-append c (d ++ []) ∙ ap (λ t. text_of c ++ text_of t) (append-nil d)))
     ∙ sym (append_assoc (text_of a) (text_of b) (text_of c ++ text_of d)) ∙ sym (append_assoc (text_of a ++ text_of b) (text_of c) (text_of d))
 
 -- the canonical text of the file is the text of the chain

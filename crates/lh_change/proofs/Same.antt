@@ -1,11 +1,12 @@
 -- Bits that are the same in two frames, by signals and in rows.
-use Rattle.std.proofs.Common.{arith, ◌≡◌, ℕ, zero, suc, ◌+◌, ◌<◌, ◌≤◌, List, [], ◌∷◌, ◌++◌, length, get_or, drop, Bool, true, false, not, ◌&&◌, ◌||◌, Some, refl, ap, sym, ◌∙◌, subst, ◌⊎◌, inl, inr}
+use Rattle.std.proofs.Common.{arith, ◌≡◌, ℕ, zero, suc, ◌+◌, ◌<◌, ◌≤◌, List, [], ◌∷◌, ◌++◌, length, get_or, drop, Bool, true, false, not, ◌&&◌, ◌||◌, Some, refl, ap, sym, ◌∙◌, subst, ◌⊎◌, inl, inr, true≢false}
 use Rattle.std.specs.Prelude.{slice_get, slice_set}
 use Rattle.std.specs.List.{list_any}
-use Rattle.std.proofs.lemmas.Bool.{cases_lt, cases_eq}
+use Rattle.std.proofs.lemmas.Bool.{cases_lt, cases_eq, false≢true, or_parts, true_from_ne_false}
 use Rattle.std.proofs.lemmas.List.{drop_more, drop_all, take_all, get_or-set_other}
 use Rattle.std.proofs.lemmas.List.Folds.{list_any-append}
 use Rattle.std.proofs.lemmas.Option.{unwrap_or-slice_get}
+use Rattle.std.proofs.Math.Bool.{or-true}
 use Rattle.lh_types.specs.Types.{IsData, bit_count}
 use Rattle.lh_types.specs.Parts.{bits_within}
 use Rattle.lh_bits.specs.Writes.{written}
@@ -18,12 +19,6 @@ use Rattle.lh_change.specs.Touched.{AreWithin, bits_named, StaysSame}
 use Rattle.lh_change.specs.Laws.{PartsStay, OnlyTouchedChange, OnlyWrittenChange, SignalsAreAll}
 use Rattle.lh_change.proofs.Filled.{has_of, of_has, at_signal, some_signal}
 use Rattle.lh_change.proofs.Touching.{in_row, row_in, has_either}
-
-true_false : true ≡ false → ⊥
-true_false e = cc
-
-pub false_true : false ≡ true → ⊥
-false_true e = cc
 
 -- the row of bits from one on is that bit, and the row behind it
 row_next : (bs : List Bool) (lo n : ℕ) → lo < length bs → bits_within lo (suc n) bs ≡ bit_at bs lo ∷ bits_within (lo + 1) n bs
@@ -56,19 +51,15 @@ bits_of_row (suc n) lo x y p q e b l m =
 -- a bit does not differ exactly where it is the same
 same_differs : (p q : Bool) → p ≡ q → (p && not q) || (not p && q) ≡ false
 same_differs true true e = refl
-same_differs true false e = absurd (true_false e)
-same_differs false true e = absurd (false_true e)
+same_differs true false e = absurd (true≢false e)
+same_differs false true e = absurd (false≢true e)
 same_differs false false e = refl
 
 differs_same : (p q : Bool) → (p && not q) || (not p && q) ≡ false → p ≡ q
 differs_same true true e = refl
-differs_same true false e = absurd (true_false e)
-differs_same false true e = absurd (true_false e)
+differs_same true false e = absurd (true≢false e)
+differs_same false true e = absurd (true≢false e)
 differs_same false false e = refl
-
-or_false : (p q : Bool) → p || q ≡ false → (p ≡ false) × (q ≡ false)
-or_false true q e = absurd (true_false e)
-or_false false q e = (refl, e)
 
 pub none_differ : (x y : List Bool) (bits : List ℕ) → ((b : ℕ) → IsOneOf b bits → bit_at x b ≡ bit_at y b) → list_any (bit_differs x y) bits ≡ false
 none_differ x y [] h = refl
@@ -77,8 +68,8 @@ none_differ x y (b ∷ bits) h =
 
 pub each_same : (x y : List Bool) (bits : List ℕ) → list_any (bit_differs x y) bits ≡ false → (b : ℕ) → IsOneOf b bits → bit_at x b ≡ bit_at y b
 each_same x y [] e b h = absurd h
-each_same x y (c ∷ bits) e b (inl p) = subst (λ (k : ℕ). bit_at x k ≡ bit_at y k) p (differs_same (bit_at x c) (bit_at y c) (or_false (bit_differs x y c) (list_any (bit_differs x y) bits) e).0)
-each_same x y (c ∷ bits) e b (inr h) = each_same x y bits (or_false (bit_differs x y c) (list_any (bit_differs x y) bits) e).1 b h
+each_same x y (c ∷ bits) e b (inl p) = subst (λ (k : ℕ). bit_at x k ≡ bit_at y k) p (differs_same (bit_at x c) (bit_at y c) (or_parts (bit_differs x y c) (list_any (bit_differs x y) bits) e).0)
+each_same x y (c ∷ bits) e b (inr h) = each_same x y bits (or_parts (bit_differs x y c) (list_any (bit_differs x y) bits) e).1 b h
 
 -- a row differs exactly where it is not the same
 row_same : (n lo : ℕ) (x y : List Bool) → lo + n ≤ length x → lo + n ≤ length y → bits_within lo n x ≡ bits_within lo n y → list_any (bit_differs x y) (bits_from lo n) ≡ false
@@ -87,13 +78,9 @@ row_same n lo x y p q e =
     let r : (lo ≤ b) × (b < lo + n) = in_row b lo n h in
     bits_of_row n lo x y p q e b r.0 r.1)
 
-not_false : (b : Bool) → (b ≡ false → ⊥) → b ≡ true
-not_false true h = refl
-not_false false h = absurd (h refl)
-
 pub row_differs : (n lo : ℕ) (x y : List Bool) → lo + n ≤ length x → lo + n ≤ length y → (bits_within lo n x ≡ bits_within lo n y → ⊥) → list_any (bit_differs x y) (bits_from lo n) ≡ true
 row_differs n lo x y p q h =
-    not_false (list_any (bit_differs x y) (bits_from lo n)) (λ e.
+    true_from_ne_false (list_any (bit_differs x y) (bits_from lo n)) (λ e.
     h (row_of_bits n lo x y p q (λ b l m. each_same x y (bits_from lo n) e b (row_in b lo n l m))))
 
 parts_next : (x y : List Bool) (parts : List Range) (i : ℕ) (r : Range) → i < length parts → r ≡ get_or parts i r →
@@ -120,10 +107,6 @@ part_differs x y parts i r l e p q s d =
 pub no_part_differs : (x y : List Bool) (parts : List Range) (i : ℕ) → length parts ≤ i → DifferFrom parts i x y → false ≡ list_any (bit_differs x y) (bit_numbers parts)
 no_part_differs x y parts i l d = ap (λ (ps : List Range). list_any (bit_differs x y) (bit_numbers ps)) (sym (drop_all i parts l)) ∙ d
 
-or_true : (b : Bool) → b || true ≡ true
-or_true true = refl
-or_true false = refl
-
 -- one of the parts is a row that differs
 pub part_among : (x y : List Bool) (parts : List Range) (i : ℕ) (p r : Range) → i < length parts → p ≡ get_or parts i p → p.lo ≡ r.lo →
     p.len ≡ r.len → list_any (bit_differs x y) (bits_from r.lo r.len) ≡ true →
@@ -136,7 +119,7 @@ part_among x y (q ∷ parts) zero p r l e lo len d =
 part_among x y (q ∷ parts) (suc i) p r l e lo len d =
     list_any-append (bit_differs x y) (bits_from q.lo q.len) (bit_numbers parts) ∙
     ap (λ (b : Bool). list_any (bit_differs x y) (bits_from q.lo q.len) || b) (part_among x y parts i p r (omega arith) e lo len d) ∙
-    or_true (list_any (bit_differs x y) (bits_from q.lo q.len))
+    or-true (list_any (bit_differs x y) (bits_from q.lo q.len))
 
 -- a signal stays exactly where its row does
 pub stays_by_row : (hi : ℕ) (ss : List Signal) (k : ℕ) (s : Signal) (x y : List Bool) → FillFrom 0 ss hi → slice_get ss k ≡ Some s → length x ≡ hi → length y ≡ hi →

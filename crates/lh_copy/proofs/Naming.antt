@@ -5,9 +5,10 @@ use Rattle.lh_unit.specs.Builders.{FindsUnit, FindsValue, FindsLabel}
 use Rattle.lh_unit.specs.declared.inst.UnitId.{UnitId}
 use Rattle.lh_unit.specs.declared.inst.ValueId.{ValueId}
 use Rattle.lh_unit.specs.declared.inst.BlockId.{BlockId}
-use Rattle.lh_unit.proofs.Lists.{nat_eq-refl, nat_eq-other}
+use Rattle.lh_unit.proofs.Lists.{nat_eq-other}
 use Rattle.lh_names.proofs.Lists.{before, at, past, trichotomy}
 use Rattle.lh_unit.proofs.ModuleLaws.{KeepsEntries-refl, KeepsEntries-trans, unit-by_name, value-by_name, label-by_name}
+use Rattle.lh_unit.proofs.BuilderLemmas.{one-here}
 use Rattle.lh_copy.specs.Named.{NamesIn, NamesUnits, NamesValues, NamesLabels}
 
 -- the names of n ids differ
@@ -46,9 +47,6 @@ units-next a old new k u o h n f =
     }
 
 -- ---- entries of one unit
-
-here : (u : ℕ) → one_more_in u u ≡ 1
-here u = ap (λ b. if b then 1 else 0) (nat_eq-refl u)
 
 elsewhere : (u w : ℕ) → w ≢ u → one_more_in u w ≡ 0
 elsewhere u w h = ap (λ b. if b then 1 else 0) (nat_eq-other w u h)
@@ -92,7 +90,7 @@ pub values-next : (a old new : Arena) (u : UnitId) (n k : ℕ) (f : ℕ → List
     → NamesValues a new u.0 (k + 1) f
 values-next a old new u n k f v d h s w =
     let g = w.0.grows in
-    let more : value_count new u.0 ≤ value_count old u.0 + 1 = omega (arith, w.3.more_values u.0, here u.0) in
+    let more : value_count new u.0 ≤ value_count old u.0 + 1 = omega (arith, w.3.more_values u.0, one-here u.0) in
     let kept : (j : ℕ) → j < k → value_name_at new u.0 j ≡ f j = λ j l. g.entries.value_names u.0 j (omega (arith, l, s.named.count)) ∙ s.named.names j l in
     let e : v.0 ≡ k = next-id n k v.0 (value_count new u.0) f (value_name_at new u.0) d h (omega (arith, more, s.named.count)) w.1 kept w.2 in
     record {
@@ -116,7 +114,7 @@ pub labels-next : (a old new : Arena) (u : UnitId) (n k : ℕ) (f : ℕ → List
     → NamesLabels a new u.0 (k + 1) f
 labels-next a old new u n k f v d h s w =
     let g = w.0.grows in
-    let more : label_count new u.0 ≤ label_count old u.0 + 1 = omega (arith, w.3.more_labels u.0, here u.0) in
+    let more : label_count new u.0 ≤ label_count old u.0 + 1 = omega (arith, w.3.more_labels u.0, one-here u.0) in
     let kept : (j : ℕ) → j < k → label_name_at new u.0 j ≡ f j = λ j l. g.entries.label_names u.0 j (omega (arith, l, s.named.count)) ∙ s.named.names j l in
     let e : v.0 ≡ k = next-id n k v.0 (label_count new u.0) f (label_name_at new u.0) d h (omega (arith, more, s.named.count)) w.1 kept w.2 in
     record {

@@ -11,6 +11,7 @@ use Rattle.lh_names.specs.declared.name.UnitName.{UnitName}
 use Rattle.lh_unit.specs.declared.inst.UnitKind.{UnitKind}
 use Rattle.lh_unit.specs.declared.inst.UnitKind.TheVariants as kind
 use Rattle.lh_unit.proofs.ModuleLaws.{length-line_at_end}
+use Rattle.lh_unit.proofs.ContentsLemmas.{new_unit-blocks, new_unit-args, line_at_end-push}
 use Rattle.lh_spelled.specs.Printable.{result_repeats, results_repeat, label_repeats, labels_repeat}
 use Rattle.lh_spelled.proofs.Printing.{blocks_define-lines, lines_of-last, line_count-last, results-split}
 use Rattle.lh_copy.specs.Changing.{with_args, with_lines, with_blocks, with_type}
@@ -30,18 +31,8 @@ with_args-is : (xs : List ArgText) (t : UnitText) → with_args xs t ≡ record 
 with_args-is [] t = sym (λ i. record t { args = append-nil t.args i })
 with_args-is (a ∷ xs) t = with_args-is xs (with_arg a t) ∙ (λ i. record t { args = append_assoc t.args (a ∷ []) xs i })
 
-no-blocks : (n : UnitName) (k : UnitKind) (m : List ℕ) → blocks_define m (new_unit n k).blocks ≡ false
-no-blocks n kind.Func m = refl
-no-blocks n kind.Proc m = refl
-no-blocks n kind.Entity m = refl
-
-no-args : (n : UnitName) (k : UnitKind) → (new_unit n k).args ≡ []
-no-args n kind.Func = refl
-no-args n kind.Proc = refl
-no-args n kind.Entity = refl
-
 pub new-args : (n : UnitName) (k : UnitKind) (xs : List ArgText) → args_repeat [] xs ≡ false → ArgsFit (new_unit n k) xs
-new-args n k xs e = args-fit (new_unit n k) xs (no-blocks n k) (ap (λ seen. args_repeat seen xs) (no-args n k) ∙ e)
+new-args n k xs e = args-fit (new_unit n k) xs (new_unit-blocks n k) (ap (λ seen. args_repeat seen xs) (new_unit-args n k) ∙ e)
 
 -- ---- instructions
 
@@ -78,11 +69,6 @@ ends (l ∷ ls) bs = ends ls (line_at_end l bs)
 with_lines-is : (ls : List LineText) (t : UnitText) → with_lines ls t ≡ record t { blocks = ends ls t.blocks }
 with_lines-is [] t = refl
 with_lines-is (l ∷ ls) t = with_lines-is ls (with_line l t)
-
-line_at_end-push : (l : LineText) (xs : List BlockText) (b : BlockText) → line_at_end l (xs ++ b ∷ []) ≡ xs ++ record b { lines = b.lines ++ l ∷ [] } ∷ []
-line_at_end-push l [] b = refl
-line_at_end-push l (x ∷ []) b = refl
-line_at_end-push l (x ∷ y ∷ xs) b = ap (λ z. x ∷ z) (line_at_end-push l (y ∷ xs) b)
 
 ends-push : (ls : List LineText) (bs : List BlockText) (b : BlockText) → ends ls (bs ++ b ∷ []) ≡ bs ++ record b { lines = b.lines ++ ls } ∷ []
 ends-push [] bs b = sym (λ i. bs ++ record b { lines = append-nil b.lines i } ∷ [])

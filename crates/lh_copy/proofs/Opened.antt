@@ -1,5 +1,5 @@
 -- The open unit of a module underway, changed step by step.
-use Rattle.std.proofs.Common.{◌≡◌, ℕ, Bool, true, false, List, [], ◌∷◌, ◌++◌, Option, Some, Err, refl, ap, sym, ◌∙◌, arith}
+use Rattle.std.proofs.Common.{◌≡◌, ℕ, true, false, List, [], ◌∷◌, ◌++◌, Some, Err, refl, ap, sym, ◌∙◌, arith}
 use Rattle.lh_unit.specs.Contents.{ItemText, UnitText, LineText, ArgText, unit_text, declare_text, change_last, last_unit, line_count, defines_unit, defines_value, defines_label}
 use Rattle.lh_unit.specs.Arena.{Arena, IsOpen, HasFewMore, none_more, contents, unit_text_at, unit_name_at}
 use Rattle.lh_unit.specs.Builders.{HasContents, BeginsUnit, AddsArg, AddsBlock, AddsLine, HasRoom, HasTwice, defines_result}
@@ -10,11 +10,9 @@ use Rattle.lh_unit.specs.declared.inst.UnitFault.TheVariants as fault
 use Rattle.lh_unit.proofs.ContentsLemmas.{open-text, of-open, last_unit-push, change_last-push}
 use Rattle.lh_unit.proofs.ModuleLaws.{KeepsEntries-refl, KeepsEntries-trans, last_unit-change_last}
 use Rattle.lh_copy.specs.Changing.{Becomes, AddsUnitText}
+use Rattle.lh_types.proofs.Tests.{not_both, some_once}
 
 -- ---- the last item
-
-some_same : (o : Option UnitText) (x y : UnitText) → o ≡ Some x → o ≡ Some y → x ≡ y
-some_same o x y p q = cc
 
 -- a change of the last unit is what it gives there
 change-const : (f : UnitText → UnitText) (xs : List ItemText) (t : UnitText) → last_unit xs ≡ Some t → change_last f xs ≡ change_last (λ x. f t) xs
@@ -76,7 +74,7 @@ becomes-by a b u f p s =
     let e : last_unit (contents a) ≡ Some t = open-text a u p in
     record {
       is_open = s.is_open;
-      text = some_same (last_unit (contents b)) (unit_text_at b u.0) (f t) (open-text b u s.is_open) (ap last_unit s.says ∙ last_unit-change_last f (contents a) t e);
+      text = some_once (last_unit (contents b)) (unit_text_at b u.0) (f t) (open-text b u s.is_open) (ap last_unit s.says ∙ last_unit-change_last f (contents a) t e);
       says = s.says ∙ change-const f (contents a) t e;
       entries = s.entries;
       no_more = s.no_more;
@@ -94,7 +92,7 @@ becomes-trans a b c u s t o p q = record {
 pub adds-by : (a b : Arena) (u : UnitId) (t : UnitText) → HasContents a b u (contents a ++ unit_text t ∷ []) → AddsUnitText a b u t
 adds-by a b u t s = record {
   is_open = s.is_open;
-  text = some_same (last_unit (contents b)) (unit_text_at b u.0) t (open-text b u s.is_open) (ap last_unit s.says ∙ last_unit-push (contents a) t);
+  text = some_once (last_unit (contents b)) (unit_text_at b u.0) t (open-text b u s.is_open) (ap last_unit s.says ∙ last_unit-push (contents a) t);
   says = s.says;
   entries = s.entries;
   no_more = s.no_more;
@@ -111,25 +109,22 @@ adds-then a b c u s t p q = record {
 
 -- ---- refusals that cannot come
 
-is_bad : (b : Bool) → b ≡ true → b ≡ false → ⊥
-is_bad b p q = cc
-
 pub not-again : (f : UnitFault) (a b : Arena) (u : UnitId) (k : UnitKind) → defines_unit (unit_name_at a u.0) (contents a) ≡ false → BeginsUnit (Err f) a b u k → f ≡ fault.OutOfMemory
 not-again fault.UnitTooLarge a b u k h g = absurd g
-not-again fault.DuplicateName a b u k h g = absurd (is_bad (defines_unit (unit_name_at a u.0) (contents a)) g.0 h)
+not-again fault.DuplicateName a b u k h g = absurd (not_both (defines_unit (unit_name_at a u.0) (contents a)) g.0 h)
 not-again fault.OutOfMemory a b u k h g = refl
 
 pub no-arg-twice : (f : UnitFault) (a b : Arena) (u : UnitId) (x : ArgText) → IsOpen a u → defines_value x.name (unit_text_at a u.0) ≡ false → AddsArg (Err f) a b u x → f ≡ fault.OutOfMemory
 no-arg-twice fault.UnitTooLarge a b u x p h g = absurd g
-no-arg-twice fault.DuplicateName a b u x p h g = absurd (is_bad (defines_value x.name (unit_text_at a u.0)) (of-open a u (λ t. defines_value x.name t ≡ true) p g.0) h)
+no-arg-twice fault.DuplicateName a b u x p h g = absurd (not_both (defines_value x.name (unit_text_at a u.0)) (of-open a u (λ t. defines_value x.name t ≡ true) p g.0) h)
 no-arg-twice fault.OutOfMemory a b u x p h g = refl
 
 pub no-label-twice : (f : UnitFault) (a b : Arena) (u : UnitId) (n : List ℕ) → IsOpen a u → defines_label n (unit_text_at a u.0) ≡ false → AddsBlock (Err f) a b u n → f ≡ fault.OutOfMemory
 no-label-twice fault.UnitTooLarge a b u n p h g = absurd g
-no-label-twice fault.DuplicateName a b u n p h g = absurd (is_bad (defines_label n (unit_text_at a u.0)) (of-open a u (λ t. defines_label n t ≡ true) p g.0) h)
+no-label-twice fault.DuplicateName a b u n p h g = absurd (not_both (defines_label n (unit_text_at a u.0)) (of-open a u (λ t. defines_label n t ≡ true) p g.0) h)
 no-label-twice fault.OutOfMemory a b u n p h g = refl
 
 pub has-room : (f : UnitFault) (a b : Arena) (u : UnitId) (l : LineText) → IsOpen a u → HasRoom l (unit_text_at a u.0) → AddsLine (Err f) a b u l → f ≡ fault.OutOfMemory
 has-room fault.UnitTooLarge a b u l p h g = let e : line_count (unit_text_at a u.0).blocks ≡ 65536 = of-open a u (λ t. line_count t.blocks ≡ 65536) p g.0 in absurd (omega (arith, e, h.small))
-has-room fault.DuplicateName a b u l p h g = absurd (is_bad (defines_result l.result (unit_text_at a u.0)) (of-open a u (HasTwice l) p g.0).twice h.undefined)
+has-room fault.DuplicateName a b u l p h g = absurd (not_both (defines_result l.result (unit_text_at a u.0)) (of-open a u (HasTwice l) p g.0).twice h.undefined)
 has-room fault.OutOfMemory a b u l p h g = refl

@@ -1,5 +1,5 @@
 -- Things that are added to the open unit one after another.
-use Rattle.std.proofs.Common.{◌≡◌, ◌⊎◌, inl, inr, ℕ, ◌+◌, ◌<◌, zero, suc, List, [], ◌∷◌, length, map, drop, get_or, false, Option, Some, None, slice_get, Result, Ok, Err, IfOk, refl, ap, sym, ◌∙◌, subst, arith}
+use Rattle.std.proofs.Common.{◌≡◌, ◌⊎◌, inl, inr, ℕ, ◌+◌, ◌<◌, List, [], ◌∷◌, length, map, drop, get_or, false, Option, Some, None, slice_get, Result, Ok, Err, IfOk, refl, ap, sym, ◌∙◌, subst, arith}
 use Rattle.std.proofs.lemmas.Option.{slice_get-get_or}
 use Rattle.lh_types.specs.Types.{TypeTree}
 use Rattle.lh_unit.specs.Contents.{UnitText, LineText, ArgText, with_arg, with_line, with_block, defines_value, defines_label}
@@ -25,6 +25,7 @@ use Rattle.lh_unit.proofs.Tables.{BlocksWithin-at}
 use Rattle.lh_unit.proofs.Defined.{label_text-named, blocks-within}
 use Rattle.lh_unit.proofs.Texts.{Agree, inst-same, maybe-same}
 use Rattle.lh_unit.proofs.Within.{InstWithin-more}
+use Rattle.lh_unit.proofs.Placing.{args-item}
 use Rattle.lh_copy.specs.Changing.{Becomes, with_args, with_lines, with_labelled, with_blocks}
 use Rattle.lh_copy.specs.Fitting.{ArgsFit, LinesFit, LabelFits, BlocksFit}
 use Rattle.lh_copy.specs.Named.{SameNames}
@@ -99,11 +100,6 @@ module _ (a b : Arena) (u : ℕ) (s : SameNames a b u) where
 
 -- ---- arguments
 
-pub arg-within : (n : ℕ) (xs : List Arg) (i : ℕ) (x : Arg) → ArgsWithin n xs → i < length xs → x ≡ get_or xs i x → x.value.0 < n
-arg-within n [] i x w h e = absurd (omega arith)
-arg-within n (y ∷ xs) zero x w h e = subst (λ (z : Arg). z.value.0 < n) (sym e) w.0
-arg-within n (y ∷ xs) (suc i) x w h e = arg-within n xs i x w.1 (omega arith) e
-
 -- these arguments of a unit are still to be added
 abbrev pub ArgsLeft : (a old now : Arena) → UnitId → List Arg → Type 0
 ArgsLeft a old now u xs = SameNames a now u.0 × Left ArgsFit with_args old now u (map (arg_text (naming a u.0)) xs) (with_args (unit_text_at a u.0).args (unit_text_at old u.0))
@@ -119,7 +115,7 @@ args-start a old u xs e s o f = (
 pub arg-placed : (a old now : Arena) (u : UnitId) (xs rest : List Arg) (i : ℕ) (x : Arg) → IsArena a → u.0 < unit_count a → xs ≡ args_at a u.0 → ArgsLeft a old now u rest → i < length xs
     → x ≡ get_or xs i x → x.value.0 < value_count now u.0
 arg-placed a old now u xs rest i x o h e l w q =
-    let p : x.value.0 < value_count a u.0 = arg-within (value_count a u.0) xs i x (subst (ArgsWithin (value_count a u.0)) (sym e) (o.tables u.0 h).args_within) w q in
+    let p : x.value.0 < value_count a u.0 = args-item (value_count a u.0) xs i x (subst (ArgsWithin (value_count a u.0)) (sym e) (o.tables u.0 h).args_within) w q in
     omega (arith, p, l.0.values.count)
 
 module _ (a old now : Arena) (u : UnitId) (xs : List Arg) (i : ℕ) (x : Arg) (o : IsArena a) (h : u.0 < unit_count a) (e : xs ≡ args_at a u.0) (l : ArgsLeft a old now u (drop i xs)) (w : i < length xs)
@@ -128,7 +124,7 @@ module _ (a old now : Arena) (u : UnitId) (xs : List Arg) (i : ℕ) (x : Arg) (o
   args_now = subst (λ ys. Left ArgsFit with_args old now u (map (arg_text (naming a u.0)) ys) (with_args (unit_text_at a u.0).args (unit_text_at old u.0))) (drop-item xs i x w q) l.1
 
   there : x.value.0 < value_count a u.0
-  there = arg-within (value_count a u.0) xs i x (subst (ArgsWithin (value_count a u.0)) (sym e) (o.tables u.0 h).args_within) w q
+  there = args-item (value_count a u.0) xs i x (subst (ArgsWithin (value_count a u.0)) (sym e) (o.tables u.0 h).args_within) w q
 
   pub arg-new : defines_value (value_name_at now u.0 x.value.0) (unit_text_at now u.0) ≡ false
   arg-new = ap (λ n. defines_value n (unit_text_at now u.0)) (l.0.values.names x.value.0 there) ∙ args_now.fit.0

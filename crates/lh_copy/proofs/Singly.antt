@@ -1,7 +1,8 @@
 -- In a module no unit defines a value or a label twice, and none has too many instructions.
-use Rattle.std.proofs.Common.{◌≡◌, ℕ, ◌<◌, zero, suc, Bool, true, false, ◌||◌, nat_eq, List, [], ◌∷◌, ◌++◌, length, map, get_or, Option, Some, None, slice_get, refl, ap, sym, ◌∙◌, subst, arith, length-append, append_assoc}
+use Rattle.std.proofs.Common.{◌≡◌, ℕ, ◌<◌, suc, Bool, true, false, ◌||◌, nat_eq, List, [], ◌∷◌, ◌++◌, length, map, get_or, Option, Some, None, slice_get, refl, ap, sym, ◌∙◌, subst, arith, length-append, append_assoc}
 use Rattle.std.specs.Option.{option_map}
 use Rattle.std.proofs.lemmas.List.{map-append, get_or_append_left}
+use Rattle.std.proofs.lemmas.Bool.{or_from}
 use Rattle.lh_unit.specs.Contents.{BlockText, args_define, lines_define, defines_label_in, is_result_name, line_count}
 use Rattle.lh_unit.specs.Reads.{args_repeat}
 use Rattle.lh_unit.specs.Table.{Table, IsTable, IsDefinition, FitsKind, HasBlocks, ArgsWithin, ResultWithin, ResultsWithin, BlocksWithin, entity_block, flat, is_arg, is_made, is_result, is_block, no_line}
@@ -19,19 +20,12 @@ use Rattle.lh_unit.specs.declared.table.Line.{Line}
 use Rattle.lh_unit.proofs.Lists.{nat_eq-is, not_true}
 use Rattle.lh_unit.proofs.Defined.{arg-ids, line-ids, flat_lines, line_count-ids, label_text-named, blocks-within}
 use Rattle.lh_unit.proofs.ById.{args_define-by_id, same_label-by_id}
+use Rattle.lh_unit.proofs.Giving.{same-argument, is_arg-there}
 use Rattle.lh_spelled.specs.Printable.{result_repeats, results_repeat, label_repeats, labels_repeat}
 use Rattle.lh_copy.specs.Copying.{IsOnce}
+use Rattle.lh_types.proofs.Lists.{get_end, get_below}
 
 -- ---- lists
-
-at-left : {X : Type 0} (xs ys : List X) (k : ℕ) → k < length xs → slice_get (xs ++ ys) k ≡ slice_get xs k
-at-left [] ys k h = absurd (omega arith)
-at-left (x ∷ xs) ys zero h = refl
-at-left (x ∷ xs) ys (suc k) h = at-left xs ys k (omega arith)
-
-at-next : {X : Type 0} (xs : List X) (y : X) (ys : List X) → slice_get (xs ++ y ∷ ys) (length xs) ≡ Some y
-at-next [] y ys = refl
-at-next (x ∷ xs) y ys = at-next xs y ys
 
 get-next : {X : Type 0} (xs : List X) (y : X) (ys : List X) (d : X) → get_or (xs ++ y ∷ ys) (length xs) d ≡ y
 get-next [] y ys d = refl
@@ -55,20 +49,7 @@ blocks-parts : (n : ℕ) (xs ys : List BlockId) → BlocksWithin n (xs ++ ys) �
 blocks-parts n [] ys w = (tt, w)
 blocks-parts n (x ∷ xs) ys w = let p = blocks-parts n xs ys w.1 in ((w.0, p.0), p.1)
 
-none-of : (b c : Bool) → b ≡ false → c ≡ false → (b || c) ≡ false
-none-of b c p q = ap (λ x. x || c) p ∙ q
-
 -- ---- what is found
-
-arg-found : (xs : List Arg) (k : ℕ) → is_arg xs k ≡ true → (j : ℕ) × (j < length xs) × (option_map (λ (a : Arg). a.value) (slice_get xs j) ≡ Some (record { 0 = k }))
-arg-found [] k e = absurd cc
-arg-found (a ∷ xs) k e = by (nat_eq a.value.0 k) refl e (λ q. arg-found xs k q)
-  where
-    by : (b : Bool) → nat_eq a.value.0 k ≡ b → (b || is_arg xs k) ≡ true
-        → (is_arg xs k ≡ true → (j : ℕ) × (j < length xs) × (option_map (λ (a : Arg). a.value) (slice_get xs j) ≡ Some (record { 0 = k }))) → (j : ℕ) × (j < length (a ∷ xs))
-        × (option_map (λ (a : Arg). a.value) (slice_get (a ∷ xs) j) ≡ Some (record { 0 = k }))
-    by true p q more = let r : a.value.0 ≡ k = nat_eq-is a.value.0 k p in (0, omega arith, λ i. Some (record { 0 = r i }))
-    by false p q more = let f = more q in (suc f.0, omega (arith, f.1), f.2)
 
 result-found : (r : Option ValueId) (k : ℕ) → is_result r k ≡ true → r ≡ Some (record { 0 = k })
 result-found None k e = absurd cc
@@ -92,9 +73,6 @@ block-found (b ∷ bs) k e = by (nat_eq b.0 k) refl e (λ q. block-found bs k q)
     by true p q more = let r : b.0 ≡ k = nat_eq-is b.0 k p in (0, omega arith, λ i. Some (record { 0 = r i }))
     by false p q more = let f = more q in (suc f.0, omega (arith, f.1), f.2)
 
-same-arg : (i j : ℕ) → value_def.Arg i ≡ value_def.Arg j → i ≡ j
-same-arg i j e = cc
-
 inst-inj : (x y : InstId) → value_def.Inst x ≡ value_def.Inst y → x ≡ y
 inst-inj x y e = cc
 
@@ -111,7 +89,7 @@ module _ (t : Table) (o : IsTable t) where
   arg-here seen more x e = (
     subst (λ (xs : List Arg). length seen < length xs) (sym e) (within-next seen x more),
     ap (λ xs. option_map (λ (a : Arg). a.value) (slice_get xs (length seen))) e
-        ∙ ap (option_map (λ (a : Arg). a.value)) (at-next seen x more),
+        ∙ ap (option_map (λ (a : Arg). a.value)) (get_end seen x more),
   )
 
   line-here : (seen more : List Line) (x : Line) (v : ValueId) → t.lines ≡ seen ++ x ∷ more → x.result ≡ Some v → IsDefinition t v.0 (value_def.Inst (record { 0 = length seen }))
@@ -123,17 +101,17 @@ module _ (t : Table) (o : IsTable t) where
 
   arg-once : (seen more : List Arg) (x : Arg) → t.args ≡ seen ++ x ∷ more → is_arg seen x.value.0 ≡ false
   arg-once seen more x e = not_true (is_arg seen x.value.0) (λ p.
-      let f = arg-found seen x.value.0 p in
+      let f = is_arg-there seen x.value.0 p in
       let d : IsDefinition t x.value.0 (value_def.Arg f.0) = (
         subst (λ (xs : List Arg). f.0 < length xs) (sym e) (within-left seen (x ∷ more) f.0 f.1),
-        ap (λ xs. option_map (λ (a : Arg). a.value) (slice_get xs f.0)) e ∙ ap (option_map (λ (a : Arg). a.value)) (at-left seen (x ∷ more) f.0 f.1) ∙ f.2,
+        ap (λ xs. option_map (λ (a : Arg). a.value) (slice_get xs f.0)) e ∙ ap (option_map (λ (a : Arg). a.value)) (get_below seen (x ∷ more) f.0 f.1) ∙ f.2,
       ) in
-      let q : f.0 ≡ length seen = same-arg f.0 (length seen) (o.defined_once x.value.0 (value_def.Arg f.0) (value_def.Arg (length seen)) d (arg-here seen more x e)) in
+      let q : f.0 ≡ length seen = same-argument f.0 (length seen) (o.defined_once x.value.0 (value_def.Arg f.0) (value_def.Arg (length seen)) d (arg-here seen more x e)) in
       omega (arith, q, f.1))
 
   result-no-arg : (seen more : List Line) (x : Line) (v : ValueId) → t.lines ≡ seen ++ x ∷ more → x.result ≡ Some v → is_arg t.args v.0 ≡ false
   result-no-arg seen more x v e r = not_true (is_arg t.args v.0) (λ p.
-      let f = arg-found t.args v.0 p in
+      let f = is_arg-there t.args v.0 p in
       let d : IsDefinition t v.0 (value_def.Arg f.0) = (f.1, f.2) in
       apart f.0 (length seen) (o.defined_once v.0 (value_def.Arg f.0) (value_def.Inst (record { 0 = length seen })) d (line-here seen more x v e r)))
 
@@ -151,8 +129,8 @@ module _ (t : Table) (o : IsTable t) where
   block-once : (seen more : List BlockId) (x : BlockId) → t.blocks ≡ seen ++ x ∷ more → is_block seen x.0 ≡ false
   block-once seen more x e = not_true (is_block seen x.0) (λ p.
       let f = block-found seen x.0 p in
-      let d : slice_get t.blocks f.0 ≡ Some x = ap (λ xs. slice_get xs f.0) e ∙ at-left seen (x ∷ more) f.0 f.1 ∙ f.2 in
-      let n : slice_get t.blocks (length seen) ≡ Some x = ap (λ xs. slice_get xs (length seen)) e ∙ at-next seen x more in
+      let d : slice_get t.blocks f.0 ≡ Some x = ap (λ xs. slice_get xs f.0) e ∙ get_below seen (x ∷ more) f.0 f.1 ∙ f.2 in
+      let n : slice_get t.blocks (length seen) ≡ Some x = ap (λ xs. slice_get xs (length seen)) e ∙ get_end seen x more in
       let q : f.0 ≡ length seen = o.blocks_distinct f.0 (length seen) x d n in omega (arith, q, f.1))
 
 -- ---- a unit
@@ -170,7 +148,7 @@ module _ (a : Arena) (u : ℕ) (o : IsArena a) (h : u < unit_count a) where
       ∙ arg-once (table_at a u) (o.tables u h) seen more x e in
       let q : args_repeat (map (arg_text (naming a u)) (seen ++ x ∷ [])) (map (arg_text (naming a u)) more) ≡ false = args-once (seen ++ x ∷ []) more (e ∙ sym (append_assoc seen (x ∷ []) more)) in
       let m : map (arg_text (naming a u)) (seen ++ x ∷ []) ≡ map (arg_text (naming a u)) seen ++ arg_text (naming a u) x ∷ [] = map-append (arg_text (naming a u)) seen (x ∷ []) in
-      none-of (args_define (value_name_at a u x.value.0) (map (arg_text (naming a u)) seen)) _ p (ap (λ s. args_repeat s (map (arg_text (naming a u)) more)) (sym m) ∙ q)
+      or_from (args_define (value_name_at a u x.value.0) (map (arg_text (naming a u)) seen)) _ p (ap (λ s. args_repeat s (map (arg_text (naming a u)) more)) (sym m) ∙ q)
 
   line-once : (seen more : List Line) (x : Line) (r : Option ValueId) → (table_at a u).lines ≡ seen ++ x ∷ more → x.result ≡ r
       → result_repeats (unit_text_at a u).args (map (line_text (naming a u)) seen) (maybe_text (naming a u) r) ≡ false
@@ -178,7 +156,7 @@ module _ (a : Arena) (u : ℕ) (o : IsArena a) (h : u < unit_count a) where
   line-once seen more x (Some v) e q =
       let w = results-parts (value_count a u) seen (x ∷ more) (subst (ResultsWithin (value_count a u)) e (o.tables u h).results_within) in
       let i : v.0 < value_count a u = subst (ResultWithin (value_count a u)) q w.1.0 in
-      none-of (args_define (value_name_at a u v.0) (unit_text_at a u).args) (lines_define (value_name_at a u v.0) (map (line_text (naming a u)) seen))
+      or_from (args_define (value_name_at a u v.0) (unit_text_at a u).args) (lines_define (value_name_at a u v.0) (map (line_text (naming a u)) seen))
       (args_define-by_id a u o h v.0 i ∙ result-no-arg (table_at a u) (o.tables u h) seen more x v e q)
       (line-ids (unit_name_at a) (table_at a u) (o.tables u h) v.0 seen i w.0 ∙ result-once (table_at a u) (o.tables u h) seen more x v e q)
 
@@ -188,7 +166,7 @@ module _ (a : Arena) (u : ℕ) (o : IsArena a) (h : u < unit_count a) where
       let q : results_repeat (unit_text_at a u).args (map (line_text (naming a u)) (seen ++ x ∷ [])) (map (line_text (naming a u)) more)
       ≡ false = lines-once (seen ++ x ∷ []) more (e ∙ sym (append_assoc seen (x ∷ []) more)) in
       let m : map (line_text (naming a u)) (seen ++ x ∷ []) ≡ map (line_text (naming a u)) seen ++ line_text (naming a u) x ∷ [] = map-append (line_text (naming a u)) seen (x ∷ []) in
-      none-of (result_repeats (unit_text_at a u).args (map (line_text (naming a u)) seen) (maybe_text (naming a u) x.result)) _ (line-once seen more x x.result e refl)
+      or_from (result_repeats (unit_text_at a u).args (map (line_text (naming a u)) seen) (maybe_text (naming a u) x.result)) _ (line-once seen more x x.result e refl)
       (ap (λ s. results_repeat (unit_text_at a u).args s (map (line_text (naming a u)) more)) (sym m) ∙ q)
 
   label-ids : (k : HasBlocks (kind_at a u)) (b : ℕ) (xs : List BlockId) → b < label_count a u → BlocksWithin (label_count a u) xs
@@ -211,7 +189,7 @@ module _ (a : Arena) (u : ℕ) (o : IsArena a) (h : u < unit_count a) where
       ≡ false = labels-once k (seen ++ x ∷ []) more (e ∙ sym (append_assoc seen (x ∷ []) more)) in
       let m : map (block_text (naming a u) (table_at a u)) (seen ++ x ∷ []) ≡ map (block_text (naming a u) (table_at a u)) seen ++ block_text (naming a u) (table_at a u) x
       ∷ [] = map-append (block_text (naming a u) (table_at a u)) seen (x ∷ []) in
-      none-of (label_repeats (map (block_text (naming a u) (table_at a u)) seen) (label_text (naming a u) (kind_at a u) x)) _ p
+      or_from (label_repeats (map (block_text (naming a u) (table_at a u)) seen) (label_text (naming a u) (kind_at a u) x)) _ p
       (ap (λ s. labels_repeat s (map (block_text (naming a u) (table_at a u)) more)) (sym m) ∙ q)
 
   -- an entity has one block, and a unit that is Missing has none

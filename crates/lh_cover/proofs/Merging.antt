@@ -10,6 +10,7 @@ use Rattle.lh_term.specs.declared.part.Part.{Part}
 use Rattle.lh_cover.specs.declared.Cover.{Cover}
 use Rattle.lh_cover.specs.Bits.{has_bit, is_waited}
 use Rattle.std.proofs.lemmas.Bool.Decides.{nat_tests}
+use Rattle.std.proofs.Math.Bool.{or_assoc}
 use Rattle.lh_cover.specs.declared.runs.CoverRun.{CoverRun}
 use Rattle.lh_cover.specs.Runs.{in_run, in_runs, IsBefore, IsBeforeAll, AreApart, IsCover, run_of, runs_of, touches, longer, merged_from, merged}
 
@@ -72,10 +73,6 @@ longer_bits last r s e a b = bits last.arg last.lo last.end r.arg r.lo r.end a b
     bits : (ra rl re sa sl se a b : ℕ) → (nat_eq ra sa && nat_le sl re) ≡ true → (ra ≡ sa → rl ≤ sl) →
         (nat_eq ra a && (nat_le rl b && nat_lt b (max re se))) ≡ ((nat_eq ra a && (nat_le rl b && nat_lt b re)) || (nat_eq sa a && (nat_le sl b && nat_lt b se)))
     bits ra rl re sa sl se a b e s = grind (arith, nat_tests)
-
-or_assoc : (x y z : Bool) → ((x || y) || z) ≡ (x || (y || z))
-or_assoc true y z = refl
-or_assoc false y z = refl
 
 pub merged_bits : (last : CoverRun) (rs : List CoverRun) → StartsFirst last rs → AreSorted rs → (a b : ℕ) → in_runs (merged_from last rs) a b ≡ (in_run last a b || in_runs rs a b)
 merged_bits last [] s u a b = refl

@@ -2,13 +2,15 @@
 use Rattle.std.proofs.Common.{◌≡◌, ℕ, ◌+◌, ◌<◌, ◌≤◌, Bool, true, false, ◌&&◌, ◌||◌, nat_eq, nat_le, nat_lt, List, [], ◌∷◌, refl, sym, ap, ◌∙◌, subst, arith, zero, suc, inl, inr}
 use Rattle.std.specs.List.{list_all}
 use Rattle.std.proofs.lemmas.Bool.Decides.{nat_tests}
+use Rattle.std.proofs.lemmas.Bool.{or_left, or_cases}
+use Rattle.std.specs.Cmp.{first_so, second_so, both_ways}
 use Rattle.lh_types.specs.Types.{bit_count}
 use Rattle.lh_term.specs.declared.part.Part.{Part}
 use Rattle.lh_cover.specs.declared.runs.CoverRun.{CoverRun}
 use Rattle.lh_cover.specs.declared.Cover.{Cover}
 use Rattle.lh_cover.specs.Bits.{has_bit, is_waited, are_waited, covers, same_bits}
 use Rattle.lh_cover.specs.Runs.{in_run, in_runs, IsBeforeAll, AreApart, IsCover, same_runs}
-use Rattle.lh_cover.proofs.Within.{and_left, and_right, or_cases, in_one, beyond, same_bool}
+use Rattle.lh_cover.proofs.Within.{in_one, beyond}
 
 -- ---- the ranges are told by the bits
 
@@ -20,9 +22,6 @@ own_first r f = own r.arg r.lo r.end f
   where
     own : (a l e : ℕ) → l < e → (nat_eq a a && (nat_le l l && nat_lt l e)) ≡ true
     own a l e f = grind (arith, nat_tests)
-
-or_left : (x y : Bool) → x ≡ true → (x || y) ≡ true
-or_left x y e = ap (λ z. z || y) e
 
 -- a bit of ranges is not before the first
 pub record NotBefore (r : CoverRun) (a b : ℕ) : Type 0 where
@@ -127,8 +126,8 @@ one_waited : (ps : List Part) (a lo n b : ℕ) → are_waited ps a lo n ≡ true
 one_waited ps a lo zero b e l h = absurd (omega arith)
 one_waited ps a lo (suc n) b e l h =
     elim (nat_eq b (lo + n)) as (λ x. nat_eq b (lo + n) ≡ x → is_waited ps a b ≡ true) [
-      | true ↦ λ k. subst (λ (y : ℕ). is_waited ps a y ≡ true) (same b (lo + n) k) (and_left _ _ e)
-      | false ↦ λ k. one_waited ps a lo n b (and_right _ _ e) l (less b (lo + n) k (omega (arith, h)))
+      | true ↦ λ k. subst (λ (y : ℕ). is_waited ps a y ≡ true) (same b (lo + n) k) (first_so _ _ e)
+      | false ↦ λ k. one_waited ps a lo n b (second_so _ _ e) l (less b (lo + n) k (omega (arith, h)))
     ] refl
   where
     same : (x y : ℕ) → nat_eq x y ≡ true → y ≡ x
@@ -142,12 +141,12 @@ waited_by ps [] a b e i = cc
 waited_by ps (q ∷ qs) a b e i = elim (or_cases (has_bit q a b) (is_waited qs a b) i) [
   | inl k ↦
       let m = in_one q.arg q.lo (q.lo + bit_count q.ty) a b k in
-      subst (λ (x : ℕ). is_waited ps x b ≡ true) m.0 (one_waited ps q.arg q.lo (bit_count q.ty) b (and_left _ _ e) m.1 m.2)
-  | inr k ↦ waited_by ps qs a b (and_right _ _ e) k
+      subst (λ (x : ℕ). is_waited ps x b ≡ true) m.0 (one_waited ps q.arg q.lo (bit_count q.ty) b (first_so _ _ e) m.1 m.2)
+  | inr k ↦ waited_by ps qs a b (second_so _ _ e) k
 ]
 
 pub bits_alike : (ps qs : List Part) → same_bits ps qs ≡ true → (a b : ℕ) → is_waited ps a b ≡ is_waited qs a b
-bits_alike ps qs e a b = same_bool _ _ (waited_by qs ps a b (and_right _ _ e)) (waited_by ps qs a b (and_left _ _ e))
+bits_alike ps qs e a b = both_ways _ _ (waited_by qs ps a b (second_so _ _ e)) (waited_by ps qs a b (first_so _ _ e))
 
 pub alike_bits : (ps qs : List Part) → ((a b : ℕ) → is_waited ps a b ≡ is_waited qs a b) → same_bits ps qs ≡ true
 alike_bits ps qs h = both _ _ (covers_each ps qs (λ a b e. h a b ∙ e)) (covers_each qs ps (λ a b e. sym (h a b) ∙ e))
@@ -158,8 +157,8 @@ alike_bits ps qs h = both _ _ (covers_each ps qs (λ a b e. h a b ∙ e)) (cover
 same_runs-is : (rs ss : List CoverRun) → same_runs rs ss ≡ true → rs ≡ ss
 same_runs-is [] [] e = refl
 same_runs-is (r ∷ rs) (s ∷ ss) e =
-    let one = same_one r.arg r.lo r.end s.arg s.lo s.end (and_left _ _ e) in
-    λ i. record { arg = one.0 i; lo = one.1 i; end = one.2 i } ∷ same_runs-is rs ss (and_right _ _ e) i
+    let one = same_one r.arg r.lo r.end s.arg s.lo s.end (first_so _ _ e) in
+    λ i. record { arg = one.0 i; lo = one.1 i; end = one.2 i } ∷ same_runs-is rs ss (second_so _ _ e) i
   where
     same_one : (a l e b m f : ℕ) → (nat_eq a b && (nat_eq l m && nat_eq e f)) ≡ true → (a ≡ b) × (l ≡ m) × (e ≡ f)
     same_one a l e b m f h = (grind (arith, nat_tests), grind (arith, nat_tests), grind (arith, nat_tests))
@@ -178,7 +177,7 @@ same_runs-refl (r ∷ rs) = both _ _ (same_one r.arg r.lo r.end) (same_runs-refl
 -- ranges are one exactly where the lists of parts have the same bits
 pub told : (c d : Cover) (ps qs : List Part) (same : Bool) → same ≡ same_runs c.runs.items d.runs.items → IsCover c ps → IsCover d qs → same ≡ same_bits ps qs
 told c d ps qs same t p q =
-    same_bool _ _
+    both_ways _ _
     (λ e. alike_bits ps qs (λ a b. sym (p.bits a b) ∙ ap (λ (rs : List CoverRun). in_runs rs a b) (same_runs-is c.runs.items d.runs.items (sym t ∙ e)) ∙ q.bits a b))
     (λ e.
     let k : c.runs.items ≡ d.runs.items = alike c.runs.items d.runs.items p.apart q.apart (λ a b. p.bits a b ∙ bits_alike ps qs e a b ∙ sym (q.bits a b)) in

@@ -1,8 +1,10 @@
 -- A range of bits is of a set exactly where one of its ranges has it.
-use Rattle.std.proofs.Common.{◌≡◌, ℕ, ◌+◌, ◌-◌, ◌<◌, ◌≤◌, add-zero, ◌⊎◌, inl, inr, subst, Bool, true, false, ◌&&◌, ◌||◌, nat_eq, nat_le, nat_lt, List, [], ◌∷◌, length, get_or, refl, sym, ap, ◌∙◌, arith, zero, suc}
+use Rattle.std.proofs.Common.{◌≡◌, ℕ, ◌+◌, ◌-◌, ◌<◌, ◌≤◌, add-zero, inl, inr, subst, Bool, true, false, ◌&&◌, ◌||◌, nat_eq, nat_le, nat_lt, List, [], ◌∷◌, length, get_or, refl, sym, ap, ◌∙◌, arith, zero, suc}
 use Rattle.std.specs.List.{list_any}
 use Rattle.std.specs.List.Sorted.{IsPartitionedBy, IsPartitionPoint}
 use Rattle.std.proofs.lemmas.Bool.Decides.{nat_tests}
+use Rattle.std.proofs.lemmas.Bool.{or_from, or_cases}
+use Rattle.std.specs.Cmp.{first_so, second_so, both_ways}
 use Rattle.lh_types.specs.Types.{bit_count}
 use Rattle.lh_term.specs.declared.part.Part.{Part}
 use Rattle.lh_cover.specs.declared.runs.CoverRun.{CoverRun}
@@ -16,12 +18,9 @@ use Rattle.lh_cover.specs.Runs.{in_run, in_runs, IsBefore, IsBeforeAll, AreApart
 abbrev pub within : List CoverRun → CoverRun → Bool
 within ss r = list_any (λ s. starts_by s r && ends_within r s) ss
 
-or_both : (x y : Bool) → x ≡ false → y ≡ false → (x || y) ≡ false
-or_both x y p q = cc
-
 none_within : (r : CoverRun) (ss : List CoverRun) → ((k : ℕ) (d : CoverRun) → k < length ss → starts_by (get_or ss k d) r ≡ false) → within ss r ≡ false
 none_within r [] h = refl
-none_within r (s ∷ ss) h = or_both _ _ (ap (λ x. x && ends_within r s) (h 0 s (omega arith))) (none_within r ss (λ k d l. h (suc k) d (omega arith)))
+none_within r (s ∷ ss) h = or_from _ _ (ap (λ x. x && ends_within r s) (h 0 s (omega arith))) (none_within r ss (λ k d l. h (suc k) d (omega arith)))
 
 -- a range that begins before another that begins no later than r has not all of r
 passed : (s t r : CoverRun) → IsBefore s t → starts_by t r ≡ true → r.lo < r.end → (starts_by s r && ends_within r s) ≡ false
@@ -73,24 +72,12 @@ abbrev all_in : List CoverRun → ℕ → ℕ → ℕ → Bool
 all_in ss a lo zero = true
 all_in ss a lo (suc n) = in_runs ss a (lo + n) && all_in ss a lo n
 
-pub and_left : (x y : Bool) → (x && y) ≡ true → x ≡ true
-and_left true y e = refl
-and_left false y e = e
-
-pub and_right : (x y : Bool) → (x && y) ≡ true → y ≡ true
-and_right true y e = e
-and_right false y e = cc
-
 same_all : (ss : List CoverRun) (ps : List Part) → ((a b : ℕ) → in_runs ss a b ≡ is_waited ps a b) → (a lo n : ℕ) → all_in ss a lo n ≡ are_waited ps a lo n
 same_all ss ps h a lo zero = refl
 same_all ss ps h a lo (suc n) = rw (h a (lo + n), same_all ss ps h a lo n) refl
 
 pub in_one : (ra rl re a b : ℕ) → (nat_eq ra a && (nat_le rl b && nat_lt b re)) ≡ true → (ra ≡ a) × (rl ≤ b) × (b < re)
 in_one ra rl re a b e = (grind (arith, nat_tests), grind (arith, nat_tests), grind (arith, nat_tests))
-
-pub or_cases : (x y : Bool) → (x || y) ≡ true → (x ≡ true) ⊎ (y ≡ true)
-or_cases true y e = inl refl
-or_cases false y e = inr e
 
 -- bits of later ranges are beyond the end
 pub beyond : (r : CoverRun) (ss : List CoverRun) (a b : ℕ) → IsBeforeAll r ss → r.arg ≡ a → in_runs ss a b ≡ true → r.end < b
@@ -101,15 +88,15 @@ beyond r (s ∷ ss) a b h e i = elim (or_cases (in_run s a b) (in_runs ss a b) i
 ]
 
 first_in : (ss : List CoverRun) (a lo n : ℕ) → all_in ss a lo (suc n) ≡ true → in_runs ss a lo ≡ true
-first_in ss a lo zero e = subst (λ (b : ℕ). in_runs ss a b ≡ true) (add-zero lo) (and_left _ _ e)
-first_in ss a lo (suc n) e = first_in ss a lo n (and_right _ _ e)
+first_in ss a lo zero e = subst (λ (b : ℕ). in_runs ss a b ≡ true) (add-zero lo) (first_so _ _ e)
+first_in ss a lo (suc n) e = first_in ss a lo n (second_so _ _ e)
 
 -- where the first bit is of the first range, so are all
 reaches : (r : CoverRun) (ss : List CoverRun) (lo n : ℕ) → IsBeforeAll r ss → lo < r.end → all_in (r ∷ ss) r.arg lo n ≡ true → lo + n ≤ r.end
 reaches r ss lo zero h f e = omega arith
 reaches r ss lo (suc n) h f e =
-    let k : lo + n ≤ r.end = reaches r ss lo n h f (and_right _ _ e) in
-    elim (or_cases (in_run r r.arg (lo + n)) (in_runs ss r.arg (lo + n)) (and_left _ _ e)) [
+    let k : lo + n ≤ r.end = reaches r ss lo n h f (second_so _ _ e) in
+    elim (or_cases (in_run r r.arg (lo + n)) (in_runs ss r.arg (lo + n)) (first_so _ _ e)) [
       | inl i ↦ let m = in_one r.arg r.lo r.end r.arg (lo + n) i in omega (arith, m.2)
       | inr i ↦ let m : r.end < lo + n = beyond r ss r.arg (lo + n) h refl i in absurd (omega arith)
     ]
@@ -143,7 +130,7 @@ from_all (r ∷ ss) a lo n h e =
 
 more_in : (r : CoverRun) (ss : List CoverRun) (a lo n : ℕ) → all_in ss a lo n ≡ true → all_in (r ∷ ss) a lo n ≡ true
 more_in r ss a lo zero e = refl
-more_in r ss a lo (suc n) e = both (in_run r a (lo + n)) _ _ (and_left _ _ e) (more_in r ss a lo n (and_right _ _ e))
+more_in r ss a lo (suc n) e = both (in_run r a (lo + n)) _ _ (first_so _ _ e) (more_in r ss a lo n (second_so _ _ e))
   where
     both : (x y z : Bool) → y ≡ true → z ≡ true → ((x || y) && z) ≡ true
     both true y z p q = q
@@ -170,14 +157,9 @@ to_all (r ∷ ss) a lo n e =
     there : (ra rl re a lo end : ℕ) → ((nat_lt ra a || (nat_eq ra a && nat_le rl lo)) && (nat_eq a ra && nat_le end re)) ≡ true → (ra ≡ a) × (rl ≤ lo) × (end ≤ re)
     there ra rl re a lo end e = (grind (arith, nat_tests), grind (arith, nat_tests), grind (arith, nat_tests))
 
-pub same_bool : (x y : Bool) → (x ≡ true → y ≡ true) → (y ≡ true → x ≡ true) → x ≡ y
-same_bool true y f g = sym (f refl)
-same_bool false true f g = g refl
-same_bool false false f g = refl
-
 pub is_covered : (ss : List CoverRun) (ps : List Part) (p : Part) → AreApart ss → ((a b : ℕ) → in_runs ss a b ≡ is_waited ps a b) → (run_of p).lo < (run_of p).end → within ss (run_of p) ≡ covers ps p
 is_covered ss ps p h e f =
-    same_bool _ _
+    both_ways _ _
     (λ w. sym (same_all ss ps e p.arg p.lo (bit_count p.ty)) ∙ to_all ss p.arg p.lo (bit_count p.ty) w)
     (λ w. at (bit_count p.ty) f (same_all ss ps e p.arg p.lo (bit_count p.ty) ∙ w))
   where

@@ -5,10 +5,10 @@ use Rattle.std.proofs.lemmas.Bool.{cases_lt}
 use Rattle.std.proofs.lemmas.List.{length-set, length-replicate, get_or-set_same, get_or-set_other, get_or-replicate, get_or_past}
 use Rattle.lh_unit.specs.Within.{Each}
 use Rattle.lh_unit.specs.declared.inst.UnitId.{UnitId}
-use Rattle.lh_unit.proofs.Lists.{Each-append, Same, same, other, same_or}
+use Rattle.lh_unit.proofs.Lists.{Each-append, Same, same, other, same_or, first_some-none}
 use Rattle.lh_unit.proofs.Within.{Each-more}
 use Rattle.lh_formed.specs.Graphs.{met_or, is_open, IsIn}
-use Rattle.lh_formed.proofs.Graphs.{Distinct, not_open, is_open-in, first-none, first-at, no_longer}
+use Rattle.lh_formed.proofs.Graphs.{Distinct, not_open, is_open-in, first-at, no_longer}
 use Rattle.lh_descent.specs.declared.search.Mark.{Mark}
 use Rattle.lh_descent.specs.declared.search.Mark.TheVariants as mark
 use Rattle.lh_descent.specs.declared.search.OpenUnit.{OpenUnit}
@@ -208,7 +208,7 @@ module _ {N M : Type 0} (C : Measuring N M) where
       → IsQuiet C g new u
   quiet-all g marks new u o n keeps l zero opened h = refl
   quiet-all g marks new u o n keeps l (suc k) opened h =
-      first-none (λ (t : UnitId). met_or (cycle_in C k g (u ∷ opened)) (is_open (u ∷ opened) t.0) t.0) (targets_at C g u)
+      first_some-none (λ (t : UnitId). met_or (cycle_in C k g (u ∷ opened)) (is_open (u ∷ opened) t.0) t.0) (targets_at C g u)
       (Each-more (λ (t : UnitId). IsDone marks t.0) (λ (t : UnitId). met_or (cycle_in C k g (u ∷ opened)) (is_open (u ∷ opened) t.0) t.0 ≡ None)
       (targets_at C g u)
       (λ t d. target-quiet g marks k (u ∷ opened) t o avoids d) l)

@@ -1,55 +1,13 @@
 -- Truth values and tests of lists.
-use Rattle.std.proofs.Common.{◌≡◌, ◌≢◌, Bool, true, false, not, cond, ◌&&◌, ◌||◌, List, [], ◌∷◌, ◌++◌, refl, sym, ap, ◌∙◌, ◌⊎◌, inl, inr, if◌then◌else◌}
+use Rattle.std.proofs.Common.{◌≡◌, ◌≢◌, Bool, true, false, not, cond, ◌||◌, List, [], ◌∷◌, ◌++◌, refl, sym, ap, ◌∙◌, inl, inr, if◌then◌else◌}
 use Rattle.std.specs.List.{filter}
+use Rattle.std.proofs.lemmas.Bool.{or_cases, or_left, or_right, false_from_ne_true}
+use Rattle.std.specs.Cmp.{both_ways as same_bool}
 use Rattle.lh_term.specs.Tree.{Tree}
 use Rattle.lh_term.specs.SameTree.{same_tree, same_tree-is, same_tree-refl}
 use Rattle.lh_edge.specs.Atoms.{has, each_once}
 use Rattle.lh_edge.specs.Valuations.{differ}
-
-pub and_left : (a b : Bool) → (a && b) ≡ true → a ≡ true
-and_left true b e = refl
-and_left false b e = e
-
-pub and_right : (a b : Bool) → (a && b) ≡ true → b ≡ true
-and_right true b e = e
-and_right false b e = cc
-
-pub and_both : (a b : Bool) → a ≡ true → b ≡ true → (a && b) ≡ true
-and_both a b p q = rw (p, q) refl
-
-pub or_cases : (a b : Bool) → (a || b) ≡ true → (a ≡ true) ⊎ (b ≡ true)
-or_cases true b e = inl refl
-or_cases false b e = inr e
-
-pub or_left : (a b : Bool) → a ≡ true → (a || b) ≡ true
-or_left a b e = ap (λ x. x || b) e
-
-pub or_right : (a b : Bool) → b ≡ true → (a || b) ≡ true
-or_right true b e = refl
-or_right false b e = e
-
-pub same_bool : (a b : Bool) → (a ≡ true → b ≡ true) → (b ≡ true → a ≡ true) → a ≡ b
-same_bool true b f g = sym (f refl)
-same_bool false true f g = g refl
-same_bool false false f g = refl
-
-pub is_not : (a : Bool) → not a ≡ true → a ≡ false
-is_not true e = cc
-is_not false e = refl
-
-pub not_is : (a : Bool) → a ≡ false → not a ≡ true
-not_is a e = ap not e
-
-pub true_or : (a : Bool) → (a ≡ true) ⊎ (a ≡ false)
-true_or true = inl refl
-true_or false = inr refl
-
-pub false_is : (a : Bool) → (a ≡ true → ⊥) → a ≡ false
-false_is true h = absurd (h refl)
-false_is false h = refl
-
-pub both_ways : (a : Bool) → a ≡ true → a ≡ false → ⊥
-both_ways a p q = let e : true ≡ false = sym p ∙ q in cc
+use Rattle.lh_types.proofs.Tests.{not_both}
 
 pub differ_is : (a b : Bool) → differ a b ≡ true → a ≢ b
 differ_is true true e = cc
@@ -111,12 +69,12 @@ filter_has f (x ∷ xs) t h e = at (f x) refl (λ k. filter_has f xs t k e)
       | inr r ↦ or_right (same_tree x t) (has (filter f xs) t) (next r)
     ]
     at false g next = elim (or_cases (same_tree x t) (has xs t) h) [
-      | inl s ↦ absurd (both_ways (f t) e (ap f (sym (same_tree-is x t s)) ∙ g))
+      | inl s ↦ absurd (not_both (f t) e (ap f (sym (same_tree-is x t s)) ∙ g))
       | inr r ↦ next r
     ]
 
 pub not_in_filter : (f : Tree → Bool) (xs : List Tree) (t : Tree) → f t ≡ false → has (filter f xs) t ≡ false
-not_in_filter f xs t e = false_is (has (filter f xs) t) (λ h. both_ways (f t) (has_filter f xs t h).1 e)
+not_in_filter f xs t e = false_from_ne_true (has (filter f xs) t) (λ h. not_both (f t) (has_filter f xs t h).1 e)
 
 pub has_self : (t : Tree) (ts : List Tree) → has (t ∷ ts) t ≡ true
 has_self t ts = or_left (same_tree t t) (has ts t) (same_tree-refl t)

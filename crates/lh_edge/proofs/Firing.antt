@@ -1,11 +1,14 @@
 -- An edge-shown condition is 1 exactly where one of its triggers fires.
 use Rattle.std.proofs.Common.{◌≡◌, ◌↔◌, Bool, true, false, not, ◌&&◌, ◌||◌, if◌then◌else◌, List, [], ◌∷◌, ◌++◌, refl, sym, ap, ◌∙◌, subst, ◌⊎◌, inl, inr, arith}
 use Rattle.std.specs.List.{list_any}
+use Rattle.std.specs.Cmp.{first_so, second_so}
+use Rattle.std.proofs.lemmas.Bool.{and_from, or_cases, or_left, or_right, cases_Bool, false_from_ne_true, or_parts}
 use Rattle.lh_types.specs.Types.{int_type, IsData}
 use Rattle.lh_types.specs.Values.{Datum}
 use Rattle.lh_types.specs.Fits.{FitsType}
 use Rattle.lh_types.specs.Same.{same-is}
 use Rattle.lh_types.specs.Apply.{bit_value}
+use Rattle.lh_types.proofs.Tests.{not_both}
 use Rattle.lh_term.specs.declared.part.Part.{Part}
 use Rattle.lh_term.specs.Tree.{Tree, TreeRow, constant, past_of, now_of, operation, choice_of, no_trees, more_trees}
 use Rattle.lh_term.specs.Types.{IsTyped, AreTyped, type_of}
@@ -20,7 +23,7 @@ use Rattle.lh_edge.specs.Atoms.{contains_past, edge_part, has, atoms_of}
 use Rattle.lh_edge.specs.Valuations.{holds}
 use Rattle.lh_edge.specs.Shown.{can_show, showing_parts, is_other_past, is_edge_shown, IsEdgeShown}
 use Rattle.lh_edge.specs.Triggers.{TriggerTree, pasts_in, pasts_in_row, present_swaps, edge_swaps, gate_of, trigger_at, triggers_at, comes_first, with_part, in_order, triggers_of, Fires, SomeFires}
-use Rattle.lh_edge.proofs.Bools.{and_left, and_right, and_both, or_cases, or_left, or_right, true_or, false_is, both_ways, other_bit}
+use Rattle.lh_edge.proofs.Bools.{other_bit}
 use Rattle.lh_edge.proofs.Tables.{shown_by, is_showing, to_all}
 use Rattle.lh_edge.proofs.Meaning.{meant, as_bit, same_bits, without_past, rest_holds, rest_same, splits}
 
@@ -29,10 +32,6 @@ use Rattle.lh_edge.proofs.Meaning.{meant, as_bit, same_bits, without_past, rest_
 -- the values now, with another for one part
 abbrev pub at_part : Part → Datum → Valuation → Valuation
 at_part p v now q = if same_part p q then v else now q
-
-neither : (a b : Bool) → (a || b) ≡ false → (a ≡ false) × (b ≡ false)
-neither true b e = cc
-neither false b e = (refl, e)
 
 present_past : (now : Valuation) (p : Part) (qs : List Part) (q : Part) → mean now now (replaced (present_swaps p qs) (past_of q)) ≡ now q
 present_past now p [] q = refl
@@ -83,11 +82,11 @@ now_at now rise p c e = λ i q. each q i
 not_first : (p : Part) (qs : List Part) (x : Part) → list_any (same_part x) qs ≡ false → is_first (present_swaps p qs) (past_of x) ≡ false
 not_first p [] x e = refl
 not_first p (q ∷ qs) x e =
-    let n = neither (same_part x q) (list_any (same_part x) qs) e in
+    let n = or_parts (same_part x q) (list_any (same_part x) qs) e in
     at (same_part p q || list_any (same_part q) qs) (other q n.0) (not_first p qs x n.1)
   where
     other : (q : Part) → same_part x q ≡ false → same_part q x ≡ false
-    other q k = false_is (same_part q x) (λ s. both_ways (same_part x q) (ap (same_part x) (same_part-is q x s) ∙ same_part-refl x) k)
+    other q k = false_from_ne_true (same_part q x) (λ s. not_both (same_part x q) (ap (same_part x) (same_part-is q x s) ∙ same_part-refl x) k)
 
     at : (b : Bool) → same_part q x ≡ false → is_first (present_swaps p qs) (past_of x) ≡ false → is_first (if b then present_swaps p qs else (past_of q, now_of q) ∷ present_swaps p qs) (past_of x)
         ≡ false
@@ -99,7 +98,7 @@ own_not_first p [] = refl
 own_not_first p (q ∷ qs) = at (same_part p q || list_any (same_part q) qs) refl (own_not_first p qs)
   where
     other : (same_part p q || list_any (same_part q) qs) ≡ false → same_part q p ≡ false
-    other k = false_is (same_part q p) (λ s. let n = neither (same_part p q) (list_any (same_part q) qs) k in both_ways (same_part p q) (ap (same_part p) (same_part-is q p s) ∙ same_part-refl p) n.0)
+    other k = false_from_ne_true (same_part q p) (λ s. let n = or_parts (same_part p q) (list_any (same_part q) qs) k in not_both (same_part p q) (ap (same_part p) (same_part-is q p s) ∙ same_part-refl p) n.0)
 
     at : (b : Bool) → (same_part p q || list_any (same_part q) qs) ≡ b → is_first (present_swaps p qs) (past_of p) ≡ false
         → is_first (if b then present_swaps p qs else (past_of q, now_of q) ∷ present_swaps p qs) (past_of p) ≡ false
@@ -120,7 +119,7 @@ present_are_swaps p (q ∷ qs) = at (same_part p q || list_any (same_part q) qs)
   where
     at : (b : Bool) → (same_part p q || list_any (same_part q) qs) ≡ b → AreSwaps (present_swaps p qs) → AreSwaps (if b then present_swaps p qs else (past_of q, now_of q) ∷ present_swaps p qs)
     at true k r = r
-    at false k r = let n = neither (same_part p q) (list_any (same_part q) qs) k in (tt, not_first p qs q n.1, refl, r)
+    at false k r = let n = or_parts (same_part p q) (list_any (same_part q) qs) k in (tt, not_first p qs q n.1, refl, r)
 
 -- each part is of a data type
 abbrev pub AllData : List Part → Type 0
@@ -206,19 +205,19 @@ module _ (laws : SwapsKeepMeaning) (waited : List Part) (c : Tree) (h : IsTyped 
       pub fires : FiresAt rise part
 
     both_hold : (p : Valuation) → IsFitting p → holds (meant p now) (edge_part c) ≡ true → rest_holds p now c ≡ true → mean p now c ≡ bit_value true
-    both_hold p f a b = let s = splits c h e p now f nf in s.whole ∙ ap bit_value (and_both _ _ a b)
+    both_hold p f a b = let s = splits c h e p now f nf in s.whole ∙ ap bit_value (and_from _ _ a b)
 
     edge_holds : (p : Valuation) → IsFitting p → mean p now c ≡ bit_value true → holds (meant p now) (edge_part c) ≡ true
-    edge_holds p f m = let s = splits c h e p now f nf in and_left _ (rest_holds p now c) (same_bits _ true (sym s.whole ∙ m))
+    edge_holds p f m = let s = splits c h e p now f nf in first_so _ (rest_holds p now c) (same_bits _ true (sym s.whole ∙ m))
 
     rest_hold : (p : Valuation) → IsFitting p → mean p now c ≡ bit_value true → rest_holds p now c ≡ true
-    rest_hold p f m = let s = splits c h e p now f nf in and_right (holds (meant p now) (edge_part c)) _ (same_bits _ true (sym s.whole ∙ m))
+    rest_hold p f m = let s = splits c h e p now f nf in second_so (holds (meant p now) (edge_part c)) _ (same_bits _ true (sym s.whole ∙ m))
 
     pub fires : mean past now c ≡ bit_value true → Fired
     fires m =
         let r = shown.each (meant past now) (edge_holds past pf m) in
         let p : Part = r.0 in
-        let one : p.ty ≡ int_type 1 = same-is p.ty (int_type 1) (and_left _ _ r.1.can) in
+        let one : p.ty ≡ int_type 1 = same-is p.ty (int_type 1) (first_so _ _ r.1.can) in
         let up : Bool = meant past now (now_of p) in
         let before : past p ≡ bit_value (not up) = part_bit past p one pf ∙ ap bit_value (other_bit (meant past now (past_of p)) up r.1.differs) in
         let after : now p ≡ bit_value up = part_bit now p one nf in
@@ -236,14 +235,14 @@ module _ (laws : SwapsKeepMeaning) (waited : List Part) (c : Tree) (h : IsTyped 
 
     pub held : (rise : Bool) (p : Part) → can_show waited p ≡ true → FiresAt rise p → mean past now c ≡ bit_value true
     held rise p can f =
-        let one : p.ty ≡ int_type 1 = same-is p.ty (int_type 1) (and_left _ _ can) in
+        let one : p.ty ≡ int_type 1 = same-is p.ty (int_type 1) (first_so _ _ can) in
         let past' : Valuation = at_part p (bit_value (not rise)) now in
         let fit : IsFitting past' = at_fits p (not rise) now one nf in
         let gate : mean past' now c ≡ bit_value true = sym (gate_means rise p one f.after) ∙ f.gate in
         let r = shown.each (meant past' now) (edge_holds past' fit gate) in
         let q : Part = r.0 in
         let own : past' p ≡ past p = ap (λ b. if b then bit_value (not rise) else now p) (same_part-refl p) ∙ sym f.before in
-        let same : p ≡ q = same_part-is p q (elim (true_or (same_part p q)) [
+        let same : p ≡ q = same_part-is p q (elim (cases_Bool (same_part p q)) [
           | inl k ↦ k
           | inr k ↦ absurd (r.1.differs (ap (is_bit_value 1) (ap (λ b. if b then bit_value (not rise) else now q) k)))
         ]) in
@@ -325,7 +324,7 @@ or_swap true true d = refl
 or_swap true false d = refl
 or_swap false b d = refl
 
-with_any : (f : Part → Bool) (p : Part) (ps : List Part) → list_any f (with_part p ps) ≡ (f p || list_any f ps)
+pub with_any : (f : Part → Bool) (p : Part) (ps : List Part) → list_any f (with_part p ps) ≡ (f p || list_any f ps)
 with_any f p [] = refl
 with_any f p (q ∷ ps) = at (comes_first p q) (with_any f p ps)
   where

@@ -1,5 +1,5 @@
 -- The ids of atoms as they are found.
-use Rattle.std.proofs.Common.{◌≡◌, ℕ, zero, suc, ◌+◌, ◌<◌, ◌≤◌, Bool, true, false, not, ◌||◌, nat_eq, nat_lt, if◌then◌else◌, List, [], ◌∷◌, ◌++◌, length, map, take, get_or, refl, sym, ap, ◌∙◌, subst, inl, inr, arith, Option, Some, None, slice_get, append_assoc, append-nil, Vec}
+use Rattle.std.proofs.Common.{◌≡◌, ℕ, zero, suc, ◌+◌, ◌<◌, ◌≤◌, Bool, true, false, not, ◌||◌, nat_eq, nat_lt, if◌then◌else◌, List, [], ◌∷◌, ◌++◌, length, map, take, get_or, refl, sym, ap, ◌∙◌, subst, inl, inr, arith, Option, Some, None, slice_get, append_assoc, append-nil, Vec, ltb-true, lt-ltb}
 use Rattle.std.specs.Cmp.{first_so, second_so}
 use Rattle.lh_term.specs.declared.part.Part.{Part}
 use Rattle.lh_term.specs.declared.term.TermId.{TermId}
@@ -9,16 +9,19 @@ use Rattle.lh_term.specs.SameTree.{same_tree, same_tree-is, same_tree-refl}
 use Rattle.lh_term.specs.Same.{nat_eq-is, nat_eq-refl}
 use Rattle.lh_term.specs.Arena.{tree_at, trees, trees_at, term_tree, ids_below, IsIn, AreIn, Grows}
 use Rattle.lh_term.specs.Reach.{is_on, GoOn, none_left, PassesOn, AreReached}
-use Rattle.lh_term.proofs.Arenas.{lt_of, of_lt, map_push, map_append}
-use Rattle.lh_term.proofs.Reaching.{on_push, on_at, on_below, pass_on, pass_own, is_behind}
+use Rattle.lh_term.proofs.Arenas.{map_append}
+use Rattle.lh_term.proofs.Reaching.{on_push, on_at, on_below, pass_on, pass_own, is_behind, in_push}
 use Rattle.lh_term.proofs.Swaps.{term_there, tree_grown, in_grown, grows_on}
+use Rattle.lh_term.proofs.Walks.{id_below}
 use Rattle.lh_edge.specs.Atoms.{is_one_bit, is_connective, subterms, subterms_in, presents, has, atoms_of}
 use Rattle.lh_edge.specs.Reached.{joined_by, is_atom}
 use Rattle.lh_edge.specs.Steps.{AreDistinct, AreIdsOf, AreAllIdsOf, FindsThe, found_items, with_missing, with_atom, with_some, present_tree, IsPresent, AddsPresent}
-use Rattle.lh_edge.proofs.Bools.{and_both, or_cases, or_left, or_right, is_not, not_is, false_is, both_ways, has_append, has_left, has_right, has_self, has_once}
+use Rattle.lh_edge.proofs.Bools.{has_append, has_left, has_right, has_self, has_once}
 use Rattle.lh_edge.proofs.Joined.{joins, IsJoined, is_joined, found_in, joined_sound}
-use Rattle.std.proofs.lemmas.List.{take_more}
+use Rattle.std.proofs.lemmas.List.{take_more, map_push}
+use Rattle.std.proofs.lemmas.Bool.{and_from, or_cases, or_left, or_right, not-true, not_from_false, false_from_ne_true}
 use Rattle.lh_edge.proofs.Numbers.{here_or_before}
+use Rattle.lh_types.proofs.Tests.{not_both}
 
 -- ---- terms with one more
 
@@ -33,14 +36,10 @@ distinct_push (u ∷ ts) t d h =
     neither false b e = (refl, e)
 
     other : same_tree u t ≡ false → same_tree t u ≡ false
-    other e = false_is (same_tree t u) (λ s. both_ways (same_tree u t) (ap (same_tree u) (same_tree-is t u s) ∙ same_tree-refl u) e)
+    other e = false_from_ne_true (same_tree t u) (λ s. not_both (same_tree u t) (ap (same_tree u) (same_tree-is t u s) ∙ same_tree-refl u) e)
 
     both_false : (a b : Bool) → a ≡ false → b ≡ false → (a || (b || false)) ≡ false
     both_false a b p q = rw (p, q) refl
-
-ids_push : (k : ℕ) (xs : List TermId) (x : TermId) → ids_below k xs ≡ true → x.0 < k → ids_below k (xs ++ x ∷ []) ≡ true
-ids_push k [] x h l = and_both _ _ (of_lt x.0 k l) refl
-ids_push k (y ∷ xs) x h l = and_both _ _ (first_so (nat_lt y.0 k) (ids_below k xs) h) (ids_push k xs x (second_so (nat_lt y.0 k) (ids_below k xs) h) l)
 
 module _ (ns : List Node) (ids : List TermId) (x : TermId) where
   at_end : trees_at ns (ids ++ x ∷ []) ≡ trees_at ns ids ++ tree_at (trees ns) x ∷ []
@@ -66,7 +65,7 @@ module _ (ns : List Node) (ids : List TermId) (x : TermId) where
       at : (b : Bool) → has (trees_at ns ids) (tree_at (trees ns) x) ≡ b → AreIdsOf ns ts (if b then ids else ids ++ x ∷ [])
       at true e = a
       at false e = record {
-        are_in = ids_push (length ns) ids x a.are_in i;
+        are_in = in_push (length ns) ids x a.are_in i;
         distinct = subst AreDistinct (sym at_end) (distinct_push (trees_at ns ids) (tree_at (trees ns) x) a.distinct e);
         sound = λ t k. elim (or_cases (has (trees_at ns ids) t) (has (tree_at (trees ns) x ∷ []) t) (sym (has_append (trees_at ns ids) (tree_at (trees ns) x ∷ []) t) ∙ ap (λ us. has us t) (sym at_end)
             ∙ k)) [
@@ -124,13 +123,13 @@ subterm_of ns e ids r j t o h = at (has (subterms (tree_at (trees ns) e)) t) ref
     lacks i = not (has (subterms (tree_at (trees ns) (record { 0 = i }))) t)
 
     passes : PassesOn (joined_by (trees ns)) ns lacks
-    passes i k is shown n = pass_own lacks (joined_by (trees ns) k) (λ m a. not_is (has (subterms (tree_at (trees ns) (record { 0 = m }))) t) (false_is (has (subterms (tree_at (trees ns) (record { 0 = m }))) t)
-        (λ y. both_ways (has (subterms (tree_at (trees ns) (record { 0 = i }))) t) (joined_sound ns i k shown m t a y) (is_not (has (subterms (tree_at (trees ns) (record { 0 = i }))) t) n))))
+    passes i k is shown n = pass_own lacks (joined_by (trees ns) k) (λ m a. not_from_false (has (subterms (tree_at (trees ns) (record { 0 = m }))) t) (false_from_ne_true (has (subterms (tree_at (trees ns) (record { 0 = m }))) t)
+        (λ y. not_both (has (subterms (tree_at (trees ns) (record { 0 = i }))) t) (joined_sound ns i k shown m t a y) (not-true (has (subterms (tree_at (trees ns) (record { 0 = i }))) t) n))))
 
     at : (b : Bool) → has (subterms (tree_at (trees ns) e)) t ≡ b → b ≡ true
     at true q = refl
-    at false q = absurd (both_ways (has (subterms (tree_at (trees ns) (record { 0 = j }))) t) h
-        (is_not (has (subterms (tree_at (trees ns) (record { 0 = j }))) t) (pass_on lacks ids j (r.only lacks passes (not_is (has (subterms (tree_at (trees ns) e)) t) q, tt)) o)))
+    at false q = absurd (not_both (has (subterms (tree_at (trees ns) (record { 0 = j }))) t) h
+        (not-true (has (subterms (tree_at (trees ns) (record { 0 = j }))) t) (pass_on lacks ids j (r.only lacks passes (not_from_false (has (subterms (tree_at (trees ns) e)) t) q, tt)) o)))
 
 pub found_next : (ns : List Node) (e : TermId) (found done ids : List TermId) (x : TermId) (more : List TermId) → FoundSoFar ns e found done → AreReached (joined_by (trees ns)) ns (e ∷ []) ids → is_on ids x.0 ≡ true → IsIn ns x
     → more ≡ with_atom ns found x → FoundSoFar ns e more (done ++ x ∷ [])
@@ -146,7 +145,7 @@ found_next ns e found done ids x more s r o l m = subst (λ (xs : List TermId). 
     at false q = record {
       of = s.of;
       each = λ j d a. elim (on_push done x j d) [
-        | inl p ↦ absurd (both_ways (is_atom T) (ap is_atom (sym (same j p)) ∙ a) q)
+        | inl p ↦ absurd (not_both (is_atom T) (ap is_atom (sym (same j p)) ∙ a) q)
         | inr p ↦ s.each j p a
       ];
     }
@@ -179,7 +178,7 @@ module _ (ns : List Node) (found ids : List TermId) (t : Tree)
       X = tree_at (trees ns) x
 
       x_in : x.0 < length ns
-      x_in = lt_of x.0 (length ns) (first_so (nat_lt x.0 (length ns)) (ids_below (length ns) left) i)
+      x_in = ltb-true x.0 (length ns) (first_so (nat_lt x.0 (length ns)) (ids_below (length ns) left) i)
 
       Rest : Type 0
       Rest = (m : ℕ) → is_on left m ≡ true → has (subterms (tree_at (trees ns) (record { 0 = m }))) t ≡ true → has (trees_at ns found) t ≡ true
@@ -223,15 +222,15 @@ module _ (old cur : List Node) (g : Grows old cur) where
   pub trees_grown : (xs : List TermId) → AreIn old xs → trees_at cur xs ≡ trees_at old xs
   trees_grown [] h = refl
   trees_grown (x ∷ xs) h =
-      let a = tree_grown old cur g x (lt_of x.0 (length old) (first_so (nat_lt x.0 (length old)) (ids_below (length old) xs) h)) in
+      let a = tree_grown old cur g x (ltb-true x.0 (length old) (first_so (nat_lt x.0 (length old)) (ids_below (length old) xs) h)) in
       let b = trees_grown xs (second_so (nat_lt x.0 (length old)) (ids_below (length old) xs) h) in
       λ i. a i ∷ b i
 
   pub ids_grown : (xs : List TermId) → AreIn old xs → AreIn cur xs
   ids_grown [] h = refl
   ids_grown (x ∷ xs) h =
-      let l : x.0 < length old = lt_of x.0 (length old) (first_so (nat_lt x.0 (length old)) (ids_below (length old) xs) h) in
-      and_both _ _ (of_lt x.0 (length cur) (in_grown old cur g x l)) (ids_grown xs (second_so (nat_lt x.0 (length old)) (ids_below (length old) xs) h))
+      let l : x.0 < length old = ltb-true x.0 (length old) (first_so (nat_lt x.0 (length old)) (ids_below (length old) xs) h) in
+      and_from _ _ (lt-ltb x.0 (length cur) (in_grown old cur g x l)) (ids_grown xs (second_so (nat_lt x.0 (length old)) (ids_below (length old) xs) h))
 
   pub of_grown : (ts : List Tree) (xs : List TermId) → AreIdsOf old ts xs → AreIdsOf cur ts xs
   of_grown ts xs a =
@@ -264,11 +263,6 @@ get_front : (xs ys : List TermId) (k : ℕ) (d : TermId) → k < length xs → s
 get_front [] ys k d l = absurd (omega arith)
 get_front (x ∷ xs) ys zero d l = refl
 get_front (x ∷ xs) ys (suc k) d l = get_front xs ys k d (omega arith)
-
-id_in : (k : ℕ) (xs : List TermId) (i : ℕ) (x : TermId) → ids_below k xs ≡ true → slice_get xs i ≡ Some x → x.0 < k
-id_in k [] i x h e = cc
-id_in k (y ∷ xs) zero x h e = let q : y ≡ x = cc in subst (λ (z : TermId). z.0 < k) q (lt_of y.0 k (first_so (nat_lt y.0 k) (ids_below k xs) h))
-id_in k (y ∷ xs) (suc i) x h e = id_in k xs i x (second_so (nat_lt y.0 k) (ids_below k xs) h) e
 
 has_at : (ns : List Node) (xs : List TermId) (i : ℕ) (x : TermId) → slice_get xs i ≡ Some x → has (trees_at ns xs) (tree_at (trees ns) x) ≡ true
 has_at ns [] i x e = cc
@@ -332,7 +326,7 @@ module _ (old cur : List Node) (e : Tree) (first ids : List TermId) (k : ℕ) (a
   here d = let (rest, f) = s.front in get_front first rest k d l ∙ ap (λ xs. Some (get_or xs k d)) (sym f)
 
   here_in : (d : TermId) → IsIn old (get_or ids k d)
-  here_in d = id_in (length old) first k (get_or ids k d) a.are.are_in (here d)
+  here_in d = id_below (length old) first k (get_or ids k d) a.are.are_in (here d)
 
   pub present_next : (new : List Node) (more : List TermId) → Grows cur new → AddsPresent cur new ids k more → PresentSoFar old new e first more (k + 1)
   present_next new more g p = at p.found p.made p.added
@@ -441,7 +435,7 @@ pub more_than : (ns : List Node) (e : Tree) (cur : List Node) (first ids : List 
 more_than ns e cur first ids k s l = (ids, of_atoms cur e ids s.of, l)
 
 pub id_read : (n : ℕ) (xs : List TermId) (k : ℕ) (x : TermId) → x ≡ get_or xs k x → k < length xs → ids_below n xs ≡ true → x.0 < n
-id_read n xs k x e l h = id_in n xs k x h (at xs k x l ∙ ap Some (sym e))
+id_read n xs k x e l h = id_below n xs k x h (at xs k x l ∙ ap Some (sym e))
   where
     at : (ys : List TermId) (j : ℕ) (d : TermId) → j < length ys → slice_get ys j ≡ Some (get_or ys j d)
     at [] j d m = absurd (omega arith)
@@ -458,5 +452,5 @@ bit_read bs k b v e h = e ∙ at bs k b h
 
 pub id_get : (n : ℕ) (xs : List TermId) (k : ℕ) (d : TermId) → k < length xs → ids_below n xs ≡ true → (get_or xs k d).0 < n
 id_get n [] k d l h = absurd (omega arith)
-id_get n (x ∷ xs) zero d l h = lt_of x.0 n (first_so (nat_lt x.0 n) (ids_below n xs) h)
+id_get n (x ∷ xs) zero d l h = ltb-true x.0 n (first_so (nat_lt x.0 n) (ids_below n xs) h)
 id_get n (x ∷ xs) (suc k) d l h = id_get n xs k d (omega arith) (second_so (nat_lt x.0 n) (ids_below n xs) h)

@@ -1,7 +1,9 @@
 -- Swaps that make the gate of a rise or fall.
 use Rattle.std.proofs.Common.{◌≡◌, Bool, true, false, not, ◌||◌, if◌then◌else◌, List, [], ◌∷◌, ◌++◌, refl, sym, ap, ◌∙◌, subst, inl, inr}
 use Rattle.std.specs.List.{list_any}
+use Rattle.std.proofs.lemmas.Bool.{or_cases, or_left, or_right, cases_Bool, false_from_ne_true}
 use Rattle.lh_types.specs.Types.{int_type}
+use Rattle.lh_types.proofs.Tests.{not_both}
 use Rattle.lh_term.specs.declared.part.Part.{Part}
 use Rattle.lh_term.specs.Tree.{Tree, TreeRow, constant, past_of, now_of, operation, choice_of, no_trees, more_trees}
 use Rattle.lh_term.specs.Types.{type_of}
@@ -10,7 +12,6 @@ use Rattle.lh_term.specs.SameTree.{same_tree, same_tree-is, same_tree-refl}
 use Rattle.lh_term.specs.Make.{bit_of, make_operation, make_choice}
 use Rattle.lh_term.specs.Subst.{replaced, IsLeaf, is_first, AreSwaps, swapped, swapped_row}
 use Rattle.lh_edge.specs.Triggers.{pasts_in, pasts_in_row, present_swaps, edge_swaps, gate_of}
-use Rattle.lh_edge.proofs.Bools.{or_cases, or_left, or_right, true_or, false_is, both_ways}
 
 -- ---- lists of pairs
 
@@ -48,7 +49,7 @@ replaced_none (p ∷ ps) t h = at (same_tree p.0 t) h (replaced_none ps t)
     at false k next = next k
 
 turned : (a b : Tree) → same_tree a b ≡ false → same_tree b a ≡ false
-turned a b e = false_is (same_tree b a) (λ s. both_ways (same_tree a b) (ap (same_tree a) (same_tree-is b a s) ∙ same_tree-refl a) e)
+turned a b e = false_from_ne_true (same_tree b a) (λ s. not_both (same_tree a b) (ap (same_tree a) (same_tree-is b a s) ∙ same_tree-refl a) e)
 
 swaps_push : (ps : List (Tree × Tree)) (a b : Tree) → AreSwaps ps → IsLeaf a → is_first ps a ≡ false → type_of a ≡ type_of b → AreSwaps (ps ++ (a, b) ∷ [])
 swaps_push [] a b s l f t = (l, refl, t, tt)
@@ -96,7 +97,7 @@ put_has ps x t = at (is_first ps x.0) refl
   where
     absorbed : (b : Bool) → (b ≡ true → is_first ps t ≡ true) → (c : Bool) → is_first ps t ≡ c → c ≡ (c || b)
     absorbed b h true e = refl
-    absorbed true h false e = absurd (both_ways (is_first ps t) (h refl) e)
+    absorbed true h false e = absurd (not_both (is_first ps t) (h refl) e)
     absorbed false h false e = refl
 
     one : (b : Bool) → (if b then true else false) ≡ b
@@ -121,7 +122,7 @@ swap_next rise p ps x q e f s = at (is_first ps x.0) refl
           own_now = replaced_there ps (x ∷ []) (now_of p) s.own_next ∙ s.own_now;
           own_first = first_append ps (x ∷ []) (past_of p) ∙ or_left _ _ s.own_first;
           own_next = first_append ps (x ∷ []) (now_of p) ∙ or_left _ _ s.own_next;
-          other_past = λ r n h. elim (true_or (is_first ps (past_of r))) [
+          other_past = λ r n h. elim (cases_Bool (is_first ps (past_of r))) [
             | inl g ↦ replaced_there ps (x ∷ []) (past_of r) g ∙ s.other_past r n g
             | inr g ↦
                 let there : (if same_tree x.0 (past_of r) then true else false) ≡ true = ap (λ b. b || is_first (x ∷ []) (past_of r)) (sym g) ∙ sym (first_append ps (x ∷ []) (past_of r)) ∙ h in
@@ -183,14 +184,14 @@ present_past p (x ∷ qs) q n h = at (same_part p x || list_any (same_part x) qs
   where
     other : same_part x q ≡ false → list_any (same_part q) qs ≡ true
     other e = elim (or_cases (same_part q x) (list_any (same_part q) qs) h) [
-      | inl k ↦ absurd (both_ways (same_part x q) (ap (same_part x) (same_part-is q x k) ∙ same_part-refl x) e)
+      | inl k ↦ absurd (not_both (same_part x q) (ap (same_part x) (same_part-is q x k) ∙ same_part-refl x) e)
       | inr k ↦ k
     ]
 
     at : (b : Bool) → (same_part p x || list_any (same_part x) qs) ≡ b → (c : Bool) → same_part x q ≡ c → (list_any (same_part q) qs ≡ true → replaced (present_swaps p qs) (past_of q) ≡ now_of q) →
         replaced (if b then present_swaps p qs else (past_of x, now_of x) ∷ present_swaps p qs) (past_of q) ≡ now_of q
     at true e true f next = elim (or_cases (same_part p x) (list_any (same_part x) qs) e) [
-      | inl k ↦ absurd (both_ways (same_part p q) (ap (same_part p) (sym (same_part-is x q f)) ∙ k) n)
+      | inl k ↦ absurd (not_both (same_part p q) (ap (same_part p) (sym (same_part-is x q f)) ∙ k) n)
       | inr k ↦ next (ap (λ y. list_any (same_part y) qs) (sym (same_part-is x q f)) ∙ k)
     ]
     at true e false f next = next (other f)

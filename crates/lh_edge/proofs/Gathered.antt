@@ -1,5 +1,5 @@
 -- The values before that can be in a condition, each with the value now, by ids.
-use Rattle.std.proofs.Common.{◌≡◌, ℕ, ◌+◌, ◌-◌, ◌<◌, ◌≤◌, Bool, true, false, not, ◌||◌, nat_eq, nat_lt, if◌then◌else◌, List, [], ◌∷◌, ◌++◌, length, map, take, drop, get_or, refl, sym, ap, ◌∙◌, subst, inl, inr, ◌⊎◌, arith, Option, Some, None, append-nil}
+use Rattle.std.proofs.Common.{◌≡◌, ℕ, ◌+◌, ◌-◌, ◌<◌, ◌≤◌, Bool, true, false, not, ◌||◌, nat_eq, nat_lt, if◌then◌else◌, List, [], ◌∷◌, ◌++◌, length, map, take, drop, get_or, refl, sym, ap, ◌∙◌, subst, inl, inr, ◌⊎◌, arith, Option, Some, None, append-nil, ltb-true}
 use Rattle.std.specs.List.{list_any}
 use Rattle.std.specs.Cmp.{first_so, second_so}
 use Rattle.lh_types.specs.Types.{int_type}
@@ -15,16 +15,15 @@ use Rattle.lh_term.specs.Make.{bit_of}
 use Rattle.lh_term.specs.Arena.{tree_at, trees, term_tree, ids_below, IsIn, Grows, StandsForTree}
 use Rattle.lh_term.specs.Subst.{PairsIn, pairs_at, is_first}
 use Rattle.lh_term.specs.Reach.{operands_of, is_on, GoOn, none_left, AreReached}
-use Rattle.lh_term.proofs.Arenas.{lt_of}
 use Rattle.lh_term.proofs.Reaching.{on_push, on_at, on_below, pass_on, is_behind}
 use Rattle.lh_term.proofs.Swaps.{tree_grown, in_grown, grows_on, pairs_grown, pairs_in_grown, term_there}
 use Rattle.lh_edge.specs.Triggers.{pasts_in, pasts_in_row}
 use Rattle.lh_edge.specs.Steps.{present_tree, IsPresent}
 use Rattle.lh_edge.specs.Gates.{ArePresents, IsPresents, MakesGate, with_pair, with_present, Gathers}
-use Rattle.lh_edge.proofs.Bools.{or_cases, or_left, or_right}
 use Rattle.lh_edge.proofs.Gate.{first_append, put_pair, put_has, SwapSoFar, swap_first, swap_next, gate_is}
 use Rattle.lh_edge.proofs.Found.{take_all}
 use Rattle.std.proofs.lemmas.List.{take_more}
+use Rattle.std.proofs.lemmas.Bool.{or_cases, or_left, or_right}
 
 -- ---- pairs of ids
 
@@ -147,7 +146,7 @@ module _ (old cur : List Node) (ids : List TermId) (pairs : List (TermId × Term
       step (all_below left (second_so (nat_lt x.0 (length old)) (ids_below (length old) left) i) (λ m p. sub m (or_right (nat_eq m x.0) (is_on left m) p)) g.1)
     where
       x_in : x.0 < length old
-      x_in = lt_of x.0 (length old) (first_so (nat_lt x.0 (length old)) (ids_below (length old) left) i)
+      x_in = ltb-true x.0 (length old) (first_so (nat_lt x.0 (length old)) (ids_below (length old) left) i)
 
       Rest : Type 0
       Rest = (m : ℕ) → is_on left m ≡ true → list_any (same_part q) (pasts_in (tree_at (trees old) (record { 0 = m }))) ≡ true → is_first (pairs_at cur pairs) (past_of q) ≡ true

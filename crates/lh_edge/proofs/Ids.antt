@@ -1,7 +1,8 @@
 -- Terms by their ids: their operands, and whether values before are in them.
-use Rattle.std.proofs.Common.{◌≡◌, ℕ, zero, suc, ◌+◌, ◌-◌, ◌<◌, ◌≤◌, Bool, true, false, ◌&&◌, ◌||◌, nat_eq, nat_lt, if◌then◌else◌, List, [], ◌∷◌, ◌++◌, length, take, drop, get_or, refl, sym, ap, ◌∙◌, subst, inl, inr, arith, Some, slice_get, length-append}
+use Rattle.std.proofs.Common.{◌≡◌, ℕ, zero, suc, ◌+◌, ◌-◌, ◌<◌, ◌≤◌, Bool, true, false, ◌&&◌, ◌||◌, nat_eq, nat_lt, if◌then◌else◌, List, [], ◌∷◌, ◌++◌, length, take, drop, get_or, refl, sym, ap, ◌∙◌, subst, inl, inr, arith, Some, slice_get, length-append, ltb-true}
 use Rattle.std.specs.List.{list_any, filter}
 use Rattle.std.specs.Cmp.{first_so, second_so}
+use Rattle.std.proofs.lemmas.Bool.{and_from}
 use Rattle.lh_types.specs.declared.op.Op.{Op}
 use Rattle.lh_types.specs.declared.op.Op.TheVariants.{Not, And, Or, Xor, Eq, Neq}
 use Rattle.lh_types.specs.Types.{int_type}
@@ -16,15 +17,14 @@ use Rattle.lh_term.specs.Conjuncts.{conjuncts_of, conjunction, conjunction_from}
 use Rattle.lh_term.specs.Make.{make_operation, bit_of}
 use Rattle.lh_term.specs.Reach.{operands_of}
 use Rattle.lh_term.specs.Same.{nat_eq-is, nat_eq-refl}
-use Rattle.lh_term.proofs.Arenas.{lt_of, ids_more}
+use Rattle.lh_term.proofs.Arenas.{ids_more}
 use Rattle.lh_term.proofs.Sound.{IntTerm, operation_sound, bit_typed}
 use Rattle.lh_term.proofs.Conditions.{AllBits, conjuncts_are_bits, and_typed}
-use Rattle.lh_term.proofs.Swaps.{tree_grown, in_grown, grows_on}
+use Rattle.lh_term.proofs.Swaps.{tree_grown, in_grown, grows_on, rest_of}
 use Rattle.lh_edge.specs.Atoms.{contains_past, some_past, edge_part}
 use Rattle.lh_edge.specs.Valuations.{connected}
 use Rattle.lh_edge.specs.Reached.{Tells, TellsNext}
 use Rattle.lh_edge.specs.Steps.{TellPasts, values_at}
-use Rattle.lh_edge.proofs.Bools.{and_both}
 use Rattle.lh_edge.proofs.Numbers.{here_or_before}
 
 -- ---- operands
@@ -83,7 +83,7 @@ tell_start ns flags f e = subst (λ (fs : List Bool). TellSoFar ns fs f 0) (sym 
 tells_below : (ns : List Node) (f : ℕ → Bool) (i : ℕ) → ((j : ℕ) → j < i → f j ≡ contains_past (tree_at (trees ns) (record { 0 = j }))) → (xs : List TermId) → ids_below i xs ≡ true
     → Tells ns contains_past f xs
 tells_below ns f i h [] b = tt
-tells_below ns f i h (x ∷ xs) b = (h x.0 (lt_of x.0 i (first_so (nat_lt x.0 i) (ids_below i xs) b)), tells_below ns f i h xs (second_so (nat_lt x.0 i) (ids_below i xs) b))
+tells_below ns f i h (x ∷ xs) b = (h x.0 (ltb-true x.0 i (first_so (nat_lt x.0 i) (ids_below i xs) b)), tells_below ns f i h xs (second_so (nat_lt x.0 i) (ids_below i xs) b))
 
 operands_below : (i : ℕ) (k : Term) → term_below i k ≡ true → ids_below i (operands_of k) ≡ true
 operands_below i (Konst v) h = refl
@@ -92,7 +92,7 @@ operands_below i (Now p) h = refl
 operands_below i (Applied op args) h = h
 operands_below i (Choice c f t) h =
     let r = second_so (nat_lt c.0 i) (nat_lt f.0 i && nat_lt t.0 i) h in
-    and_both _ _ (first_so (nat_lt c.0 i) (nat_lt f.0 i && nat_lt t.0 i) h) (and_both _ _ (first_so (nat_lt f.0 i) (nat_lt t.0 i) r) (and_both _ _ (second_so (nat_lt f.0 i) (nat_lt t.0 i) r) refl))
+    and_from _ _ (first_so (nat_lt c.0 i) (nat_lt f.0 i && nat_lt t.0 i) h) (and_from _ _ (first_so (nat_lt f.0 i) (nat_lt t.0 i) r) (and_from _ _ (second_so (nat_lt f.0 i) (nat_lt t.0 i) r) refl))
 
 -- it is told of the operands of the next term
 pub tells_operands : (ns : List Node) (flags : List Bool) (f : ℕ → Bool) (i : ℕ) (k : Term) → slice_get (terms_in ns) i ≡ Some k → term_below i k ≡ true → TellSoFar ns flags f i
@@ -145,9 +145,6 @@ take_whole : (xs : List TermId) → take (length xs) xs ≡ xs
 take_whole [] = refl
 take_whole (x ∷ xs) = ap (λ r. x ∷ r) (take_whole xs)
 
-pub rest_of : (y : TermId) (r : List TermId) → take (length (y ∷ r) - 1) (drop 1 (y ∷ r)) ≡ r
-rest_of y r = let e : length (y ∷ r) - 1 ≡ length r = omega arith in ap (λ n. take n (drop 1 (y ∷ r))) e ∙ take_whole r
-
 -- what is known of the first of what is left
 pub record FirstLeft (old cur : List Node) (f : ℕ → Bool) (x : TermId) : Type 0 where
   pub old_in : IsIn old x
@@ -160,7 +157,7 @@ pub first_left : (old cur : List Node) (f : ℕ → Bool) (xs left : List TermId
     → FirstLeft old cur f (get_or left 0 d)
 first_left old cur f xs [] all d c h = absurd (omega arith)
 first_left old cur f xs (x ∷ left) all d c h =
-    let i : x.0 < length old = lt_of x.0 (length old) (first_so (nat_lt x.0 (length old)) (ids_below (length old) left) c.left_in) in
+    let i : x.0 < length old = ltb-true x.0 (length old) (first_so (nat_lt x.0 (length old)) (ids_below (length old) left) c.left_in) in
     let s = tree_grown old cur c.grows x i in
     record {
       old_in = i;

@@ -1,5 +1,6 @@
 -- The terms that a term is joined of.
 use Rattle.std.proofs.Common.{◌≡◌, ℕ, Bool, true, false, not, nat_eq, if◌then◌else◌, List, [], ◌∷◌, ◌++◌, map, refl, sym, ap, ◌∙◌, inl, inr, append-nil}
+use Rattle.std.proofs.lemmas.Bool.{or_cases, or_left, or_right}
 use Rattle.lh_types.specs.ValueOf.{datum_of}
 use Rattle.lh_term.specs.declared.term.TermId.{TermId}
 use Rattle.lh_term.specs.declared.term.Term.{Term}
@@ -11,7 +12,7 @@ use Rattle.lh_term.specs.Arena.{tree_at, trees, term_tree}
 use Rattle.lh_term.specs.Reach.{is_on}
 use Rattle.lh_edge.specs.Atoms.{is_one_bit, is_connective, subterms, subterms_in, has}
 use Rattle.lh_edge.specs.Reached.{joined_by, is_atom}
-use Rattle.lh_edge.proofs.Bools.{or_cases, or_left, or_right, has_append, has_left, has_right}
+use Rattle.lh_edge.proofs.Bools.{has_append, has_left, has_right}
 
 -- ---- the subterms of what is joined
 
@@ -75,7 +76,7 @@ atom_joins ts (Choice c f t) e = at (is_one_bit (tree_at ts f)) e
     at true e = cc
     at false e = refl
 
-at_place : (ts : List Tree) (x : TermId) (j : ℕ) → j ≡ x.0 → tree_at ts (record { 0 = j }) ≡ tree_at ts x
+pub at_place : (ts : List Tree) (x : TermId) (j : ℕ) → j ≡ x.0 → tree_at ts (record { 0 = j }) ≡ tree_at ts x
 at_place ts x j e = ap (λ n. tree_at ts (record { 0 = n })) e
 
 on_joins : (ts : List Tree) (xs : List TermId) (j : ℕ) (t : Tree) → is_on xs j ≡ true → has (subterms (tree_at ts (record { 0 = j }))) t ≡ true → has (joins (map (tree_at ts) xs)) t ≡ true

@@ -1,12 +1,14 @@
 -- What a condition means is what its atoms hold.
 use Rattle.std.proofs.Common.{◌≡◌, Bool, true, false, not, cond, ◌&&◌, ◌||◌, if◌then◌else◌, List, [], ◌∷◌, refl, sym, ap, ◌∙◌, subst}
 use Rattle.std.specs.List.{list_all, filter}
+use Rattle.std.specs.Cmp.{first_so, second_so}
 use Rattle.lh_types.specs.Types.{TypeTree, int_type, same_type}
 use Rattle.lh_types.specs.Values.{Datum}
 use Rattle.lh_types.specs.Same.{same-is, same-refl}
 use Rattle.lh_types.specs.Apply.{apply, bit_value}
 use Rattle.lh_types.specs.declared.op.Op.{Op}
 use Rattle.lh_types.specs.declared.op.Op.TheVariants.{Not, And, Or, Xor, Eq, Neq}
+use Rattle.lh_types.proofs.Tests.{or_false_left, or_false_right}
 use Rattle.lh_ops.proofs.BooleanLemmas.{bits_are_boolean_lem}
 use Rattle.lh_term.specs.Tree.{Tree, TreeRow, constant, past_of, now_of, operation, choice_of, no_trees, more_trees}
 use Rattle.lh_term.specs.Types.{IsTyped, AreTyped, type_of, types_of, TakesTypes}
@@ -17,7 +19,6 @@ use Rattle.lh_term.proofs.Sound.{IsBit, IntTerm, bit_mean, bit_typed}
 use Rattle.lh_term.proofs.Conditions.{AllBits, conjuncts_are_bits, filter-bits, one_bit, and_assoc, holds as all_hold, from_all, condition_sound}
 use Rattle.lh_edge.specs.Atoms.{contains_past, some_past, edge_part, is_one_bit, are_one_bit, connects, is_connective}
 use Rattle.lh_edge.specs.Valuations.{differ, connected, holds, bits_of}
-use Rattle.lh_edge.proofs.Bools.{and_left, and_right}
 
 -- ---- bits
 
@@ -104,7 +105,7 @@ module _ (past now : Valuation) (p : IsFitting past) (n : IsFitting now) where
       where
         at : (b : Bool) → is_connective op ts ≡ b → (are_one_bit ts ≡ true → means past now ts ≡ as_values (bits_of (meant past now) ts)) →
             apply op (means past now ts) ≡ bit_value (if b then connected op (bits_of (meant past now) ts) else meant past now (operation op ts))
-        at true k next = ap (apply op) (next (and_right (connects op) (are_one_bit ts) k)) ∙ connective_bits (meant past now) op ts (and_left (connects op) (are_one_bit ts) k) h.1
+        at true k next = ap (apply op) (next (second_so (connects op) (are_one_bit ts) k)) ∙ connective_bits (meant past now) op ts (first_so (connects op) (are_one_bit ts) k) h.1
         at false k next = as_bit (apply op (means past now ts)) (bit_mean (operation op ts) (record { typed = h; type = e }) past now p n)
     means_held (choice_of c f t) h e =
         let one : is_one_bit f ≡ true = ap (λ u. same_type u (int_type 1)) e ∙ same-refl (int_type 1) in
@@ -118,8 +119,8 @@ module _ (past now : Valuation) (p : IsFitting past) (n : IsFitting now) where
     means_each : (ts : TreeRow) → AreTyped ts → are_one_bit ts ≡ true → means past now ts ≡ as_values (bits_of (meant past now) ts)
     means_each no_trees h e = refl
     means_each (more_trees t ts) h e =
-        let a = means_held t h.0 (same-is (type_of t) (int_type 1) (and_left (is_one_bit t) (are_one_bit ts) e)) in
-        let b = means_each ts h.1 (and_right (is_one_bit t) (are_one_bit ts) e) in
+        let a = means_held t h.0 (same-is (type_of t) (int_type 1) (first_so (is_one_bit t) (are_one_bit ts) e)) in
+        let b = means_each ts h.1 (second_so (is_one_bit t) (are_one_bit ts) e) in
         λ i. a i ∷ b i
 
 -- ---- conjuncts
@@ -146,14 +147,6 @@ joins ts h =
     record { bit = r.bit; value = λ past now p n. r.value past now p n ∙ ap bit_value (each_holds past now p n ts h) }
 
 -- ---- a term without values before means the same, whatever they were
-
-or_false_left : (a b : Bool) → (a || b) ≡ false → a ≡ false
-or_false_left true b e = e
-or_false_left false b e = refl
-
-or_false_right : (a b : Bool) → (a || b) ≡ false → b ≡ false
-or_false_right true b e = cc
-or_false_right false b e = e
 
 mutual
   pub without_past : (p q n : Valuation) (t : Tree) → contains_past t ≡ false → mean p n t ≡ mean q n t

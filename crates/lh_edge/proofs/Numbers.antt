@@ -1,14 +1,16 @@
 -- Valuations by number, and tables of them.
-use Rattle.std.proofs.Common.{◌≡◌, ℕ, zero, suc, ◌+◌, ◌*◌, ◌/◌, ◌%◌, ◌^◌, ◌<◌, ◌≤◌, Bool, true, false, not, ◌&&◌, ◌||◌, nat_eq, if◌then◌else◌, List, [], ◌∷◌, ◌++◌, length, refl, sym, ap, ◌∙◌, inl, inr, ◌⊎◌, arith, pow-suc, drop, Some, slice_get, slice_set, get_or, drop-cons, drop_of_length-le}
+use Rattle.std.proofs.Common.{◌≡◌, ℕ, zero, suc, ◌+◌, ◌*◌, ◌/◌, ◌%◌, ◌^◌, ◌<◌, ◌≤◌, Bool, true, false, not, ◌&&◌, ◌||◌, nat_eq, if◌then◌else◌, List, [], ◌∷◌, ◌++◌, length, refl, sym, ap, ◌∙◌, inl, inr, ◌⊎◌, arith, pow-suc, drop, Some, slice_get, slice_set, get_or, drop-cons, drop_of_length-le, eq-eqb}
 use Rattle.std.specs.List.{list_any}
+use Rattle.std.specs.Cmp.{first_so, second_so}
+use Rattle.std.proofs.lemmas.Bool.{and_from, or_cases, or_left, or_right, not-true, cases_Bool}
 use Rattle.lh_term.specs.declared.part.Part.{Part}
-use Rattle.lh_term.specs.Same.{nat_eq-is, nat_eq-refl}
+use Rattle.lh_term.specs.Same.{nat_eq-is}
 use Rattle.lh_term.specs.Tree.{Tree}
 use Rattle.lh_term.specs.SameTree.{same_tree, same_tree-is}
 use Rattle.lh_edge.specs.Atoms.{has}
 use Rattle.lh_edge.specs.Valuations.{holds}
 use Rattle.lh_edge.specs.Steps.{is_odd, numbered, is_other, agree, table_from, stays_from, shows_at, shown_from}
-use Rattle.lh_edge.proofs.Bools.{and_left, and_right, and_both, or_cases, or_left, or_right, is_not, true_or, both_ways}
+use Rattle.lh_types.proofs.Tests.{not_both}
 
 -- a number below the next one is this one or below it
 pub here_or_before : (j i : ℕ) → j < i + 1 → (j ≡ i) ⊎ (j < i)
@@ -73,19 +75,16 @@ numbered_none (a ∷ more) k t h = at (same_tree a t) h (numbered_none more (k /
 
 -- ---- numbers that agree
 
-eq_of : (m n : ℕ) → m ≡ n → nat_eq m n ≡ true
-eq_of m n e = ap (nat_eq m) (sym e) ∙ nat_eq-refl m
-
 pub agree_numbers : (b : Tree) (v w : Tree → Bool) → ((t : Tree) → is_other b t ≡ false → w t ≡ v t) → (atoms : List Tree) → agree b atoms (number v atoms) (number w atoms) ≡ true
 agree_numbers b v w h [] = refl
 agree_numbers b v w h (a ∷ more) =
-    and_both _ _
+    and_from _ _
     (at (is_other b a) refl)
     ((λ i. agree b more (half_digit (v a) (number v more) i) (half_digit (w a) (number w more) i)) ∙ agree_numbers b v w h more)
   where
     at : (o : Bool) → is_other b a ≡ o → (o || nat_eq ((digit (v a) + 2 * number v more) % 2) ((digit (w a) + 2 * number w more) % 2)) ≡ true
     at true e = refl
-    at false e = eq_of _ _ (digits (v a) (w a) (number v more) (number w more) (sym (h a e)))
+    at false e = eq-eqb _ _ (digits (v a) (w a) (number v more) (number w more) (sym (h a e)))
       where
         digits : (x y : Bool) (k j : ℕ) → x ≡ y → (digit x + 2 * k) % 2 ≡ (digit y + 2 * j) % 2
         digits true true k j q = omega arith
@@ -95,12 +94,12 @@ agree_numbers b v w h (a ∷ more) =
 
 pub agree_same : (b : Tree) (atoms : List Tree) (k j : ℕ) → agree b atoms k j ≡ true → (t : Tree) → is_other b t ≡ false → numbered atoms j t ≡ numbered atoms k t
 agree_same b [] k j h t o = refl
-agree_same b (a ∷ more) k j h t o = at (same_tree a t) refl (agree_same b more (k / 2) (j / 2) (and_right _ _ h) t o)
+agree_same b (a ∷ more) k j h t o = at (same_tree a t) refl (agree_same b more (k / 2) (j / 2) (second_so _ _ h) t o)
   where
     at : (s : Bool) → same_tree a t ≡ s → numbered more (j / 2) t ≡ numbered more (k / 2) t → (if s then is_odd j else numbered more (j / 2) t) ≡ (if s then is_odd k else numbered more (k / 2) t)
     at false e r = r
-    at true e r = elim (or_cases (is_other b a) (nat_eq (k % 2) (j % 2)) (and_left _ _ h)) [
-      | inl p ↦ absurd (both_ways (is_other b a) p (ap (is_other b) (same_tree-is a t e) ∙ o))
+    at true e r = elim (or_cases (is_other b a) (nat_eq (k % 2) (j % 2)) (first_so _ _ h)) [
+      | inl p ↦ absurd (not_both (is_other b a) p (ap (is_other b) (same_tree-is a t e) ∙ o))
       | inr p ↦ ap (λ m. nat_eq m 1) (sym (nat_eq-is (k % 2) (j % 2) p))
     ]
 
@@ -128,22 +127,22 @@ here_or_later j i n l u = at (nat_eq j i) refl
 
     at : (b : Bool) → nat_eq j i ≡ b → (j ≡ i) ⊎ ((j + 1 ≤ i) × (i < j + 1 + n))
     at true e = inl (nat_eq-is j i e)
-    at false e = inr (apart j i l (λ s. both_ways (nat_eq j i) (eq_of j i s) e), omega arith)
+    at false e = inr (apart j i l (λ s. not_both (nat_eq j i) (eq-eqb j i s) e), omega arith)
 
 module _ (atoms : List Tree) (e : Tree) where
   pub stays_tells : (b : Tree) (k j n : ℕ) → stays_from b atoms k j (table_from atoms e j n) ≡ true → (i : ℕ) → j ≤ i → i < j + n → agree b atoms k i ≡ true → holds (numbered atoms i) e ≡ true
   stays_tells b k j zero h i l u a = absurd (omega arith)
   stays_tells b k j (suc n) h i l u a = elim (here_or_later j i n l u) [
-    | inl q ↦ elim (or_cases (holds (numbered atoms j) e) (not (agree b atoms k j)) (and_left _ _ h)) [
+    | inl q ↦ elim (or_cases (holds (numbered atoms j) e) (not (agree b atoms k j)) (first_so _ _ h)) [
       | inl r ↦ ap (λ m. holds (numbered atoms m) e) (sym q) ∙ r
-      | inr r ↦ absurd (both_ways (agree b atoms k i) a (ap (agree b atoms k) (sym q) ∙ is_not (agree b atoms k j) r))
+      | inr r ↦ absurd (not_both (agree b atoms k i) a (ap (agree b atoms k) (sym q) ∙ not-true (agree b atoms k j) r))
     ]
-    | inr r ↦ stays_tells b k (j + 1) n (and_right _ _ h) i r.0 r.1 a
+    | inr r ↦ stays_tells b k (j + 1) n (second_so _ _ h) i r.0 r.1 a
   ]
 
   pub stays_all : (b : Tree) (k j n : ℕ) → ((i : ℕ) → agree b atoms k i ≡ true → holds (numbered atoms i) e ≡ true) → stays_from b atoms k j (table_from atoms e j n) ≡ true
   stays_all b k j zero h = refl
-  stays_all b k j (suc n) h = and_both _ _ (at (true_or (agree b atoms k j))) (stays_all b k (j + 1) n h)
+  stays_all b k j (suc n) h = and_from _ _ (at (cases_Bool (agree b atoms k j))) (stays_all b k (j + 1) n h)
     where
       at : (agree b atoms k j ≡ true) ⊎ (agree b atoms k j ≡ false) → (holds (numbered atoms j) e || not (agree b atoms k j)) ≡ true
       at (inl p) = or_left _ _ (h j p)
@@ -154,16 +153,16 @@ module _ (atoms : List Tree) (e : Tree) where
         → list_any (shows_at table atoms i) parts ≡ true
     shown_tells j zero h i l u a = absurd (omega arith)
     shown_tells j (suc n) h i l u a = elim (here_or_later j i n l u) [
-      | inl q ↦ elim (or_cases (not (holds (numbered atoms j) e)) (list_any (shows_at table atoms j) parts) (and_left _ _ h)) [
-        | inl r ↦ absurd (both_ways (holds (numbered atoms i) e) a (ap (λ m. holds (numbered atoms m) e) (sym q) ∙ is_not (holds (numbered atoms j) e) r))
+      | inl q ↦ elim (or_cases (not (holds (numbered atoms j) e)) (list_any (shows_at table atoms j) parts) (first_so _ _ h)) [
+        | inl r ↦ absurd (not_both (holds (numbered atoms i) e) a (ap (λ m. holds (numbered atoms m) e) (sym q) ∙ not-true (holds (numbered atoms j) e) r))
         | inr r ↦ ap (λ m. list_any (shows_at table atoms m) parts) (sym q) ∙ r
       ]
-      | inr r ↦ shown_tells (j + 1) n (and_right _ _ h) i r.0 r.1 a
+      | inr r ↦ shown_tells (j + 1) n (second_so _ _ h) i r.0 r.1 a
     ]
 
     pub shown_all : (j n : ℕ) → ((i : ℕ) → holds (numbered atoms i) e ≡ true → list_any (shows_at table atoms i) parts ≡ true) → shown_from table atoms parts j (table_from atoms e j n) ≡ true
     shown_all j zero h = refl
-    shown_all j (suc n) h = and_both _ _ (at (true_or (holds (numbered atoms j) e))) (shown_all (j + 1) n h)
+    shown_all j (suc n) h = and_from _ _ (at (cases_Bool (holds (numbered atoms j) e))) (shown_all (j + 1) n h)
       where
         at : (holds (numbered atoms j) e ≡ true) ⊎ (holds (numbered atoms j) e ≡ false) → (not (holds (numbered atoms j) e) || list_any (shows_at table atoms j) parts) ≡ true
         at (inl p) = or_right _ _ (h j p)

@@ -2,8 +2,11 @@
 use Rattle.std.proofs.Common.{◌≡◌, ℕ, suc, ◌+◌, ◌≤◌, Bool, true, false, ◌&&◌, ◌||◌, nat_eq, nat_lt, nat_le, if◌then◌else◌, List, [], ◌∷◌, length, refl, sym, ap, ◌∙◌, inl, inr, arith}
 use Rattle.std.specs.List.{list_any}
 use Rattle.std.proofs.lemmas.Bool.Decides.{nat_tests}
+use Rattle.std.specs.Cmp.{first_so}
+use Rattle.std.proofs.lemmas.Bool.{or_cases, or_left, or_right, false_from_ne_true}
 use Rattle.lh_types.specs.Types.{int_type}
 use Rattle.lh_types.specs.Same.{same-is}
+use Rattle.lh_types.proofs.Tests.{not_both}
 use Rattle.lh_term.specs.declared.part.Part.{Part}
 use Rattle.lh_term.specs.Same.{same_part, same_part-is, same_part-refl}
 use Rattle.lh_term.specs.Tree.{Tree, constant, past_of, now_of, operation, choice_of}
@@ -13,7 +16,7 @@ use Rattle.lh_edge.specs.Shown.{can_show, showing_parts}
 use Rattle.lh_edge.specs.Triggers.{comes_first, with_part, in_order}
 use Rattle.lh_edge.specs.Gates.{AllBit}
 use Rattle.lh_edge.specs.Steps.{AreDistinct}
-use Rattle.lh_edge.proofs.Bools.{and_left, or_cases, or_left, or_right, false_is, both_ways, has_once, has_self}
+use Rattle.lh_edge.proofs.Bools.{has_once, has_self}
 
 -- ---- distinct terms
 
@@ -44,7 +47,7 @@ without_has t (u ∷ us) x h e = at (same_tree u t) refl (λ k. without_has t us
   where
     at : (b : Bool) → same_tree u t ≡ b → (has us x ≡ true → has (without t us) x ≡ true) → has (if b then us else u ∷ without t us) x ≡ true
     at true k next = elim (or_cases (same_tree u x) (has us x) h) [
-      | inl s ↦ absurd (both_ways (same_tree t x) (ap (λ y. same_tree y x) (sym (same_tree-is u t k)) ∙ s) e)
+      | inl s ↦ absurd (not_both (same_tree t x) (ap (λ y. same_tree y x) (sym (same_tree-is u t k)) ∙ s) e)
       | inr r ↦ r
     ]
     at false k next = elim (or_cases (same_tree u x) (has us x) h) [
@@ -61,7 +64,7 @@ fits_in (t ∷ ts) us d h =
     omega arith
   where
     other : (x : Tree) → has ts x ≡ true → same_tree t x ≡ false
-    other x m = false_is (same_tree t x) (λ s. both_ways (has ts t) (ap (has ts) (same_tree-is t x s) ∙ m) d.0)
+    other x m = false_from_ne_true (same_tree t x) (λ s. not_both (has ts t) (ap (has ts) (same_tree-is t x s) ∙ m) d.0)
 
 -- ---- parts in order
 
@@ -76,10 +79,10 @@ first_on a b c d e f h k = grind (arith, nat_tests)
 
 -- two parts of one bit that are not one: one of them comes first
 one_first : (p q : Part) → p.ty ≡ q.ty → same_part p q ≡ false → comes_first p q ≡ true → comes_first q p ≡ false
-one_first p q t s h = false_is (comes_first q p) (λ k.
+one_first p q t s h = false_from_ne_true (comes_first q p) (λ k.
     let e = both_first p.arg q.arg p.lo q.lo h k in
     let one : p ≡ q = λ i. record { arg = e.0 i; lo = e.1 i; ty = t i } in
-    both_ways (same_part p q) (ap (same_part p) (sym one) ∙ same_part-refl p) s)
+    not_both (same_part p q) (ap (same_part p) (sym one) ∙ same_part-refl p) s)
 
 -- p, which comes before q, and q are put in
 put_both : (p q : Part) → comes_first p q ≡ true → comes_first q p ≡ false → (xs : List Part) → with_part p (with_part q xs) ≡ with_part q (with_part p xs)
@@ -95,7 +98,7 @@ put_both p q h k (x ∷ xs) = at (comes_first q x) refl (comes_first p x) refl (
     at : (b : Bool) → comes_first q x ≡ b → (c : Bool) → comes_first p x ≡ c → with_part p (with_part q xs) ≡ with_part q (with_part p xs) →
         with_part p (if b then q ∷ x ∷ xs else x ∷ with_part q xs) ≡ with_part q (if c then p ∷ x ∷ xs else x ∷ with_part p xs)
     at true e true f next = first (x ∷ xs) ∙ ap (λ b. p ∷ (if b then q ∷ x ∷ xs else x ∷ with_part q xs)) (sym e) ∙ sym (second (x ∷ xs))
-    at true e false f next = absurd (both_ways (comes_first p x) (first_on p.arg q.arg x.arg p.lo q.lo x.lo h e) f)
+    at true e false f next = absurd (not_both (comes_first p x) (first_on p.arg q.arg x.arg p.lo q.lo x.lo h e) f)
     at false e true f next =
         ap (λ b. if b then p ∷ x ∷ with_part q xs else x ∷ with_part p (with_part q xs)) f
         ∙ ap (λ b. p ∷ (if b then q ∷ x ∷ xs else x ∷ with_part q xs)) (sym e) ∙ sym (second (x ∷ xs))
@@ -108,7 +111,7 @@ pub put_either : (p q : Part) → p.ty ≡ q.ty → same_part p q ≡ false → 
 put_either p q t s xs = at (comes_first p q) refl
   where
     other : same_part q p ≡ false
-    other = false_is (same_part q p) (λ k. both_ways (same_part p q) (ap (same_part p) (same_part-is q p k) ∙ same_part-refl p) s)
+    other = false_from_ne_true (same_part q p) (λ k. not_both (same_part p q) (ap (same_part p) (same_part-is q p k) ∙ same_part-refl p) s)
 
     at : (b : Bool) → comes_first p q ≡ b → with_part p (with_part q xs) ≡ with_part q (with_part p xs)
     at true h = put_both p q h (one_first p q t s h) xs
@@ -136,7 +139,7 @@ pull p (q ∷ qs) t h e = at (same_part q p) refl (pull p qs t h.1)
   where
     turned : (b : Bool) → same_part q p ≡ b → same_part p q ≡ b
     turned true k = ap (same_part p) (same_part-is q p k) ∙ same_part-refl p
-    turned false k = false_is (same_part p q) (λ s. both_ways (same_part q p) (ap (same_part q) (same_part-is p q s) ∙ same_part-refl q) k)
+    turned false k = false_from_ne_true (same_part p q) (λ s. not_both (same_part q p) (ap (same_part q) (same_part-is p q s) ∙ same_part-refl q) k)
 
     at : (b : Bool) → same_part q p ≡ b → (list_any (same_part p) qs ≡ true → in_order qs ≡ with_part p (in_order (but p qs))) →
         with_part q (in_order qs) ≡ with_part p (in_order (if b then qs else q ∷ but p qs))
@@ -156,7 +159,7 @@ but_any p (q ∷ qs) x s = at (same_part q p) refl (but_any p qs x s)
     at : (b : Bool) → same_part q p ≡ b → list_any (same_part x) (but p qs) ≡ list_any (same_part x) qs
         → list_any (same_part x) (if b then qs else q ∷ but p qs) ≡ (same_part x q || list_any (same_part x) qs)
     at true k r =
-        let n : same_part x q ≡ false = false_is (same_part x q) (λ m. both_ways (same_part p x) (ap (same_part p) (same_part-is x q m ∙ same_part-is q p k) ∙ same_part-refl p) s) in
+        let n : same_part x q ≡ false = false_from_ne_true (same_part x q) (λ m. not_both (same_part p x) (ap (same_part p) (same_part-is x q m ∙ same_part-is q p k) ∙ same_part-refl p) s) in
         ap (λ b. b || list_any (same_part x) qs) (sym n)
     at false k r = ap (λ b. same_part x q || b) r
 
@@ -167,7 +170,7 @@ but_distinct p (q ∷ qs) h = at (same_part q p) refl (but_distinct p qs h.1)
     at : (b : Bool) → same_part q p ≡ b → DistinctParts (but p qs) → DistinctParts (if b then qs else q ∷ but p qs)
     at true k r = h.1
     at false k r =
-        let n : same_part p q ≡ false = false_is (same_part p q) (λ m. both_ways (same_part q p) (ap (same_part q) (same_part-is p q m) ∙ same_part-refl q) k) in
+        let n : same_part p q ≡ false = false_from_ne_true (same_part p q) (λ m. not_both (same_part q p) (ap (same_part q) (same_part-is p q m) ∙ same_part-refl q) k) in
         (but_any p qs q n ∙ h.0, r)
 
 but_gone : (p : Part) (qs : List Part) → DistinctParts qs → list_any (same_part p) (but p qs) ≡ false
@@ -177,7 +180,7 @@ but_gone p (q ∷ qs) h = at (same_part q p) refl (but_gone p qs h.1)
     at : (b : Bool) → same_part q p ≡ b → list_any (same_part p) (but p qs) ≡ false → list_any (same_part p) (if b then qs else q ∷ but p qs) ≡ false
     at true k r = ap (λ x. list_any (same_part x) qs) (sym (same_part-is q p k)) ∙ h.0
     at false k r =
-        let n : same_part p q ≡ false = false_is (same_part p q) (λ m. both_ways (same_part q p) (ap (same_part q) (same_part-is p q m) ∙ same_part-refl q) k) in
+        let n : same_part p q ≡ false = false_from_ne_true (same_part p q) (λ m. not_both (same_part q p) (ap (same_part q) (same_part-is p q m) ∙ same_part-refl q) k) in
         ap (λ b. b || list_any (same_part p) (but p qs)) n ∙ r
 
 -- lists of the same parts, each once, have one order
@@ -193,7 +196,7 @@ one_order (p ∷ ps) qs a b d e s =
         let one : p ≡ x = same_part-is p x k in
         ap (λ y. list_any (same_part y) ps) (sym one) ∙ d.0 ∙ sym (but_gone p qs e) ∙ ap (λ y. list_any (same_part y) (but p qs)) one
     same x false k =
-        let n : same_part x p ≡ false = false_is (same_part x p) (λ m. both_ways (same_part p x) (ap (same_part p) (same_part-is x p m) ∙ same_part-refl p) k) in
+        let n : same_part x p ≡ false = false_from_ne_true (same_part x p) (λ m. not_both (same_part p x) (ap (same_part p) (same_part-is x p m) ∙ same_part-refl p) k) in
         ap (λ c. c || list_any (same_part x) ps) (sym n) ∙ s x ∙ sym (but_any p qs x k)
 
 -- ---- the parts that can show
@@ -208,7 +211,7 @@ showing_any waited (past_of p ∷ ts) q = at (can_show waited p) refl (same_part
   where
     turned : (b : Bool) → same_part p q ≡ b → same_part q p ≡ b
     turned true k = ap (same_part q) (same_part-is p q k) ∙ same_part-refl q
-    turned false k = false_is (same_part q p) (λ s. both_ways (same_part p q) (ap (same_part p) (same_part-is q p s) ∙ same_part-refl p) k)
+    turned false k = false_from_ne_true (same_part q p) (λ s. not_both (same_part p q) (ap (same_part p) (same_part-is q p s) ∙ same_part-refl p) k)
 
     and_or : (a b : Bool) → (a && (true || b)) ≡ a
     and_or true b = refl
@@ -233,7 +236,7 @@ showing_bit waited [] = tt
 showing_bit waited (past_of p ∷ ts) = at (can_show waited p) refl (showing_bit waited ts)
   where
     at : (b : Bool) → can_show waited p ≡ b → AllBit (showing_parts waited ts) → AllBit (if b then p ∷ showing_parts waited ts else showing_parts waited ts)
-    at true e r = (same-is p.ty (int_type 1) (and_left _ _ e), r)
+    at true e r = (same-is p.ty (int_type 1) (first_so _ _ e), r)
     at false e r = r
 showing_bit waited (constant v ∷ ts) = showing_bit waited ts
 showing_bit waited (now_of p ∷ ts) = showing_bit waited ts
@@ -274,21 +277,3 @@ with_bit_part p (q ∷ ps) e h = at (comes_first p q) (with_bit_part p ps e h.1)
 pub order_bit : (ps : List Part) → AllBit ps → AllBit (in_order ps)
 order_bit [] h = tt
 order_bit (p ∷ ps) h = with_bit_part p (in_order ps) h.0 (order_bit ps h.1)
-
-any_put : (f : Part → Bool) (p : Part) (ps : List Part) → list_any f (with_part p ps) ≡ (f p || list_any f ps)
-any_put f p [] = refl
-any_put f p (q ∷ ps) = at (comes_first p q) (any_put f p ps)
-  where
-    swap_or : (a b c : Bool) → (a || (b || c)) ≡ (b || (a || c))
-    swap_or true true c = refl
-    swap_or true false c = refl
-    swap_or false true c = refl
-    swap_or false false c = refl
-
-    at : (b : Bool) → list_any f (with_part p ps) ≡ (f p || list_any f ps) → list_any f (if b then p ∷ q ∷ ps else q ∷ with_part p ps) ≡ (f p || (f q || list_any f ps))
-    at true r = refl
-    at false r = ap (λ b. f q || b) r ∙ swap_or (f q) (f p) (list_any f ps)
-
-pub any_order : (f : Part → Bool) (ps : List Part) → list_any f (in_order ps) ≡ list_any f ps
-any_order f [] = refl
-any_order f (p ∷ ps) = any_put f p (in_order ps) ∙ ap (λ b. f p || b) (any_order f ps)

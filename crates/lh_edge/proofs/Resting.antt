@@ -1,5 +1,6 @@
 -- A condition is 0 where no trigger's part changes; the parts of triggers are waited on.
 use Rattle.std.proofs.Common.{◌≡◌, Bool, true, false, not, if◌then◌else◌, List, [], ◌∷◌, ◌++◌, refl, sym, ap, ◌∙◌, inl, inr}
+use Rattle.std.specs.Cmp.{first_so, second_so}
 use Rattle.lh_types.specs.Types.{int_type, same_type}
 use Rattle.lh_types.specs.Same.{same-is}
 use Rattle.lh_types.specs.Apply.{bit_value}
@@ -14,7 +15,7 @@ use Rattle.lh_cover.specs.Bits.{covers}
 use Rattle.lh_edge.specs.Atoms.{edge_part, atoms_of}
 use Rattle.lh_edge.specs.Shown.{can_show, showing_parts, is_edge_shown}
 use Rattle.lh_edge.specs.Triggers.{TriggerTree, gate_of, trigger_at, triggers_at, comes_first, with_part, in_order, triggers_of, SomeFires, NoneChanges, AreWaited}
-use Rattle.lh_edge.proofs.Bools.{and_left, and_right, not_own}
+use Rattle.lh_edge.proofs.Bools.{not_own}
 use Rattle.lh_edge.proofs.Meaning.{as_bit, same_bits}
 use Rattle.lh_edge.proofs.Firing.{triggers_show}
 
@@ -77,7 +78,7 @@ one_waited waited c p rise e = at (is_bit 0 (gate_of rise p c))
   where
     at : (b : Bool) → AreWaited waited (if b then [] else (record { rise = rise; part = p; gate = gate_of rise p c }) ∷ [])
     at true = tt
-    at false = (same-is p.ty (int_type 1) (and_left (same_type p.ty (int_type 1)) (covers waited p) e), and_right (same_type p.ty (int_type 1)) (covers waited p) e, tt)
+    at false = (same-is p.ty (int_type 1) (first_so (same_type p.ty (int_type 1)) (covers waited p) e), second_so (same_type p.ty (int_type 1)) (covers waited p) e, tt)
 
 each_waited : (waited : List Part) (c : Tree) (ps : List Part) → AllCan waited ps → AreWaited waited (triggers_at c ps)
 each_waited waited c [] h = tt

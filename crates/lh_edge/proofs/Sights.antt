@@ -1,9 +1,10 @@
 -- What a part shows, by bits of the numbers of valuations.
-use Rattle.std.proofs.Common.{◌≡◌, ℕ, zero, suc, ◌+◌, ◌-◌, ◌*◌, ◌/◌, ◌%◌, ◌^◌, ◌<◌, ◌≤◌, Bool, true, false, not, ◌&&◌, ◌||◌, nat_eq, if◌then◌else◌, List, [], ◌∷◌, length, replicate, refl, sym, ap, ◌∙◌, subst, inl, inr, ◌⊎◌, arith, pow-suc, take, drop, get_or, slice_set, drop-cons, drop_of_length-le}
+use Rattle.std.proofs.Common.{◌≡◌, ℕ, zero, suc, ◌+◌, ◌-◌, ◌*◌, ◌/◌, ◌%◌, ◌^◌, ◌<◌, ◌≤◌, Bool, true, false, not, ◌&&◌, ◌||◌, nat_eq, if◌then◌else◌, List, [], ◌∷◌, length, replicate, refl, sym, ap, ◌∙◌, subst, inl, inr, ◌⊎◌, arith, pow-suc, take, drop, get_or, slice_set, drop-cons, drop_of_length-le, eq-eqb, ne_eqb}
 use lib.Bits.{bit_and}
 use Rattle.std.specs.List.{list_any}
 use Rattle.std.proofs.lemmas.Nat.{and_block, and_le_l, and_le_r, pow_pos}
 use Rattle.std.proofs.lemmas.List.{length-replicate}
+use Rattle.std.proofs.Math.Bool.{or_assoc, or-false, or-true}
 use Rattle.lh_term.specs.declared.part.Part.{Part}
 use Rattle.lh_term.specs.declared.term.TermId.{TermId}
 use Rattle.lh_term.specs.declared.term.Node.{Node}
@@ -15,8 +16,9 @@ use Rattle.lh_term.proofs.Arenas.{map_length}
 use Rattle.lh_edge.specs.Valuations.{differ}
 use Rattle.lh_edge.specs.Steps.{is_odd, numbered, is_other, agree, stays_from, shows_at, has_bit, bit_of_atom, kept_bits, holds_where, HoldsBy, IsSight, AddsShown, AreMarks}
 use Rattle.lh_edge.specs.declared.shown.Sight.{Sight}
-use Rattle.lh_edge.proofs.Bools.{both_ways}
 use Rattle.lh_edge.proofs.Numbers.{here_or_before, set_length}
+use Rattle.lh_types.proofs.Tests.{not_both}
+use Rattle.lh_types.proofs.Lists.{no_flag}
 
 -- ---- halves
 
@@ -25,7 +27,7 @@ two_ways n = at (nat_eq (n % 2) 0) refl
   where
     at : (b : Bool) → nat_eq (n % 2) 0 ≡ b → (n % 2 ≡ 0) ⊎ (n % 2 ≡ 1)
     at true e = inl (nat_eq-is (n % 2) 0 e)
-    at false e = inr (one (n % 2) (omega arith) (λ z. both_ways (nat_eq (n % 2) 0) (ap (λ m. nat_eq m 0) z) e))
+    at false e = inr (one (n % 2) (omega arith) (λ z. not_both (nat_eq (n % 2) 0) (ap (λ m. nat_eq m 0) z) e))
       where
         one : (m : ℕ) → m < 2 → (m ≡ 0 → ⊥) → m ≡ 1
         one zero l z = absurd (z refl)
@@ -62,10 +64,7 @@ eq_by m n x y f g = at (nat_eq m n) (nat_eq x y) refl refl
     at : (b c : Bool) → nat_eq m n ≡ b → nat_eq x y ≡ c → nat_eq m n ≡ nat_eq x y
     at true c p q = p ∙ sym (same x y (f (nat_eq-is m n p)))
     at false false p q = p ∙ sym q
-    at false true p q = absurd (both_ways (nat_eq m n) (same m n (g (nat_eq-is x y q))) p)
-
-eq_of : (a b : ℕ) → a ≡ b → nat_eq a b ≡ true
-eq_of a b e = ap (nat_eq a) (sym e) ∙ nat_eq-refl a
+    at false true p q = absurd (not_both (nat_eq m n) (same m n (g (nat_eq-is x y q))) p)
 
 and_none : (k : ℕ) → bit_and k 0 ≡ 0
 and_none k = omega (arith, and_le_r k 0)
@@ -93,20 +92,13 @@ bit_tells (a ∷ more) k t = at (same_tree a t) (bit_tells more (k / 2) t)
 
 -- ---- numbers that agree
 
-unequal : (m n : ℕ) → (m ≡ n → ⊥) → nat_eq m n ≡ false
-unequal m n f = at (nat_eq m n) refl
-  where
-    at : (b : Bool) → nat_eq m n ≡ b → nat_eq m n ≡ false
-    at true e = absurd (f (nat_eq-is m n e))
-    at false e = e
-
 pair_eq : (x y p q : ℕ) → p < 2 → q < 2 → nat_eq (x * 2 + p) (y * 2 + q) ≡ (nat_eq p q && nat_eq x y)
 pair_eq x y p q l m = at (nat_eq p q) (nat_eq x y) refl refl
   where
     at : (b c : Bool) → nat_eq p q ≡ b → nat_eq x y ≡ c → nat_eq (x * 2 + p) (y * 2 + q) ≡ (b && c)
-    at true true e f = let g = nat_eq-is p q e in let h = nat_eq-is x y f in eq_of _ _ (omega (arith, g, h))
-    at true false e f = unequal (x * 2 + p) (y * 2 + q) (λ g. let h : x ≡ y = omega (arith, g, nat_eq-is p q e) in both_ways (nat_eq x y) (eq_of x y h) f)
-    at false c e f = unequal (x * 2 + p) (y * 2 + q) (λ g. let h : p ≡ q = omega (arith, g, l, m) in both_ways (nat_eq p q) (eq_of p q h) e)
+    at true true e f = let g = nat_eq-is p q e in let h = nat_eq-is x y f in eq-eqb _ _ (omega (arith, g, h))
+    at true false e f = ne_eqb (x * 2 + p) (y * 2 + q) (λ g. let h : x ≡ y = omega (arith, g, nat_eq-is p q e) in not_both (nat_eq x y) (eq-eqb x y h) f)
+    at false c e f = ne_eqb (x * 2 + p) (y * 2 + q) (λ g. let h : p ≡ q = omega (arith, g, l, m) in not_both (nat_eq p q) (eq-eqb p q h) e)
 
 pub agree_tells : (b : Tree) (atoms : List Tree) (k j : ℕ) → agree b atoms k j ≡ nat_eq (bit_and k (kept_bits b atoms)) (bit_and j (kept_bits b atoms))
 agree_tells b [] k j = sym ((λ i. nat_eq (and_none k i) (and_none j i)))
@@ -252,7 +244,7 @@ get_set xs i c b l = at (nat_eq c i) refl
   where
     at : (s : Bool) → nat_eq c i ≡ s → get_or (slice_set xs i b) c false ≡ (if s then b else get_or xs c false)
     at true e = get_same xs i c b (nat_eq-is c i e) l
-    at false e = get_other xs i c b (λ q. both_ways (nat_eq c i) (eq_of c i q) e)
+    at false e = get_other xs i c b (λ q. not_both (nat_eq c i) (eq-eqb c i q) e)
 
 holds_cut : (table : List Bool) (kept c i : ℕ) → i < length table
     → holds_where kept c i (drop i table) ≡ ((get_or table i false || not (nat_eq c (bit_and i kept))) && holds_where kept c (i + 1) (drop (i + 1) table))
@@ -305,20 +297,12 @@ pub record MarkedTo (table : List Bool) (atoms : List Tree) (p : Part) (old new 
 pub marked_start : (table : List Bool) (atoms : List Tree) (p : Part) (old : List Bool) → MarkedTo table atoms p old old 0
 marked_start table atoms p old = record { length_is = refl; done = λ k l m. absurd (omega arith); open_ = λ k l. refl }
 
-or_no : (b : Bool) → b ≡ (b || false)
-or_no true = refl
-or_no false = refl
-
-or_yes : (b : Bool) → true ≡ (b || true)
-or_yes true = refl
-or_yes false = refl
-
 pub marked_skip : (table : List Bool) (atoms : List Tree) (p : Part) (old cur : List Bool) (i : ℕ) → shows_at table atoms i p ≡ false → MarkedTo table atoms p old cur i
     → MarkedTo table atoms p old cur (i + 1)
 marked_skip table atoms p old cur i s h = record {
   length_is = h.length_is;
   done = λ k l m. elim (here_or_before k i l) [
-    | inl e ↦ h.open_ k (omega (arith, e)) ∙ or_no (get_or old k false) ∙ ap (λ b. get_or old k false || b) (sym (ap (λ n. shows_at table atoms n p) e ∙ s))
+    | inl e ↦ h.open_ k (omega (arith, e)) ∙ sym (or-false (get_or old k false)) ∙ ap (λ b. get_or old k false || b) (sym (ap (λ n. shows_at table atoms n p) e ∙ s))
     | inr q ↦ h.done k q m
   ];
   open_ = λ k l. h.open_ k (omega arith);
@@ -329,11 +313,11 @@ pub marked_next : (table : List Bool) (atoms : List Tree) (p : Part) (old cur ne
 marked_next table atoms p old cur new i l s m h = record {
   length_is = ap length m ∙ set_length cur i true ∙ h.length_is;
   done = λ k n o. elim (here_or_before k i n) [
-    | inl e ↦ read k ∙ ap (λ (b : Bool). if b then true else get_or cur k false) (eq_of k i e) ∙ or_yes (get_or old k false)
+    | inl e ↦ read k ∙ ap (λ (b : Bool). if b then true else get_or cur k false) (eq-eqb k i e) ∙ sym (or-true (get_or old k false))
         ∙ ap (λ b. get_or old k false || b) (sym (ap (λ n. shows_at table atoms n p) e ∙ s))
-    | inr q ↦ read k ∙ ap (λ (b : Bool). if b then true else get_or cur k false) (unequal k i (λ e. absurd (omega (arith, e, q)))) ∙ h.done k q o
+    | inr q ↦ read k ∙ ap (λ (b : Bool). if b then true else get_or cur k false) (ne_eqb k i (λ e. absurd (omega (arith, e, q)))) ∙ h.done k q o
   ];
-  open_ = λ k n. read k ∙ ap (λ (b : Bool). if b then true else get_or cur k false) (unequal k i (λ e. absurd (omega (arith, e, n)))) ∙ h.open_ k (omega arith);
+  open_ = λ k n. read k ∙ ap (λ (b : Bool). if b then true else get_or cur k false) (ne_eqb k i (λ e. absurd (omega (arith, e, n)))) ∙ h.open_ k (omega arith);
 }
   where
     read : (k : ℕ) → get_or new k false ≡ (if nat_eq k i then true else get_or cur k false)
@@ -349,24 +333,15 @@ pub record Marking (table : List Bool) (atoms : List Tree) (parts left : List Pa
   pub length_is : length shown ≡ length table
   pub each : (k : ℕ) → k < length table → (get_or shown k false || list_any (shows_at table atoms k) left) ≡ list_any (shows_at table atoms k) parts
 
-get_none : (n c : ℕ) → get_or (replicate n false) c false ≡ false
-get_none zero c = refl
-get_none (suc n) zero = refl
-get_none (suc n) (suc c) = get_none n c
-
 pub marking_start : (table : List Bool) (atoms : List Tree) (parts : List Part) (shown : List Bool) → shown ≡ replicate (length table) false → Marking table atoms parts parts shown
 marking_start table atoms parts shown e = record {
   length_is = ap length e ∙ length-replicate (length table) false;
-  each = λ k l. ap (λ b. b || list_any (shows_at table atoms k) parts) (ap (λ xs. get_or xs k false) e ∙ get_none (length table) k);
+  each = λ k l. ap (λ b. b || list_any (shows_at table atoms k) parts) (ap (λ xs. get_or xs k false) e ∙ no_flag (length table) k);
 }
 
 take_whole : (xs : List Part) → take (length xs) xs ≡ xs
 take_whole [] = refl
 take_whole (x ∷ xs) = ap (λ r. x ∷ r) (take_whole xs)
-
-or_over : (a b c : Bool) → ((a || b) || c) ≡ (a || (b || c))
-or_over true b c = refl
-or_over false b c = refl
 
 pub marking_next : (table : List Bool) (atoms : List Tree) (parts left : List Part) (shown more : List Bool) (d : Part) → Marking table atoms parts left shown → 1 ≤ length left
     → AddsShown table atoms (get_or left 0 d) shown more → Marking table atoms parts (take (length left - 1) (drop 1 left)) more
@@ -375,10 +350,10 @@ marking_next table atoms parts (p ∷ left) shown more d h l a =
     let n : length (p ∷ left) - 1 ≡ length left = omega arith in
     subst (λ (ps : List Part). Marking table atoms parts ps more) (sym (ap (λ m. take m left) n ∙ take_whole left)) (record {
       length_is = a.length_is ∙ h.length_is;
-      each = λ k m. ap (λ b. b || list_any (shows_at table atoms k) left) (a.each k m) ∙ or_over (get_or shown k false) (shows_at table atoms k p) (list_any (shows_at table atoms k) left)
+      each = λ k m. ap (λ b. b || list_any (shows_at table atoms k) left) (a.each k m) ∙ or_assoc (get_or shown k false) (shows_at table atoms k p) (list_any (shows_at table atoms k) left)
           ∙ h.each k m;
     })
 
 pub marking_end : (table : List Bool) (atoms : List Tree) (parts left : List Part) (shown : List Bool) → length left ≡ 0 → Marking table atoms parts left shown → AreMarks table atoms parts shown
-marking_end table atoms parts [] shown e h = record { length_is = h.length_is; each = λ k l. or_no (get_or shown k false) ∙ h.each k l }
+marking_end table atoms parts [] shown e h = record { length_is = h.length_is; each = λ k l. sym (or-false (get_or shown k false)) ∙ h.each k l }
 marking_end table atoms parts (p ∷ left) shown e h = absurd (omega arith)

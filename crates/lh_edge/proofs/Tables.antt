@@ -1,7 +1,9 @@
 -- What holds of the valuations of the atoms holds of all functions that give bits to terms.
-use Rattle.std.proofs.Common.{◌≡◌, Bool, true, false, not, ◌&&◌, ◌||◌, if◌then◌else◌, List, [], ◌∷◌, ◌++◌, refl, sym, ap, ◌∙◌, inl, inr}
+use Rattle.std.proofs.Common.{◌≡◌, Bool, true, false, not, ◌&&◌, if◌then◌else◌, List, [], ◌∷◌, ◌++◌, refl, sym, ap, ◌∙◌, inl, inr}
 use Rattle.std.specs.List.{list_any, list_all, filter}
 use Rattle.std.proofs.lemmas.List.Folds.{list_all-append}
+use Rattle.std.specs.Cmp.{first_so, second_so}
+use Rattle.std.proofs.lemmas.Bool.{and_from, or_cases, or_left, or_right, not-true, cases_Bool, or_parts}
 use Rattle.lh_term.specs.declared.part.Part.{Part}
 use Rattle.lh_term.specs.Tree.{Tree, TreeRow, constant, past_of, now_of, operation, choice_of, no_trees, more_trees}
 use Rattle.lh_term.specs.Make.{is_bit_value}
@@ -10,7 +12,8 @@ use Rattle.lh_term.specs.Same.{same_part, same_part-is}
 use Rattle.lh_edge.specs.Atoms.{contains_past, edge_part, is_one_bit, is_connective, subterms, subterms_in, presents, has, atoms_of}
 use Rattle.lh_edge.specs.Valuations.{connected, holds, bits_of, with_bit, changed}
 use Rattle.lh_edge.specs.Shown.{can_show, showing_parts, is_other_past, shows, is_shown, is_edge_shown, Shows, IsEdgeShown}
-use Rattle.lh_edge.proofs.Bools.{and_left, and_right, and_both, or_cases, or_left, or_right, is_not, true_or, both_ways, differ_is, is_differ, has_append, has_left, has_right, filter_has, not_in_filter, has_self, has_once}
+use Rattle.lh_edge.proofs.Bools.{differ_is, is_differ, has_append, has_left, has_right, filter_has, not_in_filter, has_self, has_once}
+use Rattle.lh_types.proofs.Tests.{not_both}
 
 -- ---- the bit of a term is a matter of its atoms
 
@@ -60,10 +63,6 @@ with_own a b u t e = ap (λ c. if c then b else u t) e
 with_other : (a : Tree) (b : Bool) (u : Tree → Bool) (t : Tree) → same_tree a t ≡ false → with_bit a b u t ≡ u t
 with_other a b u t e = ap (λ c. if c then b else u t) e
 
-neither : (a b : Bool) → (a || b) ≡ false → (a ≡ false) × (b ≡ false)
-neither true b e = cc
-neither false b e = (refl, e)
-
 -- a valuation that passes, is as u but for some atoms, and there as v
 pub record Picked (P : (Tree → Bool) → Bool) (atoms : List Tree) (u v : Tree → Bool) : Type 0 where
   pub at : Tree → Bool
@@ -75,38 +74,35 @@ pick_more : (P : (Tree → Bool) → Bool) (a : Tree) (more : List Tree) (u v : 
 pick_more P a more u v b e r = record {
   at = r.at;
   passes = r.passes;
-  on = λ t h. elim (true_or (has more t)) [
+  on = λ t h. elim (cases_Bool (has more t)) [
     | inl k ↦ r.on t k
     | inr k ↦ elim (or_cases (same_tree a t) (has more t) h) [
       | inl s ↦ r.off t k ∙ with_own a b u t s ∙ sym e ∙ ap v (same_tree-is a t s)
-      | inr m ↦ absurd (both_ways (has more t) m k)
+      | inr m ↦ absurd (not_both (has more t) m k)
     ]
   ];
-  off = λ t h. let n = neither (same_tree a t) (has more t) h in r.off t n.1 ∙ with_other a b u t n.0;
+  off = λ t h. let n = or_parts (same_tree a t) (has more t) h in r.off t n.1 ∙ with_other a b u t n.0;
 }
 
 pub pick : (P : (Tree → Bool) → Bool) (atoms : List Tree) (u v : Tree → Bool) → list_all P (changed atoms u) ≡ true → Picked P atoms u v
-pick P [] u v h = record { at = u; passes = and_left (P u) true h; on = λ t e. cc; off = λ t e. refl }
+pick P [] u v h = record { at = u; passes = first_so (P u) true h; on = λ t e. cc; off = λ t e. refl }
 pick P (a ∷ more) u v h =
     let both : (list_all P (changed more (with_bit a false u)) && list_all P (changed more (with_bit a true u)))
     ≡ true = sym (list_all-append P (changed more (with_bit a false u)) (changed more (with_bit a true u))) ∙ h in
-    elim (true_or (v a)) [
-      | inl e ↦ pick_more P a more u v true e (pick P more (with_bit a true u) v (and_right _ _ both))
-      | inr e ↦ pick_more P a more u v false e (pick P more (with_bit a false u) v (and_left _ _ both))
+    elim (cases_Bool (v a)) [
+      | inl e ↦ pick_more P a more u v true e (pick P more (with_bit a true u) v (second_so _ _ both))
+      | inr e ↦ pick_more P a more u v false e (pick P more (with_bit a false u) v (first_so _ _ both))
     ]
-
-either_false : (a b : Bool) → a ≡ false → b ≡ false → (a || b) ≡ false
-either_false a b p q = rw (p, q) refl
 
 pub all_changed : (P : (Tree → Bool) → Bool) (atoms : List Tree) (u : Tree → Bool) → ((w : Tree → Bool) → ((t : Tree) → has atoms t ≡ false → w t ≡ u t) → P w ≡ true)
     → list_all P (changed atoms u) ≡ true
-all_changed P [] u h = and_both (P u) true (h u (λ t e. refl)) refl
+all_changed P [] u h = and_from (P u) true (h u (λ t e. refl)) refl
 all_changed P (a ∷ more) u h =
     list_all-append P (changed more (with_bit a false u)) (changed more (with_bit a true u))
-    ∙ and_both _ _ (all_changed P more (with_bit a false u) (from false)) (all_changed P more (with_bit a true u) (from true))
+    ∙ and_from _ _ (all_changed P more (with_bit a false u) (from false)) (all_changed P more (with_bit a true u) (from true))
   where
     from : (b : Bool) → (w : Tree → Bool) → ((t : Tree) → has more t ≡ false → w t ≡ with_bit a b u t) → P w ≡ true
-    from b w k = h w (λ t e. let n = neither (same_tree a t) (has more t) e in k t n.1 ∙ with_other a b u t n.0)
+    from b w k = h w (λ t e. let n = or_parts (same_tree a t) (has more t) e in k t n.1 ∙ with_other a b u t n.0)
 
 -- ---- the parts that can show
 
@@ -194,7 +190,7 @@ module _ (waited : List Part) (edge : Tree) where
       let same : holds w.at edge ≡ true = holds_same w.at v edge (λ x k. w.on x (subterm_atom edge x k)) ∙ h in
       let any : list_any (shows edge (atoms_of edge) w.at) (showing_parts waited (atoms_of edge)) ≡ true =
       elim (or_cases (not (holds w.at edge)) (list_any (shows edge (atoms_of edge) w.at) (showing_parts waited (atoms_of edge))) w.passes) [
-        | inl k ↦ absurd (both_ways (holds w.at edge) same (is_not (holds w.at edge) k))
+        | inl k ↦ absurd (not_both (holds w.at edge) same (not-true (holds w.at edge) k))
         | inr k ↦ k
       ] in
       let s = shown_by waited (atoms_of edge) (shows edge (atoms_of edge) w.at) any in
@@ -203,10 +199,10 @@ module _ (waited : List Part) (edge : Tree) where
         record {
           can = s.can;
           atom = s.atom;
-          differs = λ e. differ_is (w.at (past_of p)) (w.at (now_of p)) (and_left _ _ s.passes) (w.on (past_of p) s.atom ∙ e ∙ sym (w.on (now_of p) (now_atom edge p s.atom)));
+          differs = λ e. differ_is (w.at (past_of p)) (w.at (now_of p)) (first_so _ _ s.passes) (w.on (past_of p) s.atom ∙ e ∙ sym (w.on (now_of p) (now_atom edge p s.atom)));
           stays = λ x k.
-              let y = pick (λ (u : Tree → Bool). holds u edge) (filter (is_other_past p) (atoms_of edge)) w.at x (and_right _ _ s.passes) in
-              sym (holds_same y.at x edge (λ t m. elim (true_or (is_other_past p t)) [
+              let y = pick (λ (u : Tree → Bool). holds u edge) (filter (is_other_past p) (atoms_of edge)) w.at x (second_so _ _ s.passes) in
+              sym (holds_same y.at x edge (λ t m. elim (cases_Bool (is_other_past p t)) [
                 | inl o ↦ y.on t (filter_has (is_other_past p) (atoms_of edge) t (subterm_atom edge t m) o)
                 | inr o ↦ y.off t (not_in_filter (is_other_past p) (atoms_of edge) t o) ∙ w.on t (subterm_atom edge t m) ∙ sym (k t o)
               ])) ∙ y.passes;
@@ -214,12 +210,12 @@ module _ (waited : List Part) (edge : Tree) where
       )
 
   all_shown : ((v : Tree → Bool) → holds v edge ≡ true → (p : Part) × Shows waited edge v p) → (v : Tree → Bool) → is_shown (showing_parts waited (atoms_of edge)) edge (atoms_of edge) v ≡ true
-  all_shown h v = elim (true_or (holds v edge)) [
+  all_shown h v = elim (cases_Bool (holds v edge)) [
     | inl k ↦
         let s = h v k in
         let p : Part = s.0 in
         or_right (not (holds v edge)) _ (is_showing waited (atoms_of edge) (shows edge (atoms_of edge) v) p s.1.can s.1.atom
-        (and_both _ _ (is_differ (v (past_of p)) (v (now_of p)) s.1.differs)
+        (and_from _ _ (is_differ (v (past_of p)) (v (now_of p)) s.1.differs)
         (all_changed (λ (u : Tree → Bool). holds u edge) (filter (is_other_past p) (atoms_of edge)) v
         (λ u m. s.1.stays u (λ t o. m t (not_in_filter (is_other_past p) (atoms_of edge) t o))))))
     | inr k ↦ or_left (not (holds v edge)) _ (ap not k)
@@ -228,14 +224,14 @@ module _ (waited : List Part) (edge : Tree) where
 pub to_all : (waited : List Part) (c : Tree) → is_edge_shown waited c ≡ true → IsEdgeShown waited c
 unfolding is_edge_shown
 to_all waited c h = record {
-  past = and_left (contains_past c) _ h;
+  past = first_so (contains_past c) _ h;
   each = λ v k. shows_all waited (edge_part c) v
-      (pick (is_shown (showing_parts waited (atoms_of (edge_part c))) (edge_part c) (atoms_of (edge_part c))) (atoms_of (edge_part c)) (λ t. false) v (and_right (contains_past c) _ h)) k;
+      (pick (is_shown (showing_parts waited (atoms_of (edge_part c))) (edge_part c) (atoms_of (edge_part c))) (atoms_of (edge_part c)) (λ t. false) v (second_so (contains_past c) _ h)) k;
 }
 
 pub from_all : (waited : List Part) (c : Tree) → IsEdgeShown waited c → is_edge_shown waited c ≡ true
 unfolding is_edge_shown
 from_all waited c h =
-    and_both (contains_past c) _ h.past
+    and_from (contains_past c) _ h.past
     (all_changed (is_shown (showing_parts waited (atoms_of (edge_part c))) (edge_part c) (atoms_of (edge_part c))) (atoms_of (edge_part c)) (λ t. false)
     (λ w k. all_shown waited (edge_part c) h.each w))

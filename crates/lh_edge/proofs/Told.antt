@@ -1,5 +1,6 @@
 -- What is told of terms, from the lowest id upwards.
 use Rattle.std.proofs.Common.{◌≡◌, ℕ, zero, suc, ◌-◌, ◌<◌, ◌≤◌, inl, inr, Bool, true, false, nat_eq, if◌then◌else◌, List, [], ◌∷◌, length, drop, get_or, refl, ap, sym, ◌∙◌, subst, arith, drop-cons}
+use Rattle.std.proofs.lemmas.Bool.{or_cases}
 use Rattle.lh_term.specs.declared.term.TermId.{TermId}
 use Rattle.lh_term.specs.declared.term.Term.{Term}
 use Rattle.lh_term.specs.declared.term.Term.TheVariants.{Op as Applied, Choice}
@@ -11,16 +12,13 @@ use Rattle.lh_term.specs.Same.{nat_eq-is, nat_eq-refl}
 use Rattle.lh_term.specs.Arena.{tree_at, trees}
 use Rattle.lh_term.proofs.Reaching.{is_behind}
 use Rattle.lh_edge.specs.Reached.{Tells, TellsNext}
-use Rattle.lh_edge.proofs.Bools.{or_cases}
-
-at_number : (ts : List Tree) (x : TermId) (i : ℕ) → i ≡ x.0 → tree_at ts (record { 0 = i }) ≡ tree_at ts x
-at_number ts x i e = ap (λ n. tree_at ts (record { 0 = n })) e
+use Rattle.lh_edge.proofs.Joined.{at_place}
 
 module _ (ns : List Node) (p : Tree → Bool) where
   pub tells_on : (f : ℕ → Bool) (xs : List TermId) (i : ℕ) → Tells ns p f xs → is_on xs i ≡ true → f i ≡ p (tree_at (trees ns) (record { 0 = i }))
   tells_on f [] i h o = cc
   tells_on f (x ∷ xs) i h o = elim (or_cases (nat_eq i x.0) (is_on xs i) o) [
-    | inl e ↦ let q : i ≡ x.0 = nat_eq-is i x.0 e in ap f q ∙ h.0 ∙ ap p (sym (at_number (trees ns) x i q))
+    | inl e ↦ let q : i ≡ x.0 = nat_eq-is i x.0 e in ap f q ∙ h.0 ∙ ap p (sym (at_place (trees ns) x i q))
     | inr r ↦ tells_on f xs i h.1 r
   ]
 
@@ -34,7 +32,7 @@ module _ (ns : List Node) (p : Tree → Bool) where
   tells_kept f g x m (y ∷ xs) t = (at (nat_eq x.0 y.0) refl, tells_kept f g x m xs t.1)
     where
       at : (b : Bool) → nat_eq x.0 y.0 ≡ b → g y.0 ≡ p (tree_at (trees ns) y)
-      at true e = m y.0 ∙ ap (λ (b : Bool). if b then p (tree_at (trees ns) x) else f y.0) e ∙ ap p (at_number (trees ns) y x.0 (nat_eq-is x.0 y.0 e))
+      at true e = m y.0 ∙ ap (λ (b : Bool). if b then p (tree_at (trees ns) x) else f y.0) e ∙ ap p (at_place (trees ns) y x.0 (nat_eq-is x.0 y.0 e))
       at false e = m y.0 ∙ ap (λ (b : Bool). if b then p (tree_at (trees ns) x) else f y.0) e ∙ t.0
 
   own : (f g : ℕ → Bool) (x : TermId) → ((q : ℕ) → g q ≡ (if nat_eq x.0 q then p (tree_at (trees ns) x) else f q)) → g x.0 ≡ p (tree_at (trees ns) x)

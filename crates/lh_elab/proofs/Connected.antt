@@ -9,15 +9,15 @@ use Rattle.lh_unit.specs.Naming.{kind_text}
 use Rattle.lh_unit.specs.Arena.{Arena, IsArena, contents, unit_count, kind_at, args_at, naming, unit_name_at, unit_text_at}
 use Rattle.lh_unit.specs.Hierarchy.{SignalText, lines_of, zeros, Entry}
 use Rattle.lh_unit.specs.Design as text
-use Rattle.lh_unit.specs.Design.{signal_ranges, top_signals, carried_type, arg_ranges}
+use Rattle.lh_unit.specs.Design.{signal_ranges, top_signals, carried_type}
 use Rattle.lh_unit.specs.WellFormed.{IsWellFormed}
 use Rattle.lh_unit.specs.Within.{Each}
-use Rattle.lh_unit.proofs.Lists.{Each-append}
+use Rattle.lh_unit.proofs.Lists.{Each-append, Each-of-map}
 use Rattle.lh_design.specs.declared.Design.{Design}
 use Rattle.lh_design.specs.Texts.{design_text}
 use Rattle.lh_sound.specs.Ranges.{RangesFit, arg_types, signal_types, InstanceFits}
 use Rattle.lh_sound.specs.Units.{IsPort}
-use Rattle.lh_formed.proofs.EachItem.{each-split, each-of-map}
+use Rattle.lh_formed.proofs.EachItem.{each-split}
 use Rattle.lh_meaning.proofs.PathsLaw.{designs_have_parents_before}
 use Rattle.lh_plan.specs.declared.plan.PlanChild.{PlanChild}
 use Rattle.lh_plan.specs.declared.plan.Plan.{Plan}
@@ -129,7 +129,7 @@ module _ (a : Arena) (o : IsArena a) (g : IsWellFormed (contents a)) (table : Li
       let wide : AreRangesOf here next.args sigs = record { of_args = fits-here.wide; of_signals = subst (AreWide sigs) (ap (map (λ (s : SignalText). s.ty)) k.signals) (ranges-wide mid.lo ss) } in
       let all : Each (ChildFits a o g width) (map (child_of a next.args sigs) p.children.items) =
       subst (Each (ChildFits a o g width)) (sym (k.children next.args sigs wide)) (all-children-fit a o g next.unit.0 fits-here.unit x.kind next.args sigs width (instance-fits x)) in
-      all-are a o g width (length mid.instances.items) next.args sigs next.room p.children.items k.within (each-of-map (ChildFits a o g width) (child_of a next.args sigs) p.children.items all)
+      all-are a o g width (length mid.instances.items) next.args sigs next.room p.children.items k.within (Each-of-map (ChildFits a o g width) (child_of a next.args sigs) p.children.items all)
 
   -- one more instance
   pub still-connected : Connected a old → Connected a new

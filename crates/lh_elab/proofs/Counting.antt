@@ -1,5 +1,5 @@
 -- Counts and cycles over names are those over ids.
-use Rattle.std.proofs.Common.{◌≡◌, ℕ, zero, suc, ◌+◌, ◌<◌, ◌≤◌, inl, inr, min, Bool, true, false, ◌||◌, nat_eq, List, [], ◌∷◌, length, map, sum_by, Option, Some, None, is_some, refl, ap, sym, ◌∙◌, subst, arith}
+use Rattle.std.proofs.Common.{◌≡◌, ℕ, zero, suc, ◌+◌, ◌<◌, ◌≤◌, inl, inr, min, Bool, true, false, ◌||◌, nat_eq, List, [], ◌∷◌, length, map, sum_by, Option, Some, None, is_some, refl, ap, sym, ◌∙◌, subst}
 use Rattle.std.specs.Option.{option_map}
 use Rattle.std.proofs.lemmas.Bool.{cases_lt}
 use Rattle.std.proofs.lemmas.List.{get_or_past}
@@ -19,6 +19,7 @@ use Rattle.lh_unit.specs.Design.{hierarchy_in, targets, is_one_of, first_some, c
 use Rattle.lh_unit.specs.declared.inst.UnitKind.{UnitKind}
 use Rattle.lh_unit.proofs.ById.{same_unit-by_id}
 use Rattle.lh_formed.specs.Graphs.{met_or, is_open, IsIn}
+use Rattle.lh_formed.proofs.Capped.{both_capped}
 use Rattle.lh_elab.specs.declared.graph.HierarchyNode.{HierarchyNode}
 use Rattle.lh_elab.specs.Graph.{max_counted, no_node, node_at, node_by, targets_at, IsGraph}
 use Rattle.lh_descent.specs.Measures.{cycle_in, NodesWithin, HasBusy}
@@ -53,9 +54,6 @@ sum-named n name F G [] f h = refl
 sum-named n name F G (t ∷ ts) f h =
     sum_by-cons F (name t.0) (map (λ (x : UnitId). name x.0) ts) ∙ ap (λ b. b + sum_by F (map (λ (x : UnitId). name x.0) ts)) (f t h.0) ∙ ap (λ b. G t + b) (sum-named n name F G ts f h.1)
     ∙ sym (sum_by-cons G t ts)
-
-both_capped : (a b c d e : ℕ) → min a e ≡ min c e → min b e ≡ min d e → min (a + b) e ≡ min (c + d) e
-both_capped a b c d e p q = omega arith
 
 capped-named : (n e : ℕ) (name : ℕ → UnitName) (F : UnitName → ℕ) (G : UnitId → ℕ) (ts : List UnitId) → ((t : UnitId) → t.0 < n → min (F (name t.0)) e ≡ min (G t) e)
     → Each (λ (t : UnitId). t.0 < n) ts → min (sum_by F (map (λ (t : UnitId). name t.0) ts)) e ≡ min (sum_by G ts) e

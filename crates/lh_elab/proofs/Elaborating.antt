@@ -1,7 +1,6 @@
 -- Where elaboration starts and ends, and what it refuses.
-use Rattle.std.proofs.Common.{◌≡◌, ℕ, ◌+◌, ◌<◌, ◌≤◌, Bool, true, false, nat_lt, if◌then◌else◌, List, [], ◌∷◌, length, map, take, Option, Some, None, IsSome, is_some, Ok, Err, refl, ap, sym, ◌∙◌, subst, arith}
+use Rattle.std.proofs.Common.{◌≡◌, ℕ, ◌+◌, ◌<◌, ◌≤◌, Bool, true, false, nat_lt, if◌then◌else◌, List, [], ◌∷◌, length, map, take, Option, Some, None, IsSome, is_some, Ok, Err, refl, ap, sym, ◌∙◌, subst, arith, ltb-false}
 use Rattle.std.specs.Option.{option_map}
-use Rattle.std.proofs.lemmas.Grind.{common_steps}
 use Rattle.std.proofs.lemmas.List.{take_all, length-replicate, length-append}
 use Rattle.std.proofs.lemmas.List.Sums.{sum_by-cons}
 use Rattle.lh_types.specs.Types.{IsData, bit_count}
@@ -16,7 +15,7 @@ use Rattle.lh_unit.specs.Naming.{kind_text}
 use Rattle.lh_unit.specs.Arena.{Arena, IsArena, contents, kind_at, unit_count, unit_name_at, unit_text_at}
 use Rattle.lh_unit.specs.Hierarchy.{SignalText, zeros, Hierarchy, hierarchy_by, hierarchy_of, Entry, hierarchies, hierarchy_named}
 use Rattle.lh_unit.specs.Design as design
-use Rattle.lh_unit.specs.Design.{Design, Refusal, Elaborated, refused, built, hierarchy_in, arg_bits, carried_type, top_signals, only_signals, numbered, initial_bits, signal_ranges, visit, visited, design_of, refusal_by, refusal_of, cycle_from, nests_deeper, instance_count, bits_below, elaborated, elab_named, elab_of, max_nesting, max_instances, max_bits}
+use Rattle.lh_unit.specs.Design.{Design, Refusal, Elaborated, built, hierarchy_in, arg_bits, carried_type, top_signals, only_signals, numbered, initial_bits, signal_ranges, visit, visited, design_of, refusal_by, refusal_of, cycle_from, nests_deeper, instance_count, bits_below, elaborated, elab_named, max_nesting, max_instances, max_bits}
 use Rattle.lh_unit.specs.Within.{Each}
 use Rattle.lh_sound.specs.Ranges.{arg_types}
 use Rattle.lh_sound.specs.Units.{IsPort, HasPorts}
@@ -66,9 +65,6 @@ record Kept (instances bits : ℕ) : Type 0 where
   pub instances_kept : instances ≤ 65536
   pub bits_kept : bits ≤ 16777216
 
-le_from : (n x : ℕ) → nat_lt n x ≡ false → x ≤ n
-le_from n x e = grind (arith, common_steps)
-
 none-by : (f : Bool) (c : Option UnitName) (d i b : Bool) → refusal_by f c d i b ≡ None → (i ≡ false) × (b ≡ false)
 none-by true c d i b e = absurd cc
 none-by false (Some n) d i b e = absurd cc
@@ -82,7 +78,7 @@ unfolding refusal_of
 kept table top h e =
     let x = none-by h.function (cycle_from (length table) table [] top) (nests_deeper max_nesting table top) (nat_lt max_instances (instance_count max_nesting table top))
     (nat_lt max_bits (arg_bits h.args + bits_below max_nesting table top)) e in
-    record { instances_kept = le_from max_instances (instance_count max_nesting table top) x.0; bits_kept = le_from max_bits (arg_bits h.args + bits_below max_nesting table top) x.1 }
+    record { instances_kept = ltb-false max_instances (instance_count max_nesting table top) x.0; bits_kept = ltb-false max_bits (arg_bits h.args + bits_below max_nesting table top) x.1 }
 
 -- the arguments of a top that is no function are signals
 pub top-ports : (a : Arena) (top : ℕ) → refusal_at a top ≡ None → (xs : List ArgText) → HasPorts (kind_text (kind_at a top)) xs → Each IsPort xs

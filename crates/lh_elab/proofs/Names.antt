@@ -20,12 +20,13 @@ use Rattle.lh_unit.specs.Table.{Table, entity_block, line_at, insts_at}
 use Rattle.lh_unit.specs.Arena.{Arena, IsArena, contents, naming, kind_at, table_at, unit_count, unit_name_at, unit_text_at}
 use Rattle.lh_unit.specs.ById.{inst_line_text}
 use Rattle.lh_unit.specs.Held.{Env, datum_at}
-use Rattle.lh_unit.specs.Hierarchy.{lines_of, zeros, type_or_void, SignalText, signals_of, Child, children_of, static_held, Hierarchy, hierarchy_by, hierarchy_of, Entry, hierarchies, hierarchy_named}
+use Rattle.lh_unit.specs.Hierarchy.{lines_of, zeros, type_or_void, SignalText, signals_of, Child, children_of, static_held, Hierarchy, hierarchy_by, hierarchy_of, hierarchies, hierarchy_named}
 use Rattle.lh_unit.specs.Design.{hierarchy_or, hierarchy_in, targets}
 use Rattle.lh_unit.proofs.ById.{unit_named-by_id}
 use Rattle.lh_elab.specs.declared.graph.HierarchyNode.{HierarchyNode}
 use Rattle.lh_elab.specs.Graph.{max_counted, no_node, node_after, node_from, node_by, node_of}
 use Rattle.lh_elab.proofs.Reading.{entity-blocks}
+use Rattle.lh_formed.proofs.Capped.{min-zero}
 
 -- what is read of the unit of a name
 named-if : (c : Bool) (x : UnitText) (h : Option Hierarchy) (o : Option UnitText) → h ≡ option_map hierarchy_of o
@@ -104,11 +105,8 @@ bits-after n (inst.Wait to after signals) more = refl
 bits-after n inst.Halt more = refl
 bits-after n (inst.Ret x) more = refl
 
-plus_zero : (b e : ℕ) → min b e ≡ min (b + 0) e
-plus_zero b e = omega arith
-
 bits-from : (t : Table) (n : HierarchyNode) (is : List InstId) → min (node_from t n is).bits max_counted ≡ min (n.bits + sig_bits t is) max_counted
-bits-from t n [] = plus_zero n.bits max_counted
+bits-from t n [] = min-zero n.bits max_counted
 bits-from t n (i ∷ is) = bits-from t (node_after n (line_at t i.0).inst) is ∙ bits-after n (line_at t i.0).inst (sig_bits t is)
 
 -- the same, of the text of an entity

@@ -23,6 +23,7 @@ use Rattle.lh_unit.specs.Typing.{value_type}
 use Rattle.lh_unit.specs.WellFormed.{Site, sites, is_allowed, inputs_of, outputs_of, IsFaultless, IsWellFormed}
 use Rattle.lh_unit.specs.Within.{Each}
 use Rattle.lh_unit.proofs.ById.{unit_named-by_id}
+use Rattle.lh_unit.proofs.Lists.{Each-of-map}
 use Rattle.lh_spelled.specs.ItemLines.{item_line}
 use Rattle.lh_spelled.specs.Printable.{IsPrintable}
 use Rattle.lh_formed.specs.Calls.{ArgumentsAre, InstanceIsRight, NamedIsRight}
@@ -34,7 +35,7 @@ use Rattle.lh_eval.proofs.GivesFit.{part-held}
 use Rattle.lh_sound.specs.Ranges.{RangesFit, arg_types, type_if_signal, signal_types, InstanceFits}
 use Rattle.lh_sound.specs.Units.{IsPort, HasPorts, UnitIsSound}
 use Rattle.lh_sound.specs.Finding.{PartsFound}
-use Rattle.lh_formed.proofs.EachItem.{each-contained, each-split, each-of-map}
+use Rattle.lh_formed.proofs.EachItem.{each-contained, each-split}
 use Rattle.lh_formed.proofs.AtPlaces.{lines-from}
 use Rattle.lh_sound.proofs.Finding.{some-of}
 use Rattle.lh_sound.proofs.FindingElab.{parts-are-found}
@@ -57,7 +58,7 @@ told-in : (items more : List ItemText) → Each (SiteTold items) (sites more) �
 told-in items [] e = tt
 told-in items (unit_text u ∷ more) e =
     let r = each-split (SiteTold items) (map (site_in u) (places u)) (sites more) e in
-    (lines-from (LineTold items u) 1 true u.blocks (each-of-map (SiteTold items) (site_in u) (places u) r.0), told-in items more r.1)
+    (lines-from (LineTold items u) 1 true u.blocks (Each-of-map (SiteTold items) (site_in u) (places u) r.0), told-in items more r.1)
 told-in items (declare_text d ∷ more) e = (tt, told-in items more e)
 
 items-told : (items : List ItemText) → IsFaultless items → Each (ToldIn items) items

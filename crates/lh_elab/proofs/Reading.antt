@@ -3,10 +3,9 @@ use Rattle.std.proofs.Common.{◌≡◌, ℕ, ◌+◌, ◌<◌, inl, inr, List, 
 use Rattle.std.proofs.Math.Seq.{drop-cons}
 use Rattle.std.proofs.lemmas.List.{get_or_past, get_or_append_left, get_or_push, length-append}
 use Rattle.std.specs.List.{slice_get}
-use Rattle.std.proofs.lemmas.Option.{slice_get-get_or}
 use Rattle.std.proofs.lemmas.Bool.{cases_lt}
 use Rattle.lh_unit.specs.Within.{Each}
-use Rattle.lh_unit.specs.Table.{Table, FitsKind, entity_block, line_at, insts_at, no_line}
+use Rattle.lh_unit.specs.Table.{Table, FitsKind, entity_block, line_at, insts_at}
 use Rattle.lh_unit.specs.Arena.{Arena, IsArena, InstPlaced, table_at, kind_at, blocks_at, block_count, block_insts_at, inst_count, unit_count}
 use Rattle.lh_unit.specs.declared.inst.UnitId.{UnitId}
 use Rattle.lh_unit.specs.declared.inst.InstId.{InstId}
@@ -14,8 +13,8 @@ use Rattle.lh_unit.specs.declared.inst.UnitKind.{UnitKind}
 use Rattle.lh_unit.specs.declared.inst.UnitKind.TheVariants as kind
 use Rattle.lh_unit.specs.declared.inst.Inst.{Inst}
 use Rattle.lh_unit.specs.declared.inst.Inst.TheVariants as inst
-use Rattle.lh_unit.proofs.Lists.{Same, same, other, same_or, Each-append, Each-at}
-use Rattle.lh_unit.proofs.ModuleLaws.{block-within, block_insts-within}
+use Rattle.lh_unit.proofs.Lists.{Same, same, other, same_or, Each-append}
+use Rattle.lh_unit.proofs.ModuleLaws.{block-within, block_insts-within, line-placed}
 use Rattle.lh_elab.specs.declared.graph.HierarchyNode.{HierarchyNode}
 use Rattle.lh_elab.specs.Graph.{no_node, node_after, node_from, node_by, node_of, node_at, targets_at, IsGraph}
 use Rattle.lh_descent.specs.Measures.{NodesWithin}
@@ -33,9 +32,6 @@ entity-block a u o p e = block-within a u 0 entity_block o p (first_block a u (e
 
 pub entity-insts : (a : Arena) (u : ℕ) → IsArena a → u < unit_count a → kind_at a u ≡ Some kind.Entity → Each (λ (x : InstId). x.0 < inst_count a u) (block_insts_at a u 0)
 entity-insts a u o p e = block_insts-within a u 0 entity_block o p (first_block a u (entity-blocks a u o p e))
-
-pub each-at : (n i : ℕ) (d : InstId) (xs ys : List InstId) → i < length xs → xs ≡ ys → Each (λ (x : InstId). x.0 < n) ys → (get_or xs i d).0 < n
-each-at n i d xs ys l e h = Each-at (λ (x : InstId). x.0 < n) xs i d (subst (Each (λ (x : InstId). x.0 < n)) (sym e) h) l
 
 -- a graph of the first units
 pub record GraphTo (a : Arena) (n : ℕ) (g : List HierarchyNode) : Type 0 where
@@ -57,13 +53,6 @@ GraphTo-push a n g h x o e f = subst (GraphTo a (n + 1)) (sym e) record {
 
 pub GraphTo-all : (a : Arena) (n : ℕ) (g : List HierarchyNode) → n ≡ unit_count a → GraphTo a n g → IsGraph a g
 GraphTo-all a n g e o = record { long = o.long ∙ e; nodes = λ u l. o.nodes u (omega (arith, l, e)) }
-
--- each instruction is placed
-pub line-placed : (a : Arena) (u i : ℕ) → IsArena a → InstPlaced a u (line_at (table_at a u) i).inst
-line-placed a u i o = elim (cases_lt i (length (table_at a u).lines)) [
-  | inl l ↦ o.placed u i (line_at (table_at a u) i) (slice_get-get_or (table_at a u).lines i no_line l)
-  | inr l ↦ let e : line_at (table_at a u) i ≡ no_line = get_or_past (table_at a u).lines i no_line l in subst (λ x. InstPlaced a u x.inst) (sym e) tt
-]
 
 abbrev Inside : ℕ → List UnitId → Type 0
 Inside n ts = Each (λ (t : UnitId). t.0 < n) ts

@@ -1,5 +1,5 @@
 -- The refusals of the definition are those that the measures tell.
-use Rattle.std.proofs.Common.{◌≡◌, ℕ, suc, ◌+◌, ◌<◌, ◌≤◌, inl, inr, min, Bool, true, false, nat_lt, if◌then◌else◌, List, [], ◌∷◌, length, map, Option, Some, None, Result, Ok, Err, refl, ap, sym, ◌∙◌, subst, arith}
+use Rattle.std.proofs.Common.{◌≡◌, ℕ, suc, ◌+◌, ◌<◌, ◌≤◌, inl, inr, min, Bool, true, false, nat_lt, if◌then◌else◌, List, [], ◌∷◌, length, map, Option, Some, None, Result, Ok, Err, refl, ap, sym, ◌∙◌, subst, arith, ltb-false}
 use Rattle.std.specs.Option.{option_map}
 use Rattle.std.proofs.lemmas.Grind.{common_steps}
 use Rattle.std.proofs.lemmas.List.Sums.{sum_by-cons}
@@ -85,9 +85,6 @@ asked-is a top cycle deep count bits e q =
 lt_capped : (n e x y : ℕ) → e ≡ n + 1 → min x e ≡ y → nat_lt n x ≡ nat_lt n y
 lt_capped n e x y p q = grind (arith, common_steps)
 
-le_from : (n x : ℕ) → nat_lt n x ≡ false → x ≤ n
-le_from n x e = grind (arith, common_steps)
-
 sum_capped : (a b e y : ℕ) → min b e ≡ y → min (a + b) e ≡ min (min a e + y) e
 sum_capped a b e y q = omega arith
 
@@ -113,7 +110,7 @@ limits-third a m args bits true h e = ap (refusal_by false None false false)
 limits-third a m args bits false h e = (
   ap (refusal_by false None false false) (lt_capped 16777216 max_counted (args + bits) (min (min args max_counted + m.bits) max_counted) refl (sum_capped args bits max_counted m.bits h) ∙ e),
   below_end 16777216 max_counted (args + bits) (min (min args max_counted + m.bits) max_counted) refl (sum_capped args bits max_counted m.bits h)
-      (le_from 16777216 (min (min args max_counted + m.bits) max_counted) e),
+      (ltb-false 16777216 (min (min args max_counted + m.bits) max_counted) e),
 )
 
 limits-second : (a : Arena) (m : Measure) (args count bits : ℕ) (y : Bool) → min count instances_end ≡ m.instances → min bits max_counted ≡ m.bits → nat_lt 65536 m.instances ≡ y
@@ -137,7 +134,7 @@ limits-first a m args count bits deep false o e =
     (if nat_lt 65536 m.instances then Err fault.TooManyInstances else (if nat_lt 16777216 (min (min args max_counted + m.bits) max_counted) then Err fault.TooManyBits else Ok
     (min (min args max_counted + m.bits) max_counted))))
     (sym (o.deep_is ∙ e))
-    (limits-second a m args count bits (nat_lt 65536 m.instances) (o.count_is (le_from 64 m.depth e)) (o.bits_is (le_from 64 m.depth e)) refl)
+    (limits-second a m args count bits (nat_lt 65536 m.instances) (o.count_is (ltb-false 64 m.depth e)) (o.bits_is (ltb-false 64 m.depth e)) refl)
 
 -- so the answer is right
 answers-is : (a : Arena) (top bits : ℕ) (r : Option Refusal) (x : Result ℕ ElabFault) → refusal_at a top ≡ r → bits_at a top ≡ bits → Answers a r bits x → Refuses a top x

@@ -1,5 +1,5 @@
 -- The arguments of a unit: each is held under its own name, and no other name is held.
-use Rattle.std.proofs.Common.{◌≡◌, ℕ, zero, suc, Bool, true, false, if◌then◌else◌, List, [], ◌∷◌, ◌++◌, map, Some, None, slice_get, refl, ap, ◌∙◌, subst}
+use Rattle.std.proofs.Common.{◌≡◌, ℕ, zero, suc, Bool, true, false, if◌then◌else◌, List, [], ◌∷◌, ◌++◌, map, Some, slice_get, refl, ap, ◌∙◌, subst}
 use Rattle.lh_types.specs.Types.{TypeTree, bit_count}
 use Rattle.lh_types.specs.declared.part.Range.{Range}
 use Rattle.lh_unit.specs.Contents.{ArgText, args_define}
@@ -9,6 +9,7 @@ use Rattle.lh_unit.specs.Reads.{args_repeat}
 use Rattle.lh_unit.specs.Typing.{arg_named}
 use Rattle.std.proofs.lemmas.Bool.{or_parts}
 use Rattle.lh_names.proofs.NameLists.{same_name-is, same_name-refl}
+use Rattle.lh_rows.proofs.Heads.{define-append}
 
 -- no argument has the name of a later one
 abbrev pub AreApart : List ArgText → Type 0
@@ -23,20 +24,12 @@ defines-last n (x ∷ xs) a e = at (same_name x.name n) refl (defines-last n xs 
     at true q r = rw q refl
     at false q r = rw q r
 
-defines-more : (n : List ℕ) (xs ys : List ArgText) → args_define n xs ≡ true → args_define n (xs ++ ys) ≡ true
-defines-more n [] ys h = absurd cc
-defines-more n (x ∷ xs) ys h = at (same_name x.name n) refl (defines-more n xs ys)
-  where
-    at : (b : Bool) → same_name x.name n ≡ b → (args_define n xs ≡ true → args_define n (xs ++ ys) ≡ true) → args_define n ((x ∷ xs) ++ ys) ≡ true
-    at true q r = rw q refl
-    at false q r = rw q (r (rw q at h))
-
 -- a name of those before is none of those after
 not-again : (n : List ℕ) (seen xs : List ArgText) → args_define n seen ≡ true → args_repeat seen xs ≡ false → args_define n xs ≡ false
 not-again n seen [] h r = refl
 not-again n seen (b ∷ more) h r =
     let o = or_parts (args_define b.name seen) (args_repeat (seen ++ b ∷ []) more) r in
-    at (same_name b.name n) refl o.0 (not-again n (seen ++ b ∷ []) more (defines-more n seen (b ∷ []) h) o.1)
+    at (same_name b.name n) refl o.0 (not-again n (seen ++ b ∷ []) more (define-append n seen (b ∷ []) h) o.1)
   where
     at : (c : Bool) → same_name b.name n ≡ c → args_define b.name seen ≡ false → args_define n more ≡ false → args_define n (b ∷ more) ≡ false
     at true q o i = let e : args_define n seen ≡ false = subst (λ x. args_define x seen ≡ false) (same_name-is b.name n q) o in absurd cc
@@ -112,9 +105,3 @@ argument-wide (x ∷ xs) (r ∷ rs) zero a w p = let e : r.len ≡ bit_count x.t
 argument-wide (x ∷ xs) (r ∷ rs) (suc k) a w p =
     let e : map (λ (z : Range). z.len) rs ≡ map (λ (z : ArgText). bit_count z.ty) xs = cc in
     let h = argument-wide xs rs k a e p in record { range = h.range; there = h.there; wide = h.wide }
-
-pub no-argument-named : (n : List ℕ) (xs : List ArgText) → args_define n xs ≡ false → arg_named n xs ≡ None
-no-argument-named n [] h = refl
-no-argument-named n (a ∷ more) h =
-    let b = or_parts (same_name a.name n) (args_define n more) h in
-    ap (λ x. if x then Some a else arg_named n more) b.0 ∙ no-argument-named n more b.1

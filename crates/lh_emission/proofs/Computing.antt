@@ -8,11 +8,12 @@ use Rattle.lh_types.specs.Apply.{apply}
 use Rattle.lh_types.specs.declared.op.Op.{Op}
 use Rattle.lh_types.specs.declared.op.Op.TheVariants.{Mux, Array, Tuple}
 use Rattle.lh_unit.specs.Within.{Each}
-use Rattle.lh_term.specs.Tree.{Tree, TreeRow, constant, past_of, now_of, operation, choice_of, no_trees, more_trees, operation_on}
+use Rattle.lh_term.specs.Tree.{Tree, TreeRow, constant, operation, choice_of, no_trees, more_trees, operation_on}
 use Rattle.lh_term.specs.Types.{FitsTerm, IsValueType, IsTyped, value_type, first_type, value_types}
 use Rattle.lh_term.specs.Mean.{Valuation, IsFitting, mean, means, chosen}
 use Rattle.lh_term.specs.Make.{is_constant, value_in}
 use Rattle.lh_term.proofs.Typing.{fits_term, mean_fits}
+use Rattle.lh_term.proofs.Sound.{constant_term}
 use Rattle.lh_emission.specs.Needs.{constants, operands_in, pair_of}
 
 -- what a term means now
@@ -85,13 +86,6 @@ mux-chooses (time_value d) f t h = absurd h
 mux-chooses (array_value vs) f t h = absurd h
 mux-chooses (tuple_value vs) f t h = absurd h
 
-is-constant : (t : Tree) → is_constant t ≡ true → t ≡ constant (value_in t)
-is-constant (constant v) h = refl
-is-constant (past_of p) h = absurd cc
-is-constant (now_of p) h = absurd cc
-is-constant (operation op ts) h = absurd cc
-is-constant (choice_of c f t) h = absurd cc
-
 -- the array of both terms, as it is made
 pub pair-constant : (f t : Tree) → is_constant f ≡ true → is_constant t ≡ true → pair_of f t ≡ constant (array_value (more_values (value_in f) (more_values (value_in t) no_values)))
 unfolding apply
@@ -112,8 +106,8 @@ pair-mean v f t = at (is_constant f) (is_constant t) refl refl
   where
     at : (a b : Bool) → is_constant f ≡ a → is_constant t ≡ b → value v (pair_of f t) ≡ array_value (data_row (value v f ∷ value v t ∷ []))
     at true true p q =
-        let e : f ≡ constant (value_in f) = is-constant f p in
-        let g : t ≡ constant (value_in t) = is-constant t q in
+        let e : f ≡ constant (value_in f) = constant_term f p in
+        let g : t ≡ constant (value_in t) = constant_term t q in
         ap (value v) (pair-constant f t p q)
         ∙ sym (ap (λ x. array_value (data_row (value v x ∷ value v t ∷ []))) e ∙ ap (λ x. array_value (data_row (value_in f ∷ value v x ∷ []))) g)
     at true false p q = ap (value v) (pair-else f t (rw (p, q) refl))

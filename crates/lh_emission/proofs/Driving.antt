@@ -16,6 +16,7 @@ use Rattle.lh_unit.specs.Effects.{condition_at, drive_due, drive_when, driven}
 use Rattle.lh_unit.specs.Pass.{Passed, passes}
 use Rattle.lh_unit.specs.Within.{Each}
 use Rattle.lh_unit.proofs.Lists.{nat_eq-is}
+use Rattle.lh_unit.proofs.ById.{line_giving-later}
 use Rattle.lh_term.specs.Tree.{Tree, constant, past_of, now_of, operation, choice_of}
 use Rattle.lh_term.specs.Types.{IsTyped, type_of}
 use Rattle.lh_term.proofs.Typing.{mean_fits}
@@ -31,7 +32,7 @@ use Rattle.lh_emission.specs.Ways.{IsReached, IsGiven, DriveIsGiven, WaitIsGiven
 use Rattle.lh_emission.proofs.Computing.{value}
 use Rattle.lh_emission.proofs.Induction.{IsNamed, IsNamedPart, Kept, kept-same}
 use Rattle.lh_emission.proofs.Needing.{need-needed, part-needed}
-use Rattle.lh_emission.proofs.Passing.{Frame, HasFewArgs, source, start, after, Begins, Means, Inv, begins-before, pass_from-then, line_giving-later}
+use Rattle.lh_emission.proofs.Passing.{Frame, HasFewArgs, source, start, after, Begins, Means, Inv, begins-before, pass_from-then}
 use Rattle.lh_emission.proofs.Keeping.{reads-fit, keeps, term-held, part-held}
 
 -- the constant 1

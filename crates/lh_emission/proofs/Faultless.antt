@@ -33,13 +33,15 @@ use Rattle.lh_emission.specs.Ways.{part_by_step, part_by, StepsLead, whole, IsRe
 use Rattle.lh_emission.proofs.Induction.{IsNamed, IsNamedPart}
 use Rattle.lh_emission.proofs.Needing.{IsScalar}
 use Rattle.lh_emission.proofs.Rows.{HasRow}
-use Rattle.lh_emission.proofs.Passing.{Frame, HasFewArgs, source, Begins, begins-before, line_giving-later}
+use Rattle.lh_emission.proofs.Passing.{Frame, HasFewArgs, source, Begins, begins-before}
 use Rattle.lh_emission.proofs.Driving.{CondNamed}
 use Rattle.lh_emission.proofs.Registering.{TriggerNamed}
 use Rattle.lh_emission.proofs.Emitting.{DriveHas, TriggerHas, RowHas, DriveNamed, RowNamed, KeepsRows}
 use Rattle.lh_emission.proofs.Fitting.{has, operation-fits, operation-gives}
-use Rattle.lh_emission.proofs.Typed.{Named, UseRight, IsRight, right-push, once-push, named-before, data-right, signal-right, time-right, operands-right, Typed, given-named, gives-typed}
+use Rattle.lh_emission.proofs.Typed.{Named, UseRight, IsRight, right-push, named-before, data-right, signal-right, time-right, operands-right, Typed, given-named, gives-typed}
 use Rattle.lh_unit.specs.Kinds.{result_kind}
+use Rattle.lh_unit.proofs.ById.{line_giving-later}
+use Rattle.lh_spelled.proofs.Printed.{results-push}
 
 -- the type of a constant
 constant-type : (v : Datum) → IsScalar v → FitsTerm v → constant_type v ≡ Some (datum_type v)
@@ -202,7 +204,7 @@ module _ (f : Frame) (few : HasFewArgs f.unit) where
         new = λ j a. line_giving-later (value_name j) e.lines (line ∷ []) (m.new j a);
         room = rw q (omega (arith, m.room));
         right = right-push y [] e.lines line m.right r;
-        once = once-push f.unit.args [] e.lines line m.once refl;
+        once = results-push f.unit.args [] e.lines line m.once refl;
       }
 
   step-gives : (q to : Part) (n : List ℕ) (o : Op) → part_by q o ≡ Some to → result_type (pure_text o (typed n (signal_type to.ty) ∷ [])) ≡ Some (signal_type to.ty)

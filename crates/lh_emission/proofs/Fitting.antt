@@ -2,6 +2,7 @@
 use Rattle.std.proofs.Common.{◌≡◌, ℕ, zero, suc, ◌<◌, Bool, true, false, ◌&&◌, List, [], ◌∷◌, length, map, replicate, Option, Some, refl, ap, sym, ◌∙◌, subst, arith}
 use Rattle.std.specs.List.{list_all}
 use Rattle.std.specs.Option.{option_map_or, option_and_then}
+use Rattle.std.proofs.lemmas.Bool.{and_from}
 use Rattle.lh_types.specs.Types.{TypeTree, TypeRow, int_type, time_type, void_type, array_type, tuple_type, signal_type, pointer_type, row_of, IsData, AreData, same_type}
 use Rattle.lh_types.specs.Faults.{is_data}
 use Rattle.lh_types.specs.Same.{same-refl}
@@ -14,16 +15,12 @@ use Rattle.lh_unit.specs.Contents.{OperandText, UnitText}
 use Rattle.lh_unit.specs.Typing.{value_type, first_type, operand_types, result_type, array_made, tuple_made, if_made, with_type}
 use Rattle.lh_unit.specs.TypingRows.{OperationRow, integers, alike, shifts, selects, takes_part, puts_part, elements, has_type, has_some_type, agrees, all_have, is_integer, is_array_of, type_satisfies, part_type, row_fits, operation_fits, types_fit}
 use Rattle.lh_unit.specs.Within.{Each}
-use Rattle.lh_scan.proofs.TypeFaults.{is_data-yes, array-again, tuple-again}
+use Rattle.lh_types.proofs.TypeFaults.{is_data-yes, array-again, tuple-again}
 use Rattle.lh_term.specs.Tree.{Tree}
 use Rattle.lh_term.specs.Types.{TakesTypes, type_of, first_of, row_result}
 use Rattle.lh_term.proofs.Typing.{gives_is}
 use Rattle.lh_emission.specs.Emitted.{Emitted, term_name, bare}
 use Rattle.lh_emission.specs.Needs.{types_of_all, each_typed, first_typed, operation_text}
-
--- two tests that hold
-both : (a b : Bool) → a ≡ true → b ≡ true → (a && b) ≡ true
-both a b p q = rw (p, q) refl
 
 module _ (y : UnitText) where
   pub has : (n : List ℕ) (t : TypeTree) → value_type y n ≡ Some t → has_type y t n ≡ true
@@ -49,11 +46,11 @@ module _ (y : UnitText) where
 
     all-bare : (d : TypeTree) (ts : List Tree) → AllOf d ts → all_have y d (map (λ u. bare (term_name e u)) ts) ≡ true
     all-bare d [] h = refl
-    all-bare d (t ∷ ts) h = both (has_type y d (term_name e t) && true) _ (both _ true (of-type t d h.0.0 h.0.1) refl) (all-bare d ts h.1)
+    all-bare d (t ∷ ts) h = and_from (has_type y d (term_name e t) && true) _ (and_from _ true (of-type t d h.0.0 h.0.1) refl) (all-bare d ts h.1)
 
     all-first : (d : TypeTree) (ts : List Tree) → AllOf d ts → all_have y d (first_typed e d ts) ≡ true
     all-first d [] h = refl
-    all-first d (t ∷ ts) h = let q = of-type t d h.0.0 h.0.1 in both (has_type y d (term_name e t) && has_type y d (term_name e t)) _ (both _ _ q q) (all-bare d ts h.1)
+    all-first d (t ∷ ts) h = let q = of-type t d h.0.0 h.0.1 in and_from (has_type y d (term_name e t) && has_type y d (term_name e t)) _ (and_from _ _ q q) (all-bare d ts h.1)
 
     all-of : (d : TypeTree) (ts : List Tree) (l : List TypeTree) → types_of_all ts ≡ l → Each (λ x. x ≡ d) l → Each TermTyped ts → AllOf d ts
     all-of d ts l q k h = by ts (subst (Each (λ x. x ≡ d)) (sym q) k) h
@@ -80,10 +77,10 @@ module _ (y : UnitText) where
     integers-fit n ts l q k h = same-by integers (int_type n) ts l q (all-first (int_type n) ts (all-of (int_type n) ts (int_type n ∷ l) q (refl, k) h))
 
     alike-fit : (d : TypeTree) (ts : List Tree) → IsData d → types_of_all ts ≡ d ∷ d ∷ [] → Each TermTyped ts → Same alike ts
-    alike-fit d ts i q h = same-by alike d ts (d ∷ []) q (both (is_data d) _ (is_data-yes d i) (all-first d ts (all-of d ts (d ∷ d ∷ []) q (refl, (refl, tt)) h)))
+    alike-fit d ts i q h = same-by alike d ts (d ∷ []) q (and_from (is_data d) _ (is_data-yes d i) (all-first d ts (all-of d ts (d ∷ d ∷ []) q (refl, (refl, tt)) h)))
 
     elements-fit : (d : TypeTree) (n : ℕ) (ts : List Tree) → IsData d → types_of_all ts ≡ replicate (suc n) d → Each TermTyped ts → Same elements ts
-    elements-fit d n ts i q h = same-by elements d ts (replicate n d) q (both (is_data d) _ (is_data-yes d i) (all-first d ts (all-of d ts (replicate (suc n) d) q (all (suc n)) h)))
+    elements-fit d n ts i q h = same-by elements d ts (replicate n d) q (and_from (is_data d) _ (is_data-yes d i) (all-first d ts (all-of d ts (replicate (suc n) d) q (all (suc n)) h)))
       where
         all : (n : ℕ) → Each (λ x. x ≡ d) (replicate n d)
         all zero = tt
@@ -148,7 +145,7 @@ module _ (y : UnitText) where
 
     fields-fit : (ts : List Tree) → AreData (row_of (types_of_all ts)) → Each TermTyped ts → list_all (λ (o : OperandText). option_map_or is_data o.ty false && agrees y o) (each_typed e ts) ≡ true
     fields-fit [] d h = refl
-    fields-fit (a ∷ ts) d h = both _ _ (both _ _ (is_data-yes (type_of a) d.0) (has (term_name e a) (type_of a) h.0)) (fields-fit ts d.1 h.1)
+    fields-fit (a ∷ ts) d h = and_from _ _ (and_from _ _ (is_data-yes (type_of a) d.0) (has (term_name e a) (type_of a) h.0)) (fields-fit ts d.1 h.1)
 
     -- ---- an operation on terms fits its row, and gives the type of its row
 

@@ -8,6 +8,7 @@ use Rattle.lh_unit.specs.Pass.{Passed, passes}
 use Rattle.lh_unit.specs.Typing.{result_type, value_type}
 use Rattle.lh_names.proofs.NameLists.{same_name-refl}
 use Rattle.lh_unit.proofs.Lists.{some_inj}
+use Rattle.lh_unit.proofs.ById.{line_giving-later}
 use Rattle.lh_term.specs.Tree.{Tree}
 use Rattle.lh_term.specs.SameTree.{same_tree, same_tree-is}
 use Rattle.lh_term.specs.Same.{same_part, same_part-is}
@@ -17,7 +18,7 @@ use Rattle.lh_emission.specs.Emitted.{Emitted, gives, gives_term, next_name, wit
 use Rattle.lh_emission.specs.Reads.{reads}
 use Rattle.lh_emission.proofs.Computing.{value}
 use Rattle.lh_emission.proofs.Naming.{names_differ, free_from-within}
-use Rattle.lh_emission.proofs.Passing.{Frame, HasFewArgs, source, start, after, Begins, HoldsPart, IsNew, MayName, Means, next-may, still-held, new-type, pass_from-then, line_giving-later}
+use Rattle.lh_emission.proofs.Passing.{Frame, HasFewArgs, source, start, after, Begins, HoldsPart, IsNew, MayName, Means, next-may, still-held, new-type, pass_from-then}
 
 module _ (f : Frame) (few : HasFewArgs f.unit) (w : Wish) (ts : List Bool) (y : UnitText) where
   -- the instruction gives this under every name

@@ -9,9 +9,9 @@ use Rattle.lh_types.specs.Apply.{apply}
 use Rattle.lh_types.specs.declared.op.Op.{Op}
 use Rattle.lh_types.specs.declared.op.Op.TheVariants as op
 use Rattle.lh_types.specs.declared.part.Step.{Step}
-use Rattle.lh_unit.specs.Contents.{OperandText, InstText, const_text, pure_text, prb_text, UnitText}
+use Rattle.lh_unit.specs.Contents.{InstText, const_text, pure_text, prb_text, UnitText}
 use Rattle.lh_unit.specs.Held.{datum_held, part_held, Env, as_datum, as_part, datum_at, data_at, part_at, front, bits_in}
-use Rattle.lh_unit.specs.Effects.{step_of, stepped, signal_part, operated, read_bits}
+use Rattle.lh_unit.specs.Effects.{step_of, stepped, operated, read_bits}
 use Rattle.lh_unit.specs.Hierarchy.{if_held}
 use Rattle.lh_unit.specs.Pass.{Passed}
 use Rattle.lh_unit.specs.Typing.{or_else, value_type, result_type}
@@ -31,10 +31,7 @@ use Rattle.lh_emission.proofs.Induction.{IsNamed, IsNamedPart}
 use Rattle.lh_emission.proofs.Needing.{IsScalar, IsProbe, Keeps}
 use Rattle.lh_emission.proofs.Passing.{Frame, HasFewArgs, source, after, Begins, HoldsPart, Means, Inv, begins-before}
 use Rattle.lh_emission.proofs.Giving.{GivesHeld, held-new, type-new, gives-means, names-part, term-means}
-
--- an operation on values
-values-operated : (y : UnitText) (e : Env) (o : Op) (xs : List OperandText) (ds : List Datum) → data_at e xs ≡ Some ds → operated y e o xs ≡ Some (datum_held (apply o ds))
-values-operated y e o xs ds h = ap (λ x. or_else (option_map (λ vs. datum_held (apply o vs)) x) (signal_part y e o xs)) h
+use Rattle.lh_eval.proofs.PartsRead.{of-values}
 
 module _ (f : Frame) (few : HasFewArgs f.unit) where
   -- a part has a value of its type
@@ -98,7 +95,7 @@ module _ (f : Frame) (few : HasFewArgs f.unit) where
     operation-gives o xs t c h n =
         let d = operands-held o xs h (writes_each o) in
         let g : operated y held o (if writes_each o then each_typed e xs else first_typed e (written_type o (types_of_all xs)) xs) ≡ Some (datum_held (value (reads f.args f.now) t)) =
-        values-operated y held o _ _ d ∙ ap (λ x. Some (datum_held x)) (sym (c.mean (reads f.args f.now) reads-fit)) in
+        of-values y held o _ _ d ∙ ap (λ x. Some (datum_held x)) (sym (c.mean (reads f.args f.now) reads-fit)) in
         λ i. record (after f few y e.lines) { held = if_held held (Some n) (g i) }
 
     -- a probe gives the value of its part

@@ -5,6 +5,7 @@ use Rattle.lh_types.specs.Types.{TypeTree, array_type, tuple_type, signal_type, 
 use Rattle.lh_types.specs.declared.op.Op.{Op}
 use Rattle.lh_types.specs.declared.op.Op.TheVariants as op
 use Rattle.lh_types.specs.declared.part.Step.TheVariants.{Field, Slice}
+use Rattle.lh_types.proofs.TypeFaults.{data_limited}
 use Rattle.lh_names.specs.Names.{IsName}
 use Rattle.lh_unit.specs.Contents.{OperandText, pure_text}
 use Rattle.lh_unit.specs.Lexemes.{Lexeme, word, local}
@@ -26,7 +27,7 @@ use Rattle.lh_emission.specs.Emitted.{Emitted, term_name, typed, bare}
 use Rattle.lh_emission.specs.Needs.{types_of_all, each_typed, first_typed, operation_text}
 use Rattle.lh_emission.specs.Ways.{part_by}
 use Rattle.lh_emission.proofs.Stepping.{has-small, StepsWell, step-well}
-use Rattle.lh_emission.proofs.Spelling.{each-append, SpeltInFront, Spelt, limited, type-says, typed-says, free-says, bare-says, number-says, comma-says, parts-says, behind-says}
+use Rattle.lh_emission.proofs.Spelling.{each-append, SpeltInFront, Spelt, type-says, typed-says, free-says, bare-says, number-says, comma-says, parts-says, behind-says}
 
 -- ---- operations that have a word
 
@@ -46,7 +47,7 @@ numbers-says [] h = tt
 numbers-says (n ∷ ns) h = (number-says n h.0, numbers-says ns h.1)
 
 one-typed : (n : List ℕ) (t : TypeTree) → IsName n → IsData t → SpeltInFront (SpellsColumns (typed_column ∷ []) (typed n t ∷ []))
-one-typed n t i d = let s = typed-says n t i (limited t d) in record { toks = s.toks; written = s.written; spelled = λ more. s.spelled more }
+one-typed n t i d = let s = typed-says n t i (data_limited t d) in record { toks = s.toks; written = s.written; spelled = λ more. s.spelled more }
 
 -- a step to a part
 one-signal : (n : List ℕ) (t : TypeTree) → IsName n → IsData t → SpeltInFront (SpellsColumns (typed_column ∷ []) (typed n (signal_type t) ∷ []))
@@ -97,7 +98,7 @@ module _ (e : Emitted) where
       → SpeltInFront (SpellsColumns (typed_column ∷ bare_column ∷ []) (first_typed e w ts))
   first-two w [] a b q d n = absurd cc
   first-two w (t ∷ []) a b q d n = absurd cc
-  first-two w (t ∷ u ∷ []) a b q d n = two-columns (typed (term_name e t) w) (bare (term_name e u)) (typed-says (term_name e t) w n.0 (limited w d)) (bare-says (term_name e u) n.1.0)
+  first-two w (t ∷ u ∷ []) a b q d n = two-columns (typed (term_name e t) w) (bare (term_name e u)) (typed-says (term_name e t) w n.0 (data_limited w d)) (bare-says (term_name e u) n.1.0)
   first-two w (t ∷ u ∷ v ∷ ts) a b q d n = absurd cc
 
   each-three : (ts : List Tree) (a b c : TypeTree) → types_of_all ts ≡ a ∷ b ∷ c ∷ [] → AreData (row_of (types_of_all ts)) → Each TermWritten ts
@@ -107,8 +108,8 @@ module _ (e : Emitted) where
   each-three (t ∷ u ∷ []) a b c q d n = absurd cc
   each-three (t ∷ u ∷ v ∷ []) a b c q d n =
       three-columns (typed (term_name e t) (type_of t)) (typed (term_name e u) (type_of u)) (typed (term_name e v) (type_of v))
-      (typed-says (term_name e t) (type_of t) n.0 (limited (type_of t) d.0)) (free-says (term_name e u) (type_of u) n.1.0 (limited (type_of u) d.1.0))
-      (free-says (term_name e v) (type_of v) n.1.1.0 (limited (type_of v) d.1.1.0))
+      (typed-says (term_name e t) (type_of t) n.0 (data_limited (type_of t) d.0)) (free-says (term_name e u) (type_of u) n.1.0 (data_limited (type_of u) d.1.0))
+      (free-says (term_name e v) (type_of v) n.1.1.0 (data_limited (type_of v) d.1.1.0))
   each-three (t ∷ u ∷ v ∷ x ∷ ts) a b c q d n = absurd cc
 
   bares-say : (ts : List Tree) → Each TermWritten ts → Each (λ o. SpeltInFront (SpellsBare o)) (map (λ u. bare (term_name e u)) ts)
@@ -117,7 +118,7 @@ module _ (e : Emitted) where
 
   each-say : (ts : List Tree) → AreData (row_of (types_of_all ts)) → Each TermWritten ts → Each (λ o. SpeltInFront (SpellsWithType o)) (each_typed e ts)
   each-say [] d n = tt
-  each-say (t ∷ ts) d n = (typed-says (term_name e t) (type_of t) n.0 (limited (type_of t) d.0), each-say ts d.1 n.1)
+  each-say (t ∷ ts) d n = (typed-says (term_name e t) (type_of t) n.0 (data_limited (type_of t) d.0), each-say ts d.1 n.1)
 
   bare-length : (ts : List Tree) → length (types_of_all ts) ≡ length (map (λ u. bare (term_name e u)) ts)
   bare-length [] = refl
@@ -136,7 +137,7 @@ module _ (e : Emitted) where
       let g : row_result op.Array (types_of_all (t ∷ ts)) ≡ k.gives = gives_is op.Array (types_of_all (t ∷ ts)) k in
       let d : IsData (array_type (length (types_of_all (t ∷ ts))) w) = subst IsData (sym g) k.is_data in
       let l : length (types_of_all (t ∷ ts)) ≡ length (first_typed e w (t ∷ ts)) = ap suc (bare-length ts) in
-      let s = type-says w (limited w k.data_types.0) in
+      let s = type-says w (data_limited w k.data_types.0) in
       let b = behind-says SpellsBare (map (λ u. bare (term_name e u)) ts) (bares-say ts n.1) in
       let vs : List Lexeme = b.toks ++ close_bracket ∷ [] in
       let us : List Lexeme = s.toks ++ local (term_name e t) ∷ vs in
@@ -153,7 +154,7 @@ module _ (e : Emitted) where
       let w = type_of t in
       let b : c < 2 ^ 32 = r.2 in
       let m : c < 10 ^ 64 = omega (arith, b) in
-      let s = type-says w (limited w d.0) in
+      let s = type-says w (data_limited w d.0) in
       let vs : List Lexeme = local (term_name e t) ∷ close_bracket ∷ [] in
       record {
         toks = open_bracket ∷ word (decimal c) ∷ word (codes "x") ∷ (s.toks ++ vs);

@@ -6,11 +6,12 @@ use Rattle.lh_time.specs.declared.Instant.{Instant}
 use Rattle.lh_types.specs.Types.{TypeTree, signal_type}
 use Rattle.lh_types.specs.Wish.{Wish, no_wish}
 use Rattle.lh_types.specs.declared.part.Range.{Range}
-use Rattle.lh_unit.specs.Contents.{InstText, LineText, ArgText, UnitText, args_define, is_result_name}
+use Rattle.lh_unit.specs.Contents.{InstText, LineText, ArgText, UnitText, args_define}
 use Rattle.lh_names.specs.Names.{same_name}
 use Rattle.lh_unit.specs.Held.{Held, datum_held, part_held, Env, nothing_held, with_held, with_args}
 use Rattle.lh_unit.specs.Pass.{Passed, passes, pass_from}
 use Rattle.lh_unit.specs.Typing.{value_type, result_type, line_giving, or_else}
+use Rattle.lh_unit.proofs.ById.{line_giving-later}
 use Rattle.lh_names.proofs.NameLists.{same_name-is, same_name-refl}
 use Rattle.lh_term.specs.Tree.{Tree}
 use Rattle.lh_term.specs.declared.part.Part.{Part}
@@ -19,21 +20,13 @@ use Rattle.lh_emission.specs.Emitted.{PartStep, Source, source_of, Emitted}
 use Rattle.lh_emission.specs.Entities.{entity_with}
 use Rattle.lh_emission.specs.Reads.{range_in, reads}
 use Rattle.lh_emission.proofs.Computing.{value}
-use Rattle.lh_emission.proofs.Arguments.{no-argument-named}
 use Rattle.lh_emission.proofs.Naming.{free_from-within, free-free}
+use Rattle.lh_formed.proofs.ValuesLaw.{arg_none}
 
 pub pass_from-then : (u : UnitText) (now : List Bool) (memory : Option (List Bool)) (t : Instant) (xs ys : List LineText) (p : Passed) →
     pass_from u now memory t p (xs ++ ys) ≡ pass_from u now memory t (pass_from u now memory t p xs) ys
 pass_from-then u now memory t [] ys p = refl
 pass_from-then u now memory t (x ∷ xs) ys p = pass_from-then u now memory t xs ys (passes u now memory t x.inst x.result p)
-
-pub line_giving-later : (n : List ℕ) (xs ys : List LineText) → line_giving n xs ≡ None → line_giving n (xs ++ ys) ≡ line_giving n ys
-line_giving-later n [] ys h = refl
-line_giving-later n (x ∷ xs) ys h = at (is_result_name n x.result) refl (line_giving-later n xs ys)
-  where
-    at : (b : Bool) → is_result_name n x.result ≡ b → (line_giving n xs ≡ None → line_giving n (xs ++ ys) ≡ line_giving n ys) → line_giving n ((x ∷ xs) ++ ys) ≡ line_giving n ys
-    at true q r = let e : Some x.inst ≡ None = (rw q at h) in absurd cc
-    at false q r = rw q (r (rw q at h))
 
 -- an instance of the entity of a unit, in a frame
 pub record Frame : Type 0 where
@@ -135,5 +128,5 @@ module _ (f : Frame) (few : HasFewArgs f.unit) where
       ∙ line_giving-later n ls _ g ∙ ap (λ x. if x then Some i else line_giving n b.more) (same_name-refl n) in
       ap (λ x. value_type x n) b.is
       ∙ ap (λ x. or_else (option_map (λ (a : ArgText). a.ty) x) (option_and_then result_type (or_else (line_giving n ((ls ++ record { result = Some n; inst = i } ∷ []) ++ b.more)) None)))
-      (no-argument-named n f.unit.args d)
+      (arg_none n f.unit.args d)
       ∙ ap (λ x. option_and_then result_type (or_else x None)) g1

@@ -95,15 +95,15 @@ part_by-arg q to o h = at (step_of o) refl h
     at (Some st) p k = by (step_part q.ty st) k
 
 -- what an instruction gives
-record Stepped (f : List ℕ → Option Reached) (i : Option InstText) (r : Reached) : Type 0 where
-  op : Op
-  operand : OperandText
-  from : Reached
-  is : i ≡ Some (pure_text op (operand ∷ []))
-  reaches : f operand.value ≡ Some from
-  steps : stepped_by op from ≡ Some r
+pub record Stepped (f : List ℕ → Option Reached) (i : Option InstText) (r : Reached) : Type 0 where
+  pub op : Op
+  pub operand : OperandText
+  pub from : Reached
+  pub is : i ≡ Some (pure_text op (operand ∷ []))
+  pub reaches : f operand.value ≡ Some from
+  pub steps : stepped_by op from ≡ Some r
 
-further-is : (f : List ℕ → Option Reached) (i : Option InstText) (r : Reached) → further f i ≡ Some r → Stepped f i r
+pub further-is : (f : List ℕ → Option Reached) (i : Option InstText) (r : Reached) → further f i ≡ Some r → Stepped f i r
 further-is f (Some (pure_text o (x ∷ []))) r h = at (f x.value) refl h
   where
     at : (z : Option Reached) → f x.value ≡ z → option_and_then (stepped_by o) z ≡ Some r → Stepped f (Some (pure_text o (x ∷ []))) r

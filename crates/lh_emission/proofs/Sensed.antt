@@ -1,14 +1,15 @@
 -- What the entities of the three shapes sense.
-use Rattle.std.proofs.Common.{◌≡◌, ℕ, ◌+◌, List, [], ◌∷◌, ◌++◌, length, Option, None, refl, ap, ◌∙◌, arith, length-append, append-nil}
+use Rattle.std.proofs.Common.{◌≡◌, ◌+◌, List, [], ◌∷◌, ◌++◌, length, None, refl, ap, ◌∙◌, arith, length-append, append-nil}
 use Rattle.lh_types.specs.declared.part.Range.{Range}
 use Rattle.lh_unit.specs.Contents.{InstText, LineText, UnitText}
 use Rattle.lh_unit.specs.Held.{Env}
-use Rattle.lh_unit.specs.Hierarchy.{static_of, part_if_probe, probed_parts, with_parts, static_from}
+use Rattle.lh_unit.specs.Hierarchy.{static_of, part_if_probe, probed_parts, static_from}
 use Rattle.lh_unit.specs.Pass.{probes}
+use Rattle.lh_unit.proofs.ById.{line_giving-later}
 use Rattle.lh_term.specs.declared.part.Part.{Part}
 use Rattle.lh_emission.specs.Names.{value_name}
 use Rattle.lh_emission.specs.Emitted.{Emitted, puts, nothing_emitted}
-use Rattle.lh_emission.proofs.Passing.{Frame, HasFewArgs, source, begins-before, line_giving-later}
+use Rattle.lh_emission.proofs.Passing.{Frame, HasFewArgs, source, begins-before}
 use Rattle.lh_emission.proofs.Beginning.{ArgsFit, begins}
 use Rattle.lh_emission.proofs.Sensing.{first, static, Senses, Probes, probes-kept, static-then, probed-then}
 use Rattle.lh_emission.proofs.Emitting.{KeepsRows}
@@ -57,8 +58,3 @@ module _ (f : Frame) (fit : ArgsFit f) (Good : Part → Type 0) where
         let m = begins f fit y b in
         record { parts = m.parts; args = m.args; new = m.new; room = m.room };
   }
-
--- the parts of an entity's arguments alone are held first
-pub no-signals : (e : Env) (ns : List (Option (List ℕ))) → with_parts e ns [] ≡ e
-no-signals e [] = refl
-no-signals e (n ∷ ns) = refl

@@ -12,6 +12,7 @@ use Rattle.lh_unit.specs.Typing.{value_type, result_type}
 use Rattle.lh_unit.specs.Within.{Each}
 use Rattle.lh_names.proofs.NameLists.{same_name-refl}
 use Rattle.lh_unit.proofs.Lists.{some_inj}
+use Rattle.lh_unit.proofs.ById.{line_giving-later}
 use Rattle.lh_term.specs.Tree.{Tree, constant, past_of, now_of}
 use Rattle.lh_term.specs.SameTree.{same_tree, same_tree-is}
 use Rattle.lh_term.specs.Same.{same_part, same_part-is}
@@ -25,7 +26,7 @@ use Rattle.lh_emission.specs.Ways.{StepsLead, whole}
 use Rattle.lh_emission.proofs.Induction.{IsNamed, IsNamedPart}
 use Rattle.lh_emission.proofs.Naming.{names_differ, free_from-within}
 use Rattle.lh_emission.proofs.Needing.{NotProbe, IsProbe, Keeps}
-use Rattle.lh_emission.proofs.Passing.{Frame, HasFewArgs, source, Begins, HoldsPart, IsNew, MayName, begins-before, next-may, still-held, new-type, line_giving-later}
+use Rattle.lh_emission.proofs.Passing.{Frame, HasFewArgs, source, Begins, HoldsPart, IsNew, MayName, begins-before, next-may, still-held, new-type}
 use Rattle.lh_emission.proofs.Keeping.{step-operated, step-type}
 
 pub among-before : (p : Part) (ps qs : List Part) → Among p ps → Among p (ps ++ qs)

@@ -5,7 +5,7 @@ use Rattle.std.specs.Option.{option_and_then, option_map, option_map_or}
 use Rattle.lh_types.specs.Types.{TypeTree, signal_type, same_type}
 use Rattle.lh_types.specs.Same.{and_both, same-is}
 use Rattle.lh_unit.specs.declared.inst.UnitKind.TheVariants as kind
-use Rattle.lh_unit.specs.Contents.{InstText, const_text, pure_text, prb_text, drv_text, reg_text, LineText, BlockText, ArgText, UnitText, ItemText, args_define, lines_define, defines_value, is_result_name}
+use Rattle.lh_unit.specs.Contents.{InstText, const_text, pure_text, prb_text, drv_text, reg_text, LineText, BlockText, ArgText, UnitText, ItemText, args_define, lines_define, defines_value}
 use Rattle.lh_unit.specs.Kinds.{Use, uses, kind_of, result_kind, value_kind}
 use Rattle.lh_unit.specs.Places.{InstPlaceText, places_in, places}
 use Rattle.lh_unit.specs.Typing.{value_type, or_else, result_type, inst_giving}
@@ -13,8 +13,9 @@ use Rattle.lh_unit.specs.TypingRows.{types_fit}
 use Rattle.lh_unit.specs.Within.{Each}
 use Rattle.lh_unit.specs.WellFormed.{values_named, is_undefined, is_wrong_kind, is_wrong_type, is_allowed, phi_is_wrong, arguments_differ, FaultKind, undefined, wrong_kind, wrong_type, not_here, no_terminator, phi_edges, not_defined, arguments, has_wrong_kind, has_no_kind, stands_later, Site, HasFault, NoneHasFault}
 use Rattle.lh_unit.specs.Reads.{args_repeat}
-use Rattle.lh_unit.proofs.Lists.{some_inj}
+use Rattle.lh_unit.proofs.Lists.{some_inj, list_any-none}
 use Rattle.lh_unit.proofs.Within.{Each-more}
+use Rattle.lh_unit.proofs.ById.{lines_define-append}
 use Rattle.lh_spelled.specs.Printable.{results_repeat}
 use Rattle.lh_term.specs.declared.part.Part.{Part}
 use Rattle.lh_emission.specs.Emitted.{PartStep, source_of, Emitted, nothing_emitted, name_if_whole, whole_name}
@@ -31,21 +32,9 @@ use Rattle.lh_emission.proofs.Plain.{given-drives, given-waits, comb-lines, edge
 
 -- ---- tests over lists
 
-none-of : {X : Type 0} (test : X → Bool) (xs : List X) → Each (λ x. test x ≡ false) xs → list_any test xs ≡ false
-none-of test [] h = refl
-none-of test (x ∷ xs) h = rw h.0 (none-of test xs h.1)
-
 none-named : (test : List ℕ → Bool) (xs : List Use) → Each (λ (x : Use). test x.value ≡ false) xs → list_any test (map (λ (x : Use). x.value) xs) ≡ false
 none-named test [] h = refl
 none-named test (x ∷ xs) h = rw h.0 (none-named test xs h.1)
-
-defined-more : (n : List ℕ) (xs ys : List LineText) → lines_define n xs ≡ true → lines_define n (xs ++ ys) ≡ true
-defined-more n [] ys h = absurd cc
-defined-more n (x ∷ xs) ys h = at (is_result_name n x.result) refl (defined-more n xs ys)
-  where
-    at : (b : Bool) → is_result_name n x.result ≡ b → (lines_define n xs ≡ true → lines_define n (xs ++ ys) ≡ true) → lines_define n ((x ∷ xs) ++ ys) ≡ true
-    at true q r = rw q refl
-    at false q r = rw q (r (rw q at h))
 
 -- ---- one instruction
 
@@ -59,19 +48,19 @@ module _ (u : UnitText) (ls : List LineText) (items : List ItemText) where
       where
         by : (a : Bool) → args_define x.value u.args ≡ a → (a || lines_define x.value before) ≡ true → not (defines_value x.value entity) ≡ false
         by true q k = rw q refl
-        by false q k = let z : lines_define x.value ls ≡ true = ap (lines_define x.value) same ∙ defined-more x.value before rest k in rw (q, z) refl
+        by false q k = let z : lines_define x.value ls ≡ true = ap (lines_define x.value) same ∙ lines_define-append x.value before rest k in rw (q, z) refl
 
     all-defined : list_any (λ n. not (defines_value n entity)) (map (λ (x : Use). x.value) (uses i)) ≡ false
     all-defined = none-named (λ n. not (defines_value n entity)) (uses i) (Each-more _ _ (uses i) use-defined r.uses)
 
     right-kinds : list_any (has_wrong_kind entity) (uses i) ≡ false
-    right-kinds = none-of (has_wrong_kind entity) (uses i) (Each-more _ _ (uses i) one r.uses)
+    right-kinds = list_any-none (has_wrong_kind entity) (uses i) (Each-more _ _ (uses i) one r.uses)
       where
         one : (x : Use) → UseRight entity before x → has_wrong_kind entity x ≡ false
         one x h = ap (λ o. option_map_or (λ k. not (Rattle.lh_unit.specs.Kinds.takes x.need k)) o false) h.kind ∙ ap not h.takes
 
     some-kinds : list_any (has_no_kind entity) (uses i) ≡ false
-    some-kinds = none-of (has_no_kind entity) (uses i) (Each-more _ _ (uses i) one r.uses)
+    some-kinds = list_any-none (has_no_kind entity) (uses i) (Each-more _ _ (uses i) one r.uses)
       where
         one : (x : Use) → UseRight entity before x → has_no_kind entity x ≡ false
         one x h = ap (λ o. option_map_or (λ k. false) o true) h.kind

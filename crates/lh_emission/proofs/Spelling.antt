@@ -2,7 +2,7 @@
 use Rattle.std.proofs.Common.{◌≡◌, ℕ, ◌*◌, ◌<◌, ◌≤◌, ◌^◌, inl, inr, true, List, [], ◌∷◌, ◌++◌, map, length, Option, Some, None, decimal, refl, ap, sym, ◌∙◌, subst, arith, append_assoc, append-nil, length-append}
 use Rattle.std.specs.Prelude.{codes}
 use Rattle.lh_time.specs.declared.Delay.{Delay}
-use Rattle.lh_types.specs.Types.{TypeTree, int_type, time_type, void_type, array_type, tuple_type, signal_type, pointer_type, IsData, IsLimited}
+use Rattle.lh_types.specs.Types.{TypeTree, int_type, signal_type, IsData, IsLimited}
 use Rattle.lh_types.specs.Values.{int_value, time_value}
 use Rattle.lh_names.specs.Names.{IsName, all_name_bytes}
 use Rattle.lh_unit.specs.Contents.{OperandText, InstText, TriggerText, const_text, prb_text, drv_text, reg_text}
@@ -53,15 +53,6 @@ pub record Spelt (S : List Lexeme → Type 0) : Type 0 where
   pub spelled : S toks
 
 -- ---- parts of a line
-
-pub limited : (t : TypeTree) → IsData t → IsLimited t
-limited (int_type n) d = d
-limited (array_type n t) d = d
-limited (tuple_type r) d = d
-limited time_type d = absurd d
-limited void_type d = absurd d
-limited (signal_type t) d = absurd d
-limited (pointer_type t) d = absurd d
 
 pub type-says : (t : TypeTree) → IsLimited t → SpeltInFront (SpellsType t)
 type-says t d =

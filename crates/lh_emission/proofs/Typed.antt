@@ -10,9 +10,10 @@ use Rattle.lh_unit.specs.Kinds.{Kind, a_datum, a_time, a_signal, kind_of, result
 use Rattle.lh_unit.specs.Typing.{value_type, result_type, line_giving, or_else, first_type}
 use Rattle.lh_unit.specs.TypingRows.{types_fit}
 use Rattle.lh_unit.specs.Within.{Each}
-use Rattle.std.proofs.lemmas.Bool.{or_parts}
+use Rattle.lh_unit.proofs.ById.{line_giving-later}
 use Rattle.lh_names.proofs.NameLists.{same_name-refl}
-use Rattle.lh_spelled.specs.Printable.{result_repeats, results_repeat}
+use Rattle.lh_spelled.specs.Printable.{results_repeat}
+use Rattle.lh_spelled.proofs.Printed.{results-push}
 use Rattle.lh_term.specs.Tree.{Tree}
 use Rattle.lh_term.specs.Types.{TakesTypes, type_of}
 use Rattle.lh_term.proofs.Typing.{gives_is}
@@ -20,9 +21,9 @@ use Rattle.lh_term.specs.declared.part.Part.{Part}
 use Rattle.lh_emission.specs.Names.{value_name, free_number}
 use Rattle.lh_emission.specs.Emitted.{Emitted, gives, next_name, term_name, bare}
 use Rattle.lh_emission.specs.Needs.{types_of_all, each_typed, first_typed, operation_text}
-use Rattle.lh_emission.proofs.Arguments.{no-argument-named}
 use Rattle.lh_emission.proofs.Naming.{names_differ, free_from-within}
-use Rattle.lh_emission.proofs.Passing.{Frame, HasFewArgs, source, Begins, MayName, next-may, new-type, line_giving-later}
+use Rattle.lh_emission.proofs.Passing.{Frame, HasFewArgs, source, Begins, MayName, next-may, new-type}
+use Rattle.lh_formed.proofs.ValuesLaw.{arg_none}
 
 -- a value of this type is there
 pub record Named (y : UnitText) (ls : List LineText) (n : List ℕ) (t : TypeTree) : Type 0 where
@@ -51,16 +52,6 @@ right-push y seen [] l h k = (subst (λ z. IsRight y z l.inst) (append-nil seen)
 right-push y seen (x ∷ ls) l h k = (h.0, right-push y (seen ++ x ∷ []) ls l h.1 (subst (λ z. IsRight y z l.inst) (sym (append_assoc seen (x ∷ []) ls)) k))
 
 -- ---- results stand once
-
-pub once-push : (xs : List ArgText) (seen ls : List LineText) (l : LineText) → results_repeat xs seen ls ≡ false → result_repeats xs (seen ++ ls) l.result ≡ false
-    → results_repeat xs seen (ls ++ l ∷ []) ≡ false
-once-push xs seen [] l h k =
-    let q : result_repeats xs seen l.result ≡ false = subst (λ z. result_repeats xs z l.result ≡ false) (append-nil seen) k in
-    ap (λ b. b || false) q
-once-push xs seen (x ∷ ls) l h k =
-    let b = or_parts (result_repeats xs seen x.result) (results_repeat xs (seen ++ x ∷ []) ls) h in
-    let r = once-push xs (seen ++ x ∷ []) ls l b.1 (subst (λ z. result_repeats xs z l.result ≡ false) (sym (append_assoc seen (x ∷ []) ls)) k) in
-    rw b.0 r
 
 -- what no line gives, no line defines
 not-given : (n : List ℕ) (ls : List LineText) → line_giving n ls ≡ None → lines_define n ls ≡ false
@@ -182,7 +173,7 @@ module _ (f : Frame) (few : HasFewArgs f.unit) where
       ∙ line_giving-later n ls _ g ∙ ap (λ x. if x then Some i else line_giving n b.more) (same_name-refl n) in
       ap (λ x. value_kind x n) b.is
       ∙ ap (λ x. or_else (option_and_then (λ (a : ArgText). kind_of a.ty) x) (option_and_then result_kind (or_else (line_giving n ((ls ++ record { result = Some n; inst = i } ∷ []) ++ b.more)) None)))
-      (no-argument-named n f.unit.args d)
+      (arg_none n f.unit.args d)
       ∙ ap (λ x. option_and_then result_kind (or_else x None)) g1
 
   module _ (y : UnitText) (e : Emitted) (i : InstText) (b : Begins f few y (gives (source f few) i e).lines) (m : Typed y e) (r : IsRight y e.lines i) where
@@ -223,5 +214,5 @@ module _ (f : Frame) (few : HasFewArgs f.unit) where
           let k = free_from-within f.unit.args (length f.unit.args) e.next in
           rw q (omega (arith, k.1, m.room));
       right = right-push y [] e.lines line m.right r;
-      once = once-push f.unit.args [] e.lines line m.once (λ j. may.free j || not-given name e.lines (m.new number may) j);
+      once = results-push f.unit.args [] e.lines line m.once (λ j. may.free j || not-given name e.lines (m.new number may) j);
     }

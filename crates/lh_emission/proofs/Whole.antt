@@ -29,7 +29,8 @@ use Rattle.lh_emission.proofs.Registering.{TriggerNamed}
 use Rattle.lh_emission.proofs.Remembering.{rows-emitted, rows-first, rows-seen}
 use Rattle.lh_emission.proofs.Sensing.{static, Probes}
 use Rattle.lh_emission.proofs.Emitting.{DriveHas, TriggerHas, RowHas, drives-kept, probes-kept, rows-kept}
-use Rattle.lh_emission.proofs.Sensed.{rows-probe, none-probed, no-signals}
+use Rattle.lh_emission.proofs.Sensed.{rows-probe, none-probed}
+use Rattle.lh_sound.proofs.FindingElab.{parts-of-none}
 
 -- ---- an entity within the limits
 
@@ -61,7 +62,7 @@ module _ (f : Frame) (fit : ArgsFit f) (y : UnitText) (fits : Bool) (e : Emitted
   all-lines = ap (λ (z : UnitText). lines_of z.blocks) w.is ∙ append-nil e.lines
 
   first-held : parts_of y f.args [] ≡ with_args nothing_held f.unit.args (map part_held f.args)
-  first-held = no-signals _ (signal_names (lines_of y.blocks)) ∙ ap (λ (z : UnitText). with_args nothing_held z.args (map part_held f.args)) w.is
+  first-held = parts-of-none _ (signal_names (lines_of y.blocks)) ∙ ap (λ (z : UnitText). with_args nothing_held z.args (map part_held f.args)) w.is
 
   -- a pass is what comes after all its instructions
   pub pass-is : pass y f.args [] f.now f.memory f.at ≡ after f fit.few y e.lines

@@ -1,18 +1,18 @@
 -- What a term is made of, by ids.
-use Rattle.std.proofs.Common.{◌≡◌, ℕ, ◌+◌, ◌-◌, ◌<◌, ◌≤◌, Bool, true, false, ◌&&◌, List, [], ◌∷◌, ◌++◌, length, map, take, drop, get_or, Option, Some, None, refl, ap, sym, ◌∙◌, subst, arith, append_assoc, inl, inr, ◌⊎◌}
+use Rattle.std.proofs.Common.{◌≡◌, ◌+◌, ◌-◌, ◌<◌, ◌≤◌, true, List, [], ◌∷◌, ◌++◌, length, map, take, drop, get_or, refl, ap, sym, ◌∙◌, subst, arith, append_assoc, inl, inr, ◌⊎◌, ltb-true, lt-ltb}
 use Rattle.std.specs.Prelude.{nat_lt, Result, Ok, Err, IfOk}
 use Rattle.std.specs.Option.{is_none}
 use Rattle.std.proofs.Math.Seq.{take-length}
-use Rattle.std.proofs.lemmas.List.{append-nil, map-append}
+use Rattle.std.proofs.lemmas.List.{append-nil}
 use Rattle.lh_types.specs.Faults.{array_fault}
 use Rattle.lh_types.specs.Same.{and_both}
-use Rattle.lh_types.specs.Values.{Datum, DatumRow, int_value, time_value, array_value, tuple_value, data_row}
+use Rattle.lh_types.specs.Values.{Datum, int_value, time_value, array_value, tuple_value}
 use Rattle.lh_types.specs.ValueOf.{datum_of}
 use Rattle.lh_types.specs.declared.val.Val.{Val}
 use Rattle.lh_types.specs.declared.op.Op.{Op}
 use Rattle.lh_types.specs.declared.op.Op.TheVariants.{Array}
 use Rattle.lh_unit.specs.Within.{Each}
-use Rattle.lh_term.specs.Tree.{Tree, TreeRow, constant, past_of, now_of, operation, choice_of, no_trees, more_trees, operation_on, tree_row}
+use Rattle.lh_term.specs.Tree.{Tree, constant, choice_of, operation_on, tree_row}
 use Rattle.lh_term.specs.Types.{FitsTerm, IsTyped, type_of}
 use Rattle.lh_term.specs.Arena.{trees, tree_at, trees_at, term_tree, term_below, ids_below, IsIn, AreIn, Grows, StandsForTree}
 use Rattle.lh_term.specs.declared.term.TermId.{TermId}
@@ -20,18 +20,18 @@ use Rattle.lh_term.specs.declared.term.Node.{Node}
 use Rattle.lh_term.specs.declared.term.Term.{Term}
 use Rattle.lh_term.specs.declared.term.Term.TheVariants.{Op as Applied}
 use Rattle.lh_types.specs.declared.val.Val.TheVariants as val
-use Rattle.lh_types.specs.Parts.{parts_of}
+use Rattle.lh_types.proofs.DatumRows.{parts_of-data_row}
 use Rattle.lh_emit.specs.declared.making.Needs.{Needs}
 use Rattle.lh_emit.specs.declared.making.Needs.TheVariants.{Parts, Chosen}
 use Rattle.lh_body.specs.declared.lines.EmitFault.{EmitFault}
 use Rattle.lh_body.specs.declared.lines.EmitFault.TheVariants as fault
-use Rattle.lh_term.proofs.Arenas.{lt_of, of_lt, ids_more, map_append}
+use Rattle.lh_term.proofs.Arenas.{ids_more, map_append}
 use Rattle.lh_term.proofs.Swaps.{tree_grown, in_grown, grows_on}
-use Rattle.lh_emission.specs.Needs.{constants, operands_in, pair_of}
+use Rattle.lh_emission.specs.Needs.{operands_in, pair_of}
 use Rattle.lh_emission.proofs.Computing.{array-parts, tuple-parts}
-use Rattle.lh_emission.proofs.Pairs.{pair-typed}
 use Rattle.lh_emit.specs.Making.{AreMade, HasNoPair, NoPairOf, IsMadeBy, parts_in, AreConstants, AreChosen}
 use Rattle.lh_emit.specs.Tasks.{made_of, has_pair}
+use Rattle.lh_joins.proofs.Selecting.{trees-grown}
 
 -- ---- ids of an arena that grows
 
@@ -39,18 +39,10 @@ pub ids-in-grown : (ns ms : List Node) → Grows ns ms → (xs : List TermId) �
 ids-in-grown ns ms g [] h = refl
 ids-in-grown ns ms g (x ∷ xs) h =
     let b = and_both (nat_lt x.0 (length ns)) (ids_below (length ns) xs) h in
-    rw (of_lt x.0 (length ms) (in_grown ns ms g x (lt_of x.0 (length ns) b.0))) (ids-in-grown ns ms g xs b.1)
-
-pub trees-at-grown : (ns ms : List Node) → Grows ns ms → (xs : List TermId) → AreIn ns xs → trees_at ms xs ≡ trees_at ns xs
-trees-at-grown ns ms g [] h = refl
-trees-at-grown ns ms g (x ∷ xs) h =
-    let b = and_both (nat_lt x.0 (length ns)) (ids_below (length ns) xs) h in
-    let p = tree_grown ns ms g x (lt_of x.0 (length ns) b.0) in
-    let r = trees-at-grown ns ms g xs b.1 in
-    λ i. p i ∷ r i
+    rw (lt-ltb x.0 (length ms) (in_grown ns ms g x (ltb-true x.0 (length ns) b.0))) (ids-in-grown ns ms g xs b.1)
 
 pub one-in : (ns : List Node) (x : TermId) → IsIn ns x → AreIn ns (x ∷ [])
-one-in ns x h = rw (of_lt x.0 (length ns) h) refl
+one-in ns x h = rw (lt-ltb x.0 (length ns) h) refl
 
 pub ids-in-append : (ns : List Node) (xs ys : List TermId) → AreIn ns xs → AreIn ns ys → AreIn ns (xs ++ ys)
 ids-in-append ns [] ys h g = g
@@ -87,7 +79,7 @@ constants-next old ds ns ms xs more [] d x k l g s e = absurd (omega (arith, l))
 constants-next old ds ns ms xs more (v ∷ vs) d x k l g s e =
     let r : take (length (v ∷ vs) - 1) (drop 1 (v ∷ vs)) ≡ vs = rest-of v vs in
     let all : trees_at ms (xs ++ x ∷ []) ≡ trees_at ns xs ++ constant (datum_of v) ∷ [] =
-    map_append (tree_at (trees ms)) xs (x ∷ []) ∙ (λ i. trees-at-grown ns ms g xs k.within i ++ s.tree i ∷ []) in
+    map_append (tree_at (trees ms)) xs (x ∷ []) ∙ (λ i. trees-grown ns ms xs g k.within i ++ s.tree i ∷ []) in
     record {
       grows = grows_on old ns ms k.grows g;
       within = subst (AreIn ms) (sym e) (ids-in-append ms xs (x ∷ []) (ids-in-grown ns ms g xs k.within) (one-in ms x s.is_in));
@@ -152,10 +144,6 @@ pub no-pair : (ns : List Node) (t : TermId) (c f g : Tree) (y : EmitFault) → t
 no-pair ns t c f g fault.OutOfMemory e h = tt
 no-pair ns t c f g fault.EntityTooLarge e h = ap has_pair e ∙ h
 
--- the array of a choice can be made
-pub pair-takes : (c f t : Tree) → IsTyped (choice_of c f t) → is_none (array_fault 2 (type_of f)) ≡ true → IsTyped (operation_on Array (f ∷ t ∷ []))
-pair-takes c f t w h = pair-typed c f t w h
-
 pub chosen-made : (ns ms : List Node) (c f t : TermId) (pair : TermId) (xs : List TermId) → Grows ns ms → IsIn ns c → StandsForTree ms pair (pair_of (tree_at (trees ns) f) (tree_at (trees ns) t))
     → xs ≡ pair ∷ c ∷ [] →
     is_none (array_fault 2 (type_of (tree_at (trees ns) f))) ≡ true → AreChosen (tree_at (trees ns) c) (tree_at (trees ns) f) (tree_at (trees ns) t) ms xs
@@ -167,14 +155,10 @@ chosen-made ns ms c f t pair xs g c_in s e h = record {
 
 -- ---- what stands in the arena
 
-parts-row : (vs : List Datum) → parts_of (data_row vs) ≡ vs
-parts-row [] = refl
-parts-row (v ∷ vs) = ap (λ xs. v ∷ xs) (parts-row vs)
-
 pub parts-copied : {E : Type 0} (v : Val) (vs : List Datum) (r : Result (List Datum) E) → (v ≡ val.Array vs) ⊎ (v ≡ val.Tuple vs) → IfOk r (λ ws. ws ≡ vs) → IfOk r (λ ws. ws ≡ parts_in (datum_of v))
 parts-copied v vs (Err e) p h = tt
-parts-copied v vs (Ok ws) (inl p) h = h ∙ sym (parts-row vs) ∙ sym (ap (λ (x : Val). parts_in (datum_of x)) p)
-parts-copied v vs (Ok ws) (inr p) h = h ∙ sym (parts-row vs) ∙ sym (ap (λ (x : Val). parts_in (datum_of x)) p)
+parts-copied v vs (Ok ws) (inl p) h = h ∙ sym (parts_of-data_row vs) ∙ sym (ap (λ (x : Val). parts_in (datum_of x)) p)
+parts-copied v vs (Ok ws) (inr p) h = h ∙ sym (parts_of-data_row vs) ∙ sym (ap (λ (x : Val). parts_in (datum_of x)) p)
 
 pub made-op : (ns : List Node) (t : TermId) (k : Term) (op : Op) (args xs : List TermId) → k ≡ Applied op args → term_tree (trees ns) k ≡ tree_at (trees ns) t → term_below t.0 k ≡ true → IsIn ns t
     → xs ≡ args → AreMade ns ns t xs

@@ -1,12 +1,12 @@
 -- The instruction that gives a term, by ids.
-use Rattle.std.proofs.Common.{◌≡◌, ℕ, zero, suc, ◌+◌, ◌<◌, ◌≤◌, Bool, true, false, if◌then◌else◌, List, [], ◌∷◌, ◌++◌, length, map, Option, Some, None, slice_get, refl, ap, sym, ◌∙◌, subst, arith, length-append, inl, inr, ◌⊎◌}
+use Rattle.std.proofs.Common.{◌≡◌, ℕ, ◌+◌, ◌<◌, Bool, true, false, if◌then◌else◌, List, [], ◌∷◌, ◌++◌, length, Option, Some, refl, ap, sym, ◌∙◌, subst, arith, length-append, inl, inr}
 use Rattle.std.specs.Prelude.{slice_index_or}
 use Rattle.std.specs.Option.{option_map}
 use Rattle.std.proofs.Math.ListN.{get_or-append}
 use Rattle.lh_types.specs.Types.{TypeTree, signal_type}
 use Rattle.lh_types.specs.Values.{Datum}
 use Rattle.lh_types.specs.declared.op.Op.{Op}
-use Rattle.lh_unit.specs.Contents.{ArgText, InstText, const_text, prb_text}
+use Rattle.lh_unit.specs.Contents.{ArgText, InstText, prb_text}
 use Rattle.lh_unit.specs.Naming.{value_text, inst_text}
 use Rattle.lh_unit.specs.Typing.{or_else}
 use Rattle.lh_unit.specs.Within.{Each, InstWithin}
@@ -17,26 +17,25 @@ use Rattle.lh_unit.specs.declared.inst.Inst.TheVariants as inst
 use Rattle.lh_term.specs.Tree.{Tree, constant}
 use Rattle.lh_term.specs.Types.{type_of, row_result}
 use Rattle.lh_term.specs.SameTree.{same_tree, same_tree-is}
-use Rattle.lh_term.specs.Arena.{trees, tree_at, trees_at, IsIn, OneId, Grows}
+use Rattle.lh_term.specs.Arena.{trees, tree_at, IsIn, OneId, Grows}
 use Rattle.lh_term.specs.declared.part.Part.{Part}
 use Rattle.lh_term.specs.declared.term.TermId.{TermId}
 use Rattle.lh_term.specs.declared.term.Node.{Node}
 use Rattle.lh_term.proofs.Swaps.{tree_grown, in_grown}
-use Rattle.lh_emission.specs.Emitted.{Source, Emitted, gives_term, with_term, next_name, whole_name, signal, typed, part_name, need_part}
+use Rattle.lh_emission.specs.Emitted.{Source, Emitted, gives_term, with_term, next_name, whole_name, signal, typed, need_part}
 use Rattle.lh_emission.specs.Entities.{max_lines, choices_fit}
 use Rattle.lh_emission.specs.Needs.{operation_text, types_of_all}
-use Rattle.lh_emission.specs.Ways.{IsReached}
 use Rattle.lh_body.specs.Lines.{naming, most_lines, values_alone, LinesAreEmitted, HasRoom, NamesGrow, GivesValue}
 use Rattle.lh_emit.specs.Emitting.{ArgumentsFirst, IsEmitted}
 use Rattle.lh_emit.specs.Making.{AreMade, HasNoPair, form_of, IsProbed}
 use Rattle.lh_emit.specs.Operands.{with_type}
 use Rattle.lh_emit.specs.Operations.{HaveValues, AreValues, operands_of}
-use Rattle.lh_origin.specs.Origins.{IsSource}
 use Rattle.lh_emit.specs.Parts.{part_in, KnowsParts}
 use Rattle.lh_emit.specs.Tasks.{made_of, makes, HasName}
 use Rattle.lh_emit.specs.Underway.{TakesPart, IsReady, IsInstOf, IsMade, IsTooMuchToMake, CanTakePart, GivesNoPart, TakesPartOr, CanMake, MakesNot, GivesInstOr, MakesOr}
 use Rattle.std.specs.Prelude.{Result, Ok, Err}
 use Rattle.std.specs.Result.{IsErrAnd}
+use Rattle.std.proofs.lemmas.Option.{slice_get_within}
 use Rattle.lh_body.specs.declared.lines.EmitFault.{EmitFault}
 use Rattle.lh_body.specs.declared.lines.EmitFault.TheVariants as fault
 use Rattle.lh_term.proofs.Arenas.{map_length}
@@ -58,16 +57,11 @@ use Rattle.lh_emit.proofs.Walking.{GivesFault, says-length, grows-same, grows-th
 pub emitted-grown : (ns ms : List Node) (s : Source) (x : Emitter) (e : Emitted) → Grows ns ms → OneId ms → IsEmitted ns s x e → IsEmitted ms s x e
 emitted-grown ns ms s x e g one w = record { room = w.room; says = w.says; arguments = w.arguments; terms = knows-grown ns ms g one x.lines.names x.values e w.terms; parts = w.parts; fit = w.fit }
 
-get-within : {X : Type 0} (xs : List X) (k : ℕ) (x : X) → slice_get xs k ≡ Some x → k < length xs
-get-within [] k x h = absurd cc
-get-within (y ∷ xs) zero x h = omega arith
-get-within (y ∷ xs) (suc k) x h = omega (arith, get-within xs k x h)
-
 pub args-more : (args : List ArgText) (names new : List (List ℕ)) → NamesGrow names new → ArgumentsFirst args names → ArgumentsFirst args new
 args-more args names new (more, e) w = record {
   long = omega (arith, w.long, ap length e, length-append names more);
   named = λ k a h.
-      let l : k < length names = omega (arith, get-within args k a h, w.long) in
+      let l : k < length names = omega (arith, slice_get_within args k a h, w.long) in
       ap (λ ns. slice_index_or ns k []) e ∙ get_or-append names more [] k l ∙ w.named k a h;
 }
 

@@ -1,5 +1,5 @@
 -- What is still to be done, step by step.
-use Rattle.std.proofs.Common.{◌≡◌, ℕ, ◌+◌, ◌<◌, ◌≤◌, Bool, true, false, ◌&&◌, List, [], ◌∷◌, ◌++◌, length, map, Option, Some, None, refl, ap, sym, ◌∙◌, subst, arith, inl, inr, ◌⊎◌, is_some}
+use Rattle.std.proofs.Common.{◌≡◌, ℕ, ◌+◌, ◌<◌, true, false, List, [], ◌∷◌, ◌++◌, length, map, Option, Some, None, refl, ap, sym, ◌∙◌, subst, arith, inl, inr, ◌⊎◌, is_some, ltb-true}
 use Rattle.std.specs.Prelude.{nat_lt}
 use Rattle.std.specs.Option.{option_map}
 use Rattle.std.proofs.lemmas.List.{append-nil}
@@ -12,7 +12,6 @@ use Rattle.lh_term.specs.Tree.{Tree}
 use Rattle.lh_term.specs.Arena.{trees, tree_at, trees_at, ids_below, IsIn, AreIn, OneId, Grows}
 use Rattle.lh_term.specs.declared.term.TermId.{TermId}
 use Rattle.lh_term.specs.declared.term.Node.{Node}
-use Rattle.lh_term.proofs.Arenas.{lt_of}
 use Rattle.lh_term.proofs.Swaps.{tree_grown, in_grown, grows_on}
 use Rattle.lh_emission.specs.Emitted.{Source, Emitted, term_name}
 use Rattle.lh_emission.specs.Entities.{max_lines, choices_fit}
@@ -22,10 +21,11 @@ use Rattle.lh_body.specs.Lines.{naming, NamesGrow}
 use Rattle.lh_emit.specs.Emitting.{IsEmitted}
 use Rattle.lh_emit.specs.Making.{AreMade, HasNoPair}
 use Rattle.lh_origin.specs.Origins.{IsSource}
-use Rattle.lh_emit.specs.Tasks.{made_of, makes, has_pair, Step, need_of, make_of, takes, HasName, AreReady, steps_size}
+use Rattle.lh_emit.specs.Tasks.{made_of, makes, need_of, make_of, takes, AreReady, steps_size}
 use Rattle.lh_emit.specs.Underway.{step_of, steps_at, term_of, tops, IsTask, FitsTask, IsUnderway, CanGo, HasGone, Goes, IsTooMuch, GoesNot, IsReady, CanMake, IsMade, MakesTerm, IsTooMuchToMake, MakesNot, GoesOr, MakesOr, HasTerm, CanTakeTerm, GivesNoTerm, TakesTermOr}
 use Rattle.std.specs.Prelude.{Result, Ok, Err}
 use Rattle.std.specs.Result.{IsErrAnd}
+use Rattle.std.proofs.lemmas.Bool.{false_from_ne_true}
 use Rattle.lh_emit.proofs.Operating.{have-value, value-named}
 use Rattle.lh_emit.proofs.Stacking.{pushed}
 use Rattle.lh_emit.proofs.Walking.{grows-same, grows-then}
@@ -70,7 +70,7 @@ needs-tasks : (ms : List Node) (s : Source) (xs : List TermId) → AreIn ms xs �
 needs-tasks ms s [] h g = tt
 needs-tasks ms s (x ∷ xs) h g =
     let b = and_both (nat_lt x.0 (length ms)) (ids_below (length ms) xs) h in
-    (record { is_in = lt_of x.0 (length ms) b.0; given = g.0 }, needs-tasks ms s xs b.1 g.1)
+    (record { is_in = ltb-true x.0 (length ms) b.0; given = g.0 }, needs-tasks ms s xs b.1 g.1)
 
 needs-fit : (ms : List Node) (xs : List TermId) → Each (λ (t : Tree). choices_fit t ≡ true) (trees_at ms xs) → Each (FitsTask ms) (map Need xs)
 needs-fit ms [] h = tt
@@ -288,17 +288,13 @@ takes-term ns o x t ms y v h g names k q = (names, λ s e src w given. on s e sr
           fits = is.fit tree named.0 named.1;
         }
 
-false-of : (b : Bool) → (b ≡ true → ⊥) → b ≡ false
-false-of true h = absurd (h refl)
-false-of false h = refl
-
 pub no-term : (ns : List Node) (o : Origin) (x : Emitter) (t : TermId) (f : EmitFault) → IsIn ns t → GoesNot ns o x (Need t ∷ []) f → GivesNoTerm ns o x t f
 no-term ns o x t fault.OutOfMemory h k = tt
 no-term ns o x t fault.EntityTooLarge h k = λ s e src w given. on s e (k s e src (first-underway ns s x t e w h given))
   where
     on : (s : Source) (e : Emitted) → IsTooMuch ns s (Need t ∷ []) e → (choices_fit (tree_at (trees ns) t) ≡ false) ⊎ (max_lines < length (need s (tree_at (trees ns) t) e).lines)
     on s e (inr far) = inr far
-    on s e (inl out) = inl (false-of (choices_fit (tree_at (trees ns) t)) (λ p. out (p, tt)))
+    on s e (inl out) = inl (false_from_ne_true (choices_fit (tree_at (trees ns) t)) (λ p. out (p, tt)))
 
 pub term-no-memory : (ns : List Node) (o : Origin) (x : Emitter) (t : TermId) (ms : List Node) (y : Emitter) (r : Result ValueId EmitFault) → IsErrAnd r (λ f. f ≡ fault.OutOfMemory)
     → TakesTermOr ns o x t ms y r

@@ -1,7 +1,6 @@
 -- Values by the ids of terms are the names of the terms.
-use Rattle.std.proofs.Common.{◌≡◌, ◌<◌, ◌≤◌, ◌+◌, ℕ, Bool, true, false, if◌then◌else◌, List, [], ◌∷◌, ◌++◌, length, get_or, Option, Some, None, refl, ap, sym, ◌∙◌, subst, arith, length-append}
-use Rattle.std.specs.Prelude.{nat_eq, nat_lt, slice_index_or}
-use Rattle.lh_term.proofs.Arenas.{lt_of, of_lt}
+use Rattle.std.proofs.Common.{◌≡◌, ◌<◌, ◌+◌, ℕ, Bool, true, false, if◌then◌else◌, List, [], ◌++◌, length, Option, Some, None, refl, ap, sym, ◌∙◌, subst, arith, length-append, ltb-true, lt-ltb}
+use Rattle.std.specs.Prelude.{nat_eq, nat_lt}
 use Rattle.std.specs.Option.{option_map}
 use Rattle.std.proofs.Math.ListN.{get_or-append}
 use Rattle.lh_unit.specs.Naming.{value_text}
@@ -25,7 +24,7 @@ text-more names more None h = refl
 text-more names more (Some v) h = ap Some (get_or-append names more [] v.0 (h v refl))
 
 not-below : (a k : ℕ) → nat_lt a k ≡ false → a < k → ⊥
-not-below a k b i = let q : nat_lt a k ≡ true = of_lt a k i in absurd cc
+not-below a k b i = let q : nat_lt a k ≡ true = lt-ltb a k i in absurd cc
 
 module _ (ns : List Node) (names more : List (List ℕ)) (old new : Values) (e : Emitted) (t : TermId) (v : ValueId) where
   -- the value of one more term
@@ -107,5 +106,5 @@ module _ (ns ms : List Node) (g : Grows ns ms) (one : OneId ms) (names : List (L
           absurd (out (subst (IsIn ns) d w.is_in))
 
       at : (x : TermId) → IsIn ms x → (b : Bool) → nat_lt x.0 (length ns) ≡ b → e.terms (tree_at (trees ms) x) ≡ option_map (value_text (naming names)) (value_in vs x)
-      at x h true b = let i : x.0 < length ns = lt_of x.0 (length ns) b in ap e.terms (tree_grown ns ms g x i) ∙ k.named x i
+      at x h true b = let i : x.0 < length ns = ltb-true x.0 (length ns) b in ap e.terms (tree_grown ns ms g x i) ∙ k.named x i
       at x h false b = new x h (λ i. not-below x.0 (length ns) b i) (e.terms (tree_at (trees ms) x)) refl (value_in vs x) refl

@@ -1,26 +1,24 @@
 -- Operations on the values of terms say what the definition's say.
-use Rattle.std.proofs.Common.{◌≡◌, ℕ, zero, suc, ◌+◌, ◌<◌, ◌≤◌, Bool, true, false, if◌then◌else◌, List, [], ◌∷◌, ◌++◌, length, map, take, drop, get_or, Option, Some, None, refl, ap, sym, ◌∙◌, subst, arith, append_assoc, is_some, add-one}
+use Rattle.std.proofs.Common.{◌≡◌, ℕ, zero, suc, ◌+◌, ◌<◌, ◌≤◌, Bool, true, false, if◌then◌else◌, List, [], ◌∷◌, ◌++◌, length, map, drop, get_or, Option, Some, None, refl, ap, sym, ◌∙◌, arith, append_assoc, is_some, add-one, ltb-true}
 use Rattle.std.proofs.lemmas.List.{map-append, append-nil}
 use Rattle.std.specs.Prelude.{unwrap_or, nat_lt}
 use Rattle.std.specs.Option.{option_map}
 use Rattle.lh_types.specs.Types.{TypeTree}
 use Rattle.lh_types.specs.declared.op.Op.{Op}
-use Rattle.lh_unit.specs.Contents.{OperandText, InstText, pure_text}
+use Rattle.lh_unit.specs.Contents.{pure_text}
 use Rattle.lh_unit.specs.Naming.{Naming, value_text, operand_text, inst_text}
 use Rattle.lh_unit.specs.Within.{Each, OperandWithin}
 use Rattle.lh_unit.specs.declared.inst.Typed.{Typed}
 use Rattle.lh_unit.specs.declared.inst.ValueId.{ValueId}
-use Rattle.lh_unit.specs.declared.inst.Inst.{Inst}
 use Rattle.lh_unit.specs.declared.inst.Inst.TheVariants as inst
 use Rattle.lh_term.specs.Tree.{Tree}
 use Rattle.lh_term.specs.Types.{type_of, first_of, row_result}
 use Rattle.lh_term.specs.Arena.{trees, tree_at, trees_at, ids_below, IsIn, AreIn}
 use Rattle.lh_term.specs.declared.term.TermId.{TermId}
 use Rattle.lh_term.specs.declared.term.Node.{Node}
-use Rattle.lh_term.proofs.Arenas.{lt_of}
 use Rattle.lh_types.specs.Same.{and_both}
-use Rattle.lh_emission.specs.Emitted.{Emitted, term_name, typed, bare}
-use Rattle.lh_emission.specs.Needs.{writes_each, writes_result, types_of_all, written_type, each_typed, first_typed, operation_text}
+use Rattle.lh_emission.specs.Emitted.{Emitted, term_name, bare}
+use Rattle.lh_emission.specs.Needs.{writes_each, writes_result, types_of_all, each_typed, first_typed, operation_text}
 use Rattle.lh_body.specs.Lines.{naming, values_alone}
 use Rattle.lh_emit.specs.Operands.{with_type, without_type, first_with_type}
 use Rattle.lh_emit.specs.Operations.{HaveValues, AreValues, each_with_type, operands_of}
@@ -32,7 +30,7 @@ use Rattle.lh_emit.specs.declared.values.Values.{Values}
 
 pub each-in : (ns : List Node) (xs : List TermId) (k : ℕ) → AreIn ns xs → k < length xs → IsIn ns (get_or xs k (record { 0 = 0 }))
 each-in ns [] k h l = absurd (omega (arith, l))
-each-in ns (x ∷ xs) zero h l = lt_of x.0 (length ns) (and_both (nat_lt x.0 (length ns)) (ids_below (length ns) xs) h).0
+each-in ns (x ∷ xs) zero h l = ltb-true x.0 (length ns) (and_both (nat_lt x.0 (length ns)) (ids_below (length ns) xs) h).0
 each-in ns (x ∷ xs) (suc k) h l = each-in ns xs k (and_both (nat_lt x.0 (length ns)) (ids_below (length ns) xs) h).1 (omega (arith, l))
 
 each-suc : (ns : List Node) (xs : List TermId) (vs : List ValueId) (k : ℕ) (d : TermId) (w : ValueId) → k < length vs → length vs ≡ length xs →
@@ -121,7 +119,7 @@ module _ (ns : List Node) (names : List (List ℕ)) (vs : Values) (e : Emitted) 
   have-values [] h q = tt
   have-values (x ∷ xs) h q =
       let b = and_both (nat_lt x.0 (length ns)) (ids_below (length ns) xs) h in
-      (have-value x (lt_of x.0 (length ns) b.0) q.0, have-values xs b.1 q.1)
+      (have-value x (ltb-true x.0 (length ns) b.0) q.0, have-values xs b.1 q.1)
 
   -- the name of a term is that of its value
   pub value-named : (x : TermId) (v : ValueId) → IsIn ns x → Some v ≡ value_in vs x → (value_text (naming names) v ≡ term_name e (tree_at (trees ns) x)) × (v.0 < length names)
@@ -139,7 +137,7 @@ module _ (ns : List Node) (names : List (List ℕ)) (vs : Values) (e : Emitted) 
       let b = and_both (nat_lt x.0 (length ns)) (ids_below (length ns) xs) h in
       let p : Some v ≡ value_in vs x = cc in
       let r : map Some given ≡ map (value_in vs) xs = cc in
-      let one = value-named x v (lt_of x.0 (length ns) b.0) p in
+      let one = value-named x v (ltb-true x.0 (length ns) b.0) p in
       let more = values-named xs given b.1 r in
       ((λ i. one.0 i ∷ more.0 i), (one.1, more.1))
 

@@ -1,33 +1,29 @@
 -- Need of a part by ids: a whole argument, a part that is there, and one that is new.
-use Rattle.std.proofs.Common.{◌≡◌, ℕ, zero, suc, ◌+◌, ◌<◌, ◌≤◌, Bool, true, false, ◌&&◌, if◌then◌else◌, List, [], ◌∷◌, ◌++◌, length, map, get_or, Option, Some, None, slice_get, refl, ap, sym, ◌∙◌, subst, arith, length-append}
+use Rattle.std.proofs.Common.{◌≡◌, ℕ, zero, suc, ◌+◌, ◌<◌, ◌≤◌, Bool, true, false, if◌then◌else◌, List, [], ◌∷◌, ◌++◌, length, map, get_or, Option, Some, None, slice_get, refl, ap, sym, ◌∙◌, subst, arith, length-append}
 use Rattle.std.specs.Prelude.{unwrap_or, slice_index_or}
 use Rattle.std.specs.Option.{option_map, option_and_then}
 use Rattle.std.proofs.Math.ListN.{get_or-append}
-use Rattle.lh_types.specs.Types.{TypeTree, signal_type, IsData, IsLimited, int_type}
-use Rattle.lh_types.specs.Parts.{Part as TypePart, step_part}
-use Rattle.lh_types.specs.declared.part.Step.{Step}
-use Rattle.lh_types.specs.declared.op.Op.{Op}
-use Rattle.lh_types.proofs.PartLemmas.{step_part-within}
+use Rattle.lh_types.specs.Types.{TypeTree, IsData, IsLimited, int_type}
 use Rattle.lh_unit.specs.Contents.{ArgText}
-use Rattle.lh_unit.specs.Effects.{step_of}
 use Rattle.lh_unit.specs.Naming.{value_text}
 use Rattle.lh_unit.specs.Typing.{or_else}
 use Rattle.lh_unit.specs.declared.inst.Arg.{Arg}
 use Rattle.lh_unit.specs.declared.inst.ValueId.{ValueId}
-use Rattle.lh_term.specs.Tree.{Tree}
 use Rattle.lh_term.specs.Same.{same_part, same_part-is, same_part-refl}
 use Rattle.lh_term.specs.declared.part.Part.{Part}
 use Rattle.lh_term.specs.declared.term.Node.{Node}
 use Rattle.lh_emission.specs.Emitted.{PartStep, Source, Emitted, whole_name, name_if_whole, arg_name, with_part, takes_steps, unless_there, need_part, part_name}
-use Rattle.lh_emission.specs.Entities.{max_lines, choices_fit}
-use Rattle.lh_emission.specs.Ways.{part_by, part_by_step, StepsLead, whole, IsReached}
-use Rattle.lh_body.specs.Lines.{naming, most_lines, LinesAreEmitted, HasRoom, NamesGrow}
+use Rattle.lh_emission.specs.Entities.{max_lines}
+use Rattle.lh_emission.specs.Ways.{StepsLead, whole, IsReached}
+use Rattle.lh_emission.proofs.Stepping.{step-well-to}
+use Rattle.lh_body.specs.Lines.{naming, most_lines, LinesAreEmitted}
 use Rattle.lh_emit.specs.Emitting.{ArgumentsFirst, IsEmitted}
 use Rattle.lh_origin.specs.Origins.{AreStepsOf, step_text, route_text, args_of, IsSource}
-use Rattle.lh_emit.specs.Parts.{part_in, KeepsPart, KnowsParts}
+use Rattle.lh_emit.specs.Parts.{part_in, KeepsPart}
 use Rattle.lh_emit.specs.Steps.{walk, walk_name, AllData, StillWalks, Walks, WalksNot}
 use Rattle.std.specs.Prelude.{Result, Ok, Err}
 use Rattle.std.specs.Result.{IsErrAnd}
+use Rattle.std.proofs.lemmas.Option.{slice_get_within}
 use Rattle.lh_body.specs.declared.lines.EmitFault.{EmitFault}
 use Rattle.lh_emit.specs.Underway.{TakesPart, CanTakePart, GivesNoPart, TakesPartOr, Looks, IsNewPart}
 use Rattle.lh_emit.specs.Whole.{is_whole}
@@ -44,11 +40,6 @@ use Rattle.lh_emit.proofs.Walking.{takes-walk, walk-parts, walk-terms, grows-sam
 
 -- ---- arguments
 
-get-within : {X : Type 0} (xs : List X) (k : ℕ) (x : X) → slice_get xs k ≡ Some x → k < length xs
-get-within [] k x h = absurd cc
-get-within (y ∷ xs) zero x h = omega arith
-get-within (y ∷ xs) (suc k) x h = omega (arith, get-within xs k x h)
-
 -- the items at one place of lists that agree
 same-type : (xs : List Arg) (ys : List ArgText) (k : ℕ) (y : ArgText) (d : Arg) → map (λ (a : Arg). a.ty) xs ≡ map (λ (a : ArgText). a.ty) ys → slice_get ys k ≡ Some y → (k < length xs)
     × ((get_or xs k d).ty ≡ y.ty)
@@ -62,20 +53,6 @@ same-type (x ∷ xs) (z ∷ ys) (suc k) y d e h =
 
 -- ---- steps lead to parts of data types
 
-part-data : (p q : Part) (o : Op) → IsData p.ty → part_by p o ≡ Some q → IsData q.ty
-part-data p q o h e = by (step_of o) e
-  where
-    at : (s : Step) (x : Option TypePart) → step_part p.ty s ≡ x → option_map (λ (r : TypePart). record { arg = p.arg; lo = p.lo + r.lo; ty = r.of }) x ≡ Some q → IsData q.ty
-    at s None g f = absurd cc
-    at s (Some r) g f =
-        let w = step_part-within p.ty s r h g in
-        let z : record { arg = p.arg; lo = p.lo + r.lo; ty = r.of } ≡ q = cc in
-        subst (λ (y : Part). IsData y.ty) z w.is_data
-
-    by : (o : Option Step) → option_and_then (part_by_step p) o ≡ Some q → IsData q.ty
-    by None f = absurd cc
-    by (Some s) f = at s (step_part p.ty s) refl f
-
 route-data : (p q : Part) (xs : List PartStep) (route : List RouteStep) → IsData p.ty → StepsLead p xs q → AreStepsOf xs route → AllData route
 route-data p q [] [] h l e = tt
 route-data p q [] (r ∷ route) h l e = absurd cc
@@ -83,7 +60,7 @@ route-data p q (x ∷ xs) [] h l e = tt
 route-data p q (x ∷ xs) (r ∷ route) h l e =
     let a : route_text r ≡ step_text x = cc in
     let b : map route_text route ≡ map step_text xs = cc in
-    let d : IsData x.to.ty = part-data p x.to x.op h l.0 in
+    let d : IsData x.to.ty = step-well-to p x.to x.op h l.0 in
     (subst IsData (sym (ap (λ z. z.1) a)) d, route-data x.to q xs route d l.1 b)
 
 -- ---- the argument of a part
@@ -106,7 +83,7 @@ module _ (o : Origin) (s : Source) (src : IsSource o s) (p : Part) (r : IsReache
 
   module _ (ns : List Node) (x : Emitter) (e : Emitted) (w : IsEmitted ns s x e) where
     pub from-within : p.arg < length x.lines.names
-    from-within = omega (arith, get-within s.args p.arg r.arg r.there, w.arguments.long)
+    from-within = omega (arith, slice_get_within s.args p.arg r.arg r.there, w.arguments.long)
 
     from-name : slice_index_or x.lines.names p.arg [] ≡ r.arg.name
     from-name = w.arguments.named p.arg r.arg r.there
@@ -219,7 +196,7 @@ module _ (o : Origin) (s : Source) (src : IsSource o s) (p : Part) (r : IsReache
       args-first = record {
         long = omega (arith, w.arguments.long, longer);
         named = λ j y g.
-            let l : j < length x.lines.names = omega (arith, get-within s.args j y g, w.arguments.long) in
+            let l : j < length x.lines.names = omega (arith, slice_get_within s.args j y g, w.arguments.long) in
             ap (λ ns. slice_index_or ns j []) k.grows.1 ∙ get_or-append x.lines.names k.grows.0 [] j l ∙ w.arguments.named j y g;
       }
 

@@ -8,7 +8,7 @@ use Rattle.lh_types.specs.Apply.{apply, no_value}
 use Rattle.lh_types.specs.declared.op.Op.{Op}
 use Rattle.lh_types.specs.declared.op.Op.TheVariants.{Mux}
 use Rattle.lh_types.specs.declared.val.Val.{Val}
-use Rattle.lh_ops.proofs.RowLemmas.{parts_of-data_row}
+use Rattle.lh_types.proofs.DatumRows.{parts_of-data_row}
 
 pub if-some : {X : Type 0} (P Q : X → Type 0) (o : Option X) → ((x : X) → P x → Q x) → IfSome o P → IfSome o Q
 if-some P Q None f h = h

@@ -4,9 +4,9 @@ use Rattle.lh_types.specs.Values.{Datum, array_value, tuple_value, data_row}
 use Rattle.lh_types.specs.Apply.{apply}
 use Rattle.lh_types.specs.ApplyTypes.{FitsOp}
 use Rattle.lh_types.specs.declared.op.Op.TheVariants.{Insf}
+use Rattle.lh_types.proofs.DatumRows.{parts_of-data_row}
 use Rattle.lh_ops.specs.Operands.{parts_within}
 use Rattle.lh_ops.proofs.ArgLemmas.{fits_as, field_within}
-use Rattle.lh_ops.proofs.RowLemmas.{parts_of-data_row}
 
 pub field_there : (k : ℕ) (x y : Datum) → FitsOp (Insf k) (x ∷ y ∷ []) → k < length (parts_within x)
 field_there k x y f = field_within x f.gives k f.row.0 (fits_as (x ∷ y ∷ []) f.types (f.gives ∷ f.row.0 ∷ []) f.values_fit f.row.1).0 f.row.2

@@ -21,7 +21,7 @@ use Rattle.lh_ops.proofs.TypeLemmas.{results_fit_lem}
 use Rattle.lh_unit.specs.Contents.{OperandText, pure_text, UnitText}
 use Rattle.lh_names.specs.Names.{same_name}
 use Rattle.lh_unit.specs.Typing.{value_type, carried, operation_type, first_type}
-use Rattle.lh_unit.specs.Held.{Held, datum_held, cell_held, part_held, Env, as_part, part_at, data_at, bits_in}
+use Rattle.lh_unit.specs.Held.{Held, datum_held, cell_held, part_held, Env, as_part, part_at, data_at, bits_in, as_cell}
 use Rattle.lh_unit.specs.Effects.{step_of, within, stepped, signal_part, operated, read_bits}
 use Rattle.lh_unit.specs.Hierarchy.{if_held}
 use Rattle.lh_names.proofs.NameLists.{same_name-is}
@@ -43,7 +43,7 @@ part-held (Some (datum_held d)) r e = absurd (none-some r e)
 part-held (Some (cell_held d)) r e = absurd (none-some r e)
 
 -- a data type is one that a value may have
-value-type : (t : TypeTree) → IsData t → IsValueType t
+pub value-type : (t : TypeTree) → IsData t → IsValueType t
 value-type time_type d = tt
 value-type (int_type n) d = d
 value-type t d = d
@@ -138,3 +138,9 @@ probes-fit u now e s f row h t g q = by (part_at e s.value) refl (sym (ap (λ (y
 
 pub held-still-fits : HeldStillFits
 held-still-fits u w e result h f go = held-after u w e f result h go
+
+pub cell-held : (o : Option Held) (d : Datum) → option_and_then as_cell o ≡ Some d → o ≡ Some (cell_held d)
+cell-held None d e = absurd (none-some d e)
+cell-held (Some (cell_held x)) d e = ap (λ y. Some (cell_held y)) (same_Some x d e)
+cell-held (Some (datum_held x)) d e = absurd (none-some d e)
+cell-held (Some _) d e = absurd (none-some d e)

@@ -1,9 +1,5 @@
 -- Lists of one item many times, and lists read at an index.
-use Rattle.std.proofs.Common.{◌≡◌, ℕ, ◌+◌, zero, suc, List, [], ◌∷◌, ◌++◌, map, replicate, get_or, Result, Ok, Err, OnOk, refl, ap}
-use Rattle.std.proofs.lemmas.List.{replicate-append-replicate}
-
-pub replicate-more : {X : Type 0} (n : ℕ) (x : X) → replicate n x ++ x ∷ [] ≡ replicate (n + 1) x
-replicate-more n x = replicate-append-replicate n 1 x
+use Rattle.std.proofs.Common.{◌≡◌, ℕ, zero, suc, List, [], ◌∷◌, map, replicate, get_or, Result, Ok, Err, OnOk, refl, ap}
 
 pub map-replicate : {X Y : Type 0} (f : X → Y) (n : ℕ) (x : X) → map f (replicate n x) ≡ replicate n (f x)
 map-replicate f zero x = refl

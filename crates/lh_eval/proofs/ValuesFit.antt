@@ -1,5 +1,5 @@
 -- The values of the operands of an operation fit its row.
-use Rattle.std.proofs.Common.{◌≡◌, ℕ, ◌<◌, zero, suc, List, [], ◌∷◌, length, replicate, true, Option, Some, None, refl, ap, sym, ◌∙◌, subst, arith}
+use Rattle.std.proofs.Common.{◌≡◌, ℕ, ◌<◌, zero, suc, List, [], ◌∷◌, length, replicate, true, Option, Some, None, refl, ap, sym, ◌∙◌, subst, arith, Bool, false}
 use Rattle.std.specs.Option.{option_and_then, option_map}
 use Rattle.std.proofs.lemmas.List.{length-replicate}
 use Rattle.std.proofs.lemmas.Option.{same_Some}
@@ -15,11 +15,12 @@ use Rattle.lh_types.specs.declared.op.OpClass.{OpClass}
 use Rattle.lh_types.specs.declared.op.OpClass.TheVariants as class
 use Rattle.lh_types.specs.declared.part.Step.{Step}
 use Rattle.lh_types.specs.declared.part.Step.TheVariants.{Field, Slice}
+use Rattle.lh_types.specs.Apply.{bit_value}
 use Rattle.lh_bits.proofs.LawProofs.{parts_are_within}
 use Rattle.lh_unit.specs.Contents.{OperandText, pure_text, UnitText}
 use Rattle.lh_unit.specs.Typing.{first_type, with_type, operand_types, array_made, tuple_made, class_type}
 use Rattle.lh_unit.specs.TypingRows.{class_row, shifts, selects, takes_part, puts_part, part_type}
-use Rattle.lh_unit.specs.Held.{Held, datum_held, Env, as_datum, datum_at, data_at, front}
+use Rattle.lh_unit.specs.Held.{Held, datum_held, Env, as_datum, datum_at, data_at, front, as_test}
 use Rattle.lh_unit.specs.Within.{Each}
 use Rattle.lh_formed.specs.Operands.{IsOf, IsLike, IsWritten, OperationIs, RowIs}
 use Rattle.lh_eval.specs.Fitting.{IsValueType, Fits}
@@ -285,3 +286,8 @@ module _ (u : UnitText) (w : ℕ) (e : Env) (f : Fits u w e) where
 
 pub operands-fit-rows : OperandsFitRows
 operands-fit-rows u w e o os f r h ds p = fits-row u w e f o os r h ds p
+
+-- a truth value is read again
+pub test-truth : (b : Bool) → as_test (bit_value b) ≡ Some b
+test-truth true = refl
+test-truth false = refl

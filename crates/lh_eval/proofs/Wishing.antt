@@ -17,8 +17,9 @@ use Rattle.lh_unit.specs.Contents.{OperandText, drv_text, UnitText}
 use Rattle.lh_unit.specs.Effects.{condition_at, drive_due, drive_when, driven}
 use Rattle.lh_unit.specs.Held.{datum_held, Env, datum_at, delay_at, part_at}
 use Rattle.lh_unit.specs.Within.{Each}
+use Rattle.lh_unit.proofs.Lists.{Each-of-map}
 use Rattle.lh_formed.specs.Operands.{RowIs, IsOf}
-use Rattle.lh_formed.proofs.EachItem.{each-split, each-of-map}
+use Rattle.lh_formed.proofs.EachItem.{each-split}
 use Rattle.lh_eval.specs.Fitting.{Fits}
 use Rattle.lh_eval.specs.Wishing.{WishWithin, BitsWithin}
 use Rattle.lh_eval.specs.WishOf.{bits_due, writes_wish}
@@ -74,4 +75,4 @@ pub writes-within : (w : ℕ) (ds : List (Instant × List (ℕ × Bool))) → Wi
 writes-within w [] h = tt
 writes-within w (d ∷ more) h =
     let r = each-split (λ (e : DueBit × Bool). e.0.bit < w) (bits_due d.0 d.1) (writes_wish more) h in
-    (each-of-map (λ (e : DueBit × Bool). e.0.bit < w) (λ (b : ℕ × Bool). (record { due = d.0; bit = b.0 }, b.1)) d.1 r.0, writes-within w more r.1)
+    (Each-of-map (λ (e : DueBit × Bool). e.0.bit < w) (λ (b : ℕ × Bool). (record { due = d.0; bit = b.0 }, b.1)) d.1 r.0, writes-within w more r.1)

@@ -163,11 +163,11 @@ module _ (a : Arena) (u w : ℕ) (args : List Range) (o : IsArena a) (h : u < un
   same-unit : (m : Machine) (at : Stand) (d : Activated) → Ends a m (unit_text_at a u) at d → m.frame.unit.0 ≡ u
   same-unit m at d k = unit-by_name a m.frame.unit.0 u o k.within h (ap (λ (v : UnitText). v.name) (sym k.unit))
 
-  pub finish-gives : (t : Instant) (m : Machine) (fl : Flow) (st : declared.Stand) (ws : List (Instant × List (ℕ × Bool))) (done : Option Activated) → stood m.frame fl ≡ Some st
-      → writes_wish ws ≡ m.wishes → IsGrouped ws → Finishes a u w t m fl done → EndHolds (unit_text_at a u) done
-      → GivesMaybe a u args w (Some (record { next = record { stand = st }; wishes = ws; outcomes = m.outcomes })) done
-  finish-gives t m flow.Goes st ws done e v q k there = absurd (none-some st e)
-  finish-gives t m flow.Lost st ws done e v q k there = absurd (none-some st e)
+  pub finish-gives : (t : Instant) (m : Machine) (fl : Flow) (st : declared.Stand) (ws : List (Instant × List (ℕ × Bool))) (answer : Option Activated) → stood m.frame fl ≡ Some st
+      → writes_wish ws ≡ m.wishes → IsGrouped ws → Finishes a u w t m fl answer → EndHolds (unit_text_at a u) answer
+      → GivesMaybe a u args w (Some (record { next = record { stand = st }; wishes = ws; outcomes = m.outcomes })) answer
+  finish-gives t m flow.Goes st ws answer e v q k there = absurd (none-some st e)
+  finish-gives t m flow.Lost st ws answer e v q k there = absurd (none-some st e)
   finish-gives t m (flow.Waits to on) st ws None e v q k there = absurd k
   finish-gives t m flow.Halts st ws None e v q k there = absurd k
   finish-gives t m (flow.Waits to on) st ws (Some d) e v q k there =
@@ -193,20 +193,20 @@ module _ (a : Arena) (u w : ℕ) (args : List Range) (o : IsArena a) (h : u < un
       subst (λ (x : declared.Stand). GivesActivation a u args w (record { next = record { stand = x }; wishes = ws; outcomes = m.outcomes }) d) (same_Some stand.Halted st e)
       (record { next = k.0.stand; fits = tt; wish = v ∙ k.0.wish; grouped = q; within = writes-within w ws (subst (WishWithin w) (sym (v ∙ k.0.wish)) k.1.wish); outcomes = k.0.outcomes })
 
-  pub finish-none : (t : Instant) (m : Machine) (fl : Flow) (done : Option Activated) → stood m.frame fl ≡ None → Finishes a u w t m fl done → GivesMaybe a u args w None done
-  finish-none t m flow.Goes done e k = absurd k
+  pub finish-none : (t : Instant) (m : Machine) (fl : Flow) (answer : Option Activated) → stood m.frame fl ≡ None → Finishes a u w t m fl answer → GivesMaybe a u args w None answer
+  finish-none t m flow.Goes answer e k = absurd k
   finish-none t m flow.Lost None e k = tt
   finish-none t m flow.Lost (Some d) e k = absurd k
-  finish-none t m (flow.Waits to on) done e k = absurd cc
-  finish-none t m flow.Halts done e k = absurd cc
+  finish-none t m (flow.Waits to on) answer e k = absurd cc
+  finish-none t m flow.Halts answer e k = absurd cc
 
 -- it waits for a later instant
-pub finish-later : (a : Arena) (u w : ℕ) (t : Instant) (m : Machine) (fl : Flow) (st : declared.Stand) (done : Option Activated) → stood m.frame fl ≡ Some st → Finishes a u w t m fl done
+pub finish-later : (a : Arena) (u w : ℕ) (t : Instant) (m : Machine) (fl : Flow) (st : declared.Stand) (answer : Option Activated) → stood m.frame fl ≡ Some st → Finishes a u w t m fl answer
     → WakesLaterBy t st
-finish-later a u w t m flow.Goes st done e k = absurd (none-some st e)
-finish-later a u w t m flow.Lost st done e k = absurd (none-some st e)
+finish-later a u w t m flow.Goes st answer e k = absurd (none-some st e)
+finish-later a u w t m flow.Lost st answer e k = absurd (none-some st e)
 finish-later a u w t m (flow.Waits to on) st None e k = absurd k
-finish-later a u w t m flow.Halts st done e k = subst (WakesLaterBy t) (same_Some stand.Halted st e) tt
+finish-later a u w t m flow.Halts st answer e k = subst (WakesLaterBy t) (same_Some stand.Halted st e) tt
 finish-later a u w t m (flow.Waits to on) st (Some d) e k =
     let there : StandFits w t (unit_text_at a u) (waits (label_name_at a m.frame.unit.0 m.frame.block.0) (label_name_at a m.frame.unit.0 to.0) on.parts on.wake) = subst
     (StandFits w t (unit_text_at a u)) k.1.stand k.2.stand in
@@ -242,10 +242,10 @@ pub no-activation : (bound : ℕ) (s : Scene) (u : UnitText) (p : ProcessState) 
 unfolding activate
 no-activation bound s u p e = sym (ap (option_and_then (λ (x : Control). run bound s (start_point x))) e)
 
-pub answers-some : (a : Arena) (u : ℕ) (args : List Range) (w : ℕ) (act : Act) (done : Option Activated) → GivesMaybe a u args w (Some act) done → ActivationOrRunaway a u args w (Ok act) done
+pub answers-some : (a : Arena) (u : ℕ) (args : List Range) (w : ℕ) (act : Act) (answer : Option Activated) → GivesMaybe a u args w (Some act) answer → ActivationOrRunaway a u args w (Ok act) answer
 answers-some a u args w act None k = absurd k
 answers-some a u args w act (Some d) k = k
 
-pub answers-none : (a : Arena) (u : ℕ) (args : List Range) (w : ℕ) (done : Option Activated) → GivesMaybe a u args w None done → ActivationOrRunaway a u args w (Err fault.Runaway) done
+pub answers-none : (a : Arena) (u : ℕ) (args : List Range) (w : ℕ) (answer : Option Activated) → GivesMaybe a u args w None answer → ActivationOrRunaway a u args w (Err fault.Runaway) answer
 answers-none a u args w None k = tt
 answers-none a u args w (Some d) k = absurd k

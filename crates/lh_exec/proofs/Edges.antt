@@ -1,6 +1,5 @@
 -- Edges from block to block, by ids and by names.
-use Rattle.std.proofs.Common.{◌≡◌, ℕ, ◌<◌, suc, nat_eq, ◌||◌, List, [], ◌∷◌, map, reverse, Bool, true, false, if◌then◌else◌, Option, Some, None, refl, ap, sym, ◌∙◌, subst, arith}
-use Rattle.std.specs.Prelude.{slice_get}
+use Rattle.std.proofs.Common.{◌≡◌, ℕ, ◌<◌, nat_eq, List, [], ◌∷◌, map, reverse, Bool, true, false, if◌then◌else◌, Option, Some, None, refl, ap, sym, ◌∙◌, subst, arith}
 use Rattle.std.specs.Option.{option_and_then, option_map}
 use Rattle.std.proofs.lemmas.Option.{same_Some, none-some, slice_get-get_or}
 use Rattle.lh_types.specs.Values.{Datum}
@@ -19,8 +18,7 @@ use Rattle.lh_unit.specs.declared.inst.ValueId.{ValueId}
 use Rattle.lh_unit.specs.declared.inst.PhiEdge.{PhiEdge}
 use Rattle.lh_unit.specs.declared.inst.Inst.{Inst}
 use Rattle.lh_unit.specs.declared.inst.Inst.TheVariants as inst
-use Rattle.lh_unit.proofs.Lists.{nat_eq-is}
-use Rattle.lh_unit.proofs.ById.{same_label-by_id, block_of-by_id, result-within}
+use Rattle.lh_unit.proofs.ById.{same_label-by_id, block_of-by_id, result-within, is_block-index}
 use Rattle.lh_unit.proofs.ModuleLaws.{block_insts-within}
 use Rattle.lh_eval.specs.Holding.{Holds, datum_in}
 use Rattle.lh_eval.proofs.Holding.{same-held, holds-more}
@@ -34,17 +32,8 @@ use Rattle.lh_exec.specs.Taking.{edge_in, in_front, one_taken, all_taken, put_al
 
 -- ---- the instructions of a block that stands in the unit
 
-block-index : (bs : List BlockId) (b : ℕ) → is_block bs b ≡ true → (j : ℕ) × (slice_get bs j ≡ Some (record { 0 = b }))
-block-index [] b h = absurd cc
-block-index (x ∷ bs) b h = by (nat_eq x.0 b) refl (block-index bs b) h
-  where
-    by : (c : Bool) → nat_eq x.0 b ≡ c → (is_block bs b ≡ true → (j : ℕ) × (slice_get bs j ≡ Some (record { 0 = b }))) → (c || is_block bs b) ≡ true → (j : ℕ)
-        × (slice_get (x ∷ bs) j ≡ Some (record { 0 = b }))
-    by true e go q = (0, let same : x.0 ≡ b = nat_eq-is x.0 b e in λ i. Some (record { 0 = same i }))
-    by false e go q = let r = go q in (suc r.0, r.1)
-
 pub insts-within : (a : Arena) (u : ℕ) (b : BlockId) → IsArena a → u < unit_count a → is_block (blocks_at a u) b.0 ≡ true → Each (λ (i : InstId). i.0 < inst_count a u) (block_insts_at a u b.0)
-insts-within a u b o h e = let j = block-index (blocks_at a u) b.0 e in block_insts-within a u j.0 b o h j.1
+insts-within a u b o h e = let j = is_block-index (blocks_at a u) b.0 e in block_insts-within a u j.0 b o h j.1
 
 -- ---- the names of what is taken
 

@@ -1,8 +1,8 @@
 -- The operands of each instruction of a unit have types, of their kinds.
-use Rattle.std.proofs.Common.{◌≡◌, ◌∙◌, ℕ, List, [], ◌∷◌, map, true, Option, Some, None, refl, ap, sym, subst}
+use Rattle.std.proofs.Common.{◌≡◌, ◌∙◌, ℕ, List, [], ◌∷◌, map, Option, Some, None, refl, ap, sym, subst}
 use Rattle.lh_types.specs.Types.{TypeTree, int_type, time_type, void_type, array_type, tuple_type, signal_type, pointer_type}
 use Rattle.lh_unit.specs.Contents.{ArgText, UnitText}
-use Rattle.lh_unit.specs.Kinds.{Kind, a_datum, a_time, a_signal, a_pointer, kind_of, used, signal_needed, takes}
+use Rattle.lh_unit.specs.Kinds.{Kind, a_datum, a_time, a_signal, kind_of, used, signal_needed}
 use Rattle.lh_unit.specs.Lexemes.{Lexeme}
 use Rattle.lh_unit.specs.Spells.{TypedName, SpellsParam, input_of, SpellsHeader}
 use Rattle.lh_unit.specs.SpellsParts.{SpellsParts, SpellsList}
@@ -14,6 +14,7 @@ use Rattle.lh_unit.specs.declared.inst.UnitKind.TheVariants as kind
 use Rattle.lh_formed.specs.Operands.{IsOf}
 use Rattle.lh_formed.specs.KindsOf.{ArgsHaveKinds, HasTypeOfKind}
 use Rattle.lh_sound.specs.Units.{IsPort, HasPorts, UnitIsSound}
+use Rattle.lh_sound.proofs.FindingElab.{signal-of-kind}
 
 abbrev HasKind : TypeTree → Type 0
 HasKind t = (k : Kind) × (kind_of t ≡ Some k)
@@ -50,18 +51,5 @@ head-kinds kind.Entity n args r ts h p = ports-kind args p
 pub args-have-kinds : (u : UnitText) → UnitIsSound u → ArgsHaveKinds u
 args-have-kinds u s = head-kinds u.kind u.name u.args u.result _ s.printable.headed.1 s.ports
 
--- what a place takes that takes signals
-signal-kind : (t : TypeTree) (k : Kind) → kind_of t ≡ Some k → takes signal_needed k ≡ true → (b : TypeTree) × (t ≡ signal_type b)
-signal-kind (signal_type b) k e h = (b, refl)
-signal-kind (int_type n) a_signal e h = absurd cc
-signal-kind (array_type n b) a_signal e h = absurd cc
-signal-kind (tuple_type r) a_signal e h = absurd cc
-signal-kind time_type a_signal e h = absurd cc
-signal-kind void_type a_signal e h = absurd cc
-signal-kind (pointer_type b) a_signal e h = absurd cc
-signal-kind t a_datum e h = absurd cc
-signal-kind t a_time e h = absurd cc
-signal-kind t a_pointer e h = absurd cc
-
 pub signal-used : (u : UnitText) (n : List ℕ) → HasTypeOfKind u (used signal_needed n) → (b : TypeTree) × IsOf u (signal_type b) n
-signal-used u n h = let s = signal-kind h.0 h.1 h.3 h.4 in (s.0, h.2 ∙ ap Some s.1)
+signal-used u n h = let s = signal-of-kind h.0 h.1 h.3 h.4 in (s.0, h.2 ∙ ap Some s.1)

@@ -9,9 +9,8 @@ use Rattle.lh_types.specs.Wish.{Wish}
 use Rattle.lh_names.specs.declared.name.UnitName.{UnitName}
 use Rattle.lh_names.specs.UnitNames.{same_unit_name, is_assert}
 use Rattle.lh_unit.specs.Contents.{OperandText, EdgeText, InstText, const_text, pure_text, var_text, ld_text, st_text, sig_text, prb_text, drv_text, reg_text, child_text, call_text, phi_text, br_text, branch_text, wait_text, halt_text, ret_text, LineText, BlockText, ArgText, UnitText, ItemText, unit_text, declare_text, is_result_name}
-use Rattle.lh_names.specs.Names.{same_name}
 use Rattle.lh_unit.specs.Named.{block_of, label_or, function_named, unit_named, is_function}
-use Rattle.lh_unit.specs.Held.{Held, datum_held, cell_held, Env, nothing_held, with_held, with_args, as_cell, datum_at, cell_at, data_at, front, test_at, parts_at, with_result}
+use Rattle.lh_unit.specs.Held.{Held, datum_held, cell_held, Env, nothing_held, with_held, with_args, datum_at, cell_at, data_at, front, test_at, parts_at, with_result}
 use Rattle.lh_unit.specs.Effects.{operated, probed, driven}
 use Rattle.lh_unit.specs.Typing.{value_type, result_type, pointer_to, pointed}
 use Rattle.lh_unit.specs.Activation.{Scene, Stand, halted, Control, Caller, Point, Next, goes, ends, no_step, edge_from, result_put, phi_taken, phis_taken, entered, at_first, entry, gives, jumps, wishes, tells, stores, opens, asserted, called, given_back, goes_back, returns, chosen, ends_at, wake_at, waiting, executes, steps_by, step, functions}
@@ -23,10 +22,10 @@ use Rattle.lh_eval.specs.Fitting.{FitsHeld, Fits}
 use Rattle.lh_eval.specs.ResultsFit.{GivenFits}
 use Rattle.lh_eval.specs.Wishing.{WishWithin}
 use Rattle.lh_eval.proofs.ValuesFit.{datum-held}
-use Rattle.lh_eval.proofs.GivesFit.{constants-fit, operations-fit, probes-fit, held-still-fits}
+use Rattle.lh_eval.proofs.GivesFit.{constants-fit, operations-fit, probes-fit, held-still-fits, cell-held}
 use Rattle.lh_eval.proofs.Wishing.{driven-within}
 use Rattle.lh_sound.specs.Units.{HasItsType}
-use Rattle.lh_formed.proofs.EachItem.{each-split}
+use Rattle.lh_formed.proofs.EachItem.{each-split, edge-is}
 use Rattle.lh_exec.specs.Sound.{LineRight, UnitRight, FunctionsRight, ControlFits, GivesResult, ResultFits, CallersFit, lowest, PointFits, StandFits, DoneFits}
 use Rattle.lh_exec.proofs.Waiting.{waiting-fits}
 
@@ -66,12 +65,6 @@ function-is n (unit_text u ∷ items) f e k = by (same_unit_name u.name n) refl 
 
 -- ---- what is held
 
-pub cell-held : (o : Option Held) (d : Datum) → option_and_then as_cell o ≡ Some d → o ≡ Some (cell_held d)
-cell-held None d e = absurd (none-some d e)
-cell-held (Some (cell_held x)) d e = ap (λ y. Some (cell_held y)) (same_Some x d e)
-cell-held (Some (datum_held x)) d e = absurd (none-some d e)
-cell-held (Some _) d e = absurd (none-some d e)
-
 as-held : (w : ℕ) (x y : Held) (t s : TypeTree) → FitsHeld w x t → Some x ≡ Some y → Some t ≡ Some s → FitsHeld w y s
 as-held w x y t s f p q = subst (λ (z : Held). FitsHeld w z s) (same_Some x y p) (subst (FitsHeld w x) (same_Some t s q) f)
 
@@ -101,14 +94,6 @@ module _ (u : UnitText) (w : ℕ) (e : Env) (f : Fits u w e) where
 abbrev MaybeFits : UnitText → ℕ → Option Env → Type 0
 MaybeFits u w None = Unit {0}
 MaybeFits u w (Some e) = Fits u w e
-
-edge-is : (u : UnitText) (t : TypeTree) (from : List ℕ) (es : List EdgeText) (n : List ℕ) → Each (λ (e : EdgeText). IsOf u t e.value) es → edge_from from es ≡ Some n → IsOf u t n
-edge-is u t from [] n e h = absurd (none-some n h)
-edge-is u t from (x ∷ es) n e h = by (edge-is u t from es n e.1) (same_name x.block from) h
-  where
-    by : (edge_from from es ≡ Some n → IsOf u t n) → (b : Bool) → (if b then Some x.value else edge_from from es) ≡ Some n → IsOf u t n
-    by go true q = subst (IsOf u t) (same_Some x.value n q) e.0
-    by go false q = go q
 
 module _ (items : List ItemText) (u : UnitText) (w : ℕ) (from : List ℕ) (e : Env) (f : Fits u w e) where
   phi-fits : (ty : TypeTree) (es : List EdgeText) (r : Option (List ℕ)) → RowIs u (phi_text ty es) → ((n : List ℕ) → r ≡ Some n → value_type u n ≡ Some ty) → (acc : Option Env) → MaybeFits u w acc

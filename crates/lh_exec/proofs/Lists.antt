@@ -1,5 +1,5 @@
 -- Lists that grow item by item.
-use Rattle.std.proofs.Common.{◌≡◌, ℕ, ◌+◌, ◌<◌, List, [], ◌∷◌, ◌++◌, length, map, drop, get_or, set, Bool, true, false, nat_eq, if◌then◌else◌, Option, Some, None, refl, ap, sym, ◌∙◌, subst, append_assoc, add-one, drop-cons, arith}
+use Rattle.std.proofs.Common.{◌≡◌, ℕ, ◌+◌, ◌<◌, List, [], ◌∷◌, ◌++◌, length, map, drop, get_or, set, Bool, true, false, nat_eq, if◌then◌else◌, Option, Some, None, refl, ap, sym, ◌∙◌, subst, append_assoc, add-one, drop-cons}
 use Rattle.std.specs.Option.{option_map}
 use Rattle.std.proofs.lemmas.List.{append-nil, map-append, length-set}
 use Rattle.lh_types.specs.Values.{Datum}
@@ -73,11 +73,6 @@ module _ (from : BlockId) (slots : List (Option Held)) (t : Table) (insts : List
       → option_map (λ ys. old ++ ys) (all_taken from slots t (drop i insts)) ≡ z → option_map (λ ys. new ++ ys) (all_taken from slots t (drop (i + 1) insts)) ≡ z
   take-goes old new z e g = e ∙ sym (ap (λ (l : List InstId). option_map (λ ys. old ++ ys) (all_taken from slots t l)) split) ∙ g
 
-pub each-next : {X : Type 0} (P : X → Type 0) (xs : List X) (i : ℕ) (d : X) → i < length xs → Each P (drop i xs) → Each P (drop (i + 1) xs)
-each-next P xs i d h e =
-    let q : drop i xs ≡ get_or xs i d ∷ drop (i + 1) xs = rw add-one (drop-cons xs i d h) in
-    let f = subst (Each P) q e in f.1
-
 pub edge-in-each : (n : ℕ) (from : BlockId) (es : List PhiEdge) (v : ValueId) → Each (λ (e : PhiEdge). e.value.0 < n) es → edge_in from es ≡ Some v → v.0 < n
 edge-in-each n from [] v w e = absurd (none-some v e)
 edge-in-each n from (x ∷ es) v w e = by (edge-in-each n from es v w.1) (nat_eq x.block.0 from.0) e
@@ -85,10 +80,6 @@ edge-in-each n from (x ∷ es) v w e = by (edge-in-each n from es v w.1) (nat_eq
     by : (edge_in from es ≡ Some v → v.0 < n) → (c : Bool) → (if c then Some x.value else edge_in from es) ≡ Some v → v.0 < n
     by go true q = subst (λ (y : ValueId). y.0 < n) (same_Some x.value v q) w.0
     by go false q = go q
-
-pub nil-of : {X : Type 0} → (xs : List X) → length xs ≡ 0 → xs ≡ []
-nil-of [] e = refl
-nil-of (x ∷ xs) e = absurd (omega (arith, e))
 
 -- ---- parts, one by one
 

@@ -18,14 +18,14 @@ use Rattle.lh_unit.specs.SpellsInst.{gives_value}
 use Rattle.lh_unit.specs.Typing.{is_value_type}
 use Rattle.lh_unit.specs.WellFormed.{is_phi, edges_naming}
 use Rattle.lh_unit.specs.Within.{Each}
+use Rattle.lh_unit.proofs.Lists.{Each-zip, Each-of-map}
 use Rattle.lh_names.proofs.NameLists.{same_name-is, same_name-refl}
 use Rattle.lh_formed.specs.Defined.{IsThere, IsThereOnEdge, OperandsThere}
 use Rattle.lh_formed.specs.Shape.{PhiIsRight}
 use Rattle.lh_formed.specs.Operands.{IsOf, RowIs}
 use Rattle.lh_unit.specs.declared.inst.UnitKind.TheVariants as kind
-use Rattle.lh_formed.proofs.Bools.{each_both}
 use Rattle.lh_eval.specs.Fitting.{Fits}
-use Rattle.lh_formed.proofs.EachItem.{each-split, each-of-map}
+use Rattle.lh_formed.proofs.EachItem.{each-split}
 use Rattle.lh_formed.proofs.AtPlaces.{place-at}
 use Rattle.lh_formed.proofs.There.{there-before, there-after, last-leads}
 use Rattle.lh_sound.proofs.Finding.{value-at}
@@ -238,10 +238,10 @@ module _ (items : List ItemText) (w : ℕ) (u : UnitText) (s : UnitSteady u) (r 
             → Each (λ (y : Use). defines_value y.value u ≡ true) (uses i) → RowIs u i → PhiFound from e i
         at (phi_text ty es) p o k row =
             let once : edges_naming from es ≡ 1 = ap (λ y. edges_naming y es) (sym (ap label_or (block-named from u.blocks text q))) ∙ block-has' p.2 in
-            let both = each_both (IsThereOnEdge u (label_or b.label)) (λ (y : EdgeText). IsOf u ty y.value) (λ (y : EdgeText). IsThereOnEdge u (label_or b.label) y × IsOf u ty y.value)
+            let both = Each-zip (IsThereOnEdge u (label_or b.label)) (λ (y : EdgeText). IsOf u ty y.value) (λ (y : EdgeText). IsThereOnEdge u (label_or b.label) y × IsOf u ty y.value)
             (λ y a c. (a, c)) es o row.1 in
-            let all = each_both (λ (y : EdgeText). IsThereOnEdge u (label_or b.label) y × IsOf u ty y.value) (λ (y : EdgeText). defines_value y.value u ≡ true) (EdgeGood ty) (λ y a c. (a, c)) es both
-            (each-of-map (λ (y : Use). defines_value y.value u ≡ true) (λ (y : EdgeText). used data_or_time_needed y.value) es k) in
+            let all = Each-zip (λ (y : EdgeText). IsThereOnEdge u (label_or b.label) y × IsOf u ty y.value) (λ (y : EdgeText). defines_value y.value u ≡ true) (EdgeGood ty) (λ y a c. (a, c)) es both
+            (Each-of-map (λ (y : Use). defines_value y.value u ≡ true) (λ (y : EdgeText). used data_or_time_needed y.value) es k) in
             let x = edge-found (EdgeGood ty) from es all once in
             let d = edge-value ty row.0 x.0 x.1 x.2 in
             (d.0, ap (option_and_then (datum_at e)) x.3 ∙ d.1)

@@ -18,6 +18,8 @@ use Rattle.lh_unit.specs.Within.{Each}
 use Rattle.lh_unit.specs.declared.inst.UnitKind.{UnitKind}
 use Rattle.lh_unit.specs.declared.inst.UnitKind.TheVariants as kind
 use Rattle.lh_unit.proofs.Within.{Each-more}
+use Rattle.lh_unit.proofs.Lists.{Each-of-map}
+use Rattle.lh_unit.proofs.ContentsLemmas.{Each-by_blocks}
 use Rattle.lh_spelled.specs.ItemLines.{item_line}
 use Rattle.lh_spelled.specs.Printable.{HasInstLine, IsLabelled, HasShape, IsPrintable, IsPrintableItem}
 use Rattle.lh_formed.specs.Defined.{OperandsThere}
@@ -28,10 +30,9 @@ use Rattle.lh_formed.proofs.DefinedLaw.{all_there}
 use Rattle.lh_formed.proofs.OperandsLaw.{operands_are_defined}
 use Rattle.lh_formed.proofs.ShapeLaw.{terminators_end, phis_are_right, all_allowed}
 use Rattle.lh_formed.proofs.There.{as-process, function-runs}
-use Rattle.lh_formed.proofs.EachItem.{each-contained, each-split, each-of-map}
+use Rattle.lh_formed.proofs.EachItem.{each-contained, each-split}
 use Rattle.lh_sound.proofs.SoundLines.{lines-printed}
 use Rattle.lh_sound.proofs.FindingPass.{line-gives}
-use Rattle.lh_exec.proofs.Rights.{by-blocks}
 
 -- what holds at an instruction of a unit without a fault
 pub record PlaceRight (u : UnitText) (p : InstPlaceText) : Type 0 where
@@ -70,7 +71,7 @@ PlacesIn (declare_text d) = Unit {0}
 
 places-in : (items : List ItemText) → Each SiteRight (sites items) → Each PlacesIn items
 places-in [] h = tt
-places-in (unit_text u ∷ more) h = let r = each-split SiteRight (map (site_in u) (places u)) (sites more) h in (each-of-map SiteRight (site_in u) (places u) r.0, places-in more r.1)
+places-in (unit_text u ∷ more) h = let r = each-split SiteRight (map (site_in u) (places u)) (sites more) h in (Each-of-map SiteRight (site_in u) (places u) r.0, places-in more r.1)
 places-in (declare_text d ∷ more) h = (tt, places-in more h)
 
 pub places-of-items : (items : List ItemText) → IsFaultless items → Each PlacesIn items
@@ -102,7 +103,7 @@ unit-steady u e p s =
     record {
       runs = e;
       places = s;
-      given = by-blocks GivesNamed u.blocks (Each-more HasInstLine GivesNamed (lines_of u.blocks) (λ l h. line-gives l.result l.inst (lexemes_in (item_line (inst_item l))) h.1) (lines-printed u p));
+      given = Each-by_blocks GivesNamed u.blocks (Each-more HasInstLine GivesNamed (lines_of u.blocks) (λ l h. line-gives l.result l.inst (lexemes_in (item_line (inst_item l))) h.1) (lines-printed u p));
       shaped = shape.3;
       first = shape.0;
       more = shape.1;

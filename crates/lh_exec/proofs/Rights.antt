@@ -29,7 +29,7 @@ use Rattle.lh_unit.specs.declared.inst.Item.TheVariants as item
 use Rattle.lh_unit.specs.declared.table.Line.{Line}
 use Rattle.lh_names.proofs.NameLists.{same_name-is}
 use Rattle.lh_unit.proofs.Defined.{label_text-named, flat_lines}
-use Rattle.lh_unit.proofs.ById.{block_of-by_id, unit_named-by_id}
+use Rattle.lh_unit.proofs.ById.{block_of-by_id, unit_named-by_id, line_giving-append}
 use Rattle.lh_formed.specs.Calls.{NamedIsRight}
 use Rattle.lh_formed.proofs.Sound.{site_in}
 use Rattle.lh_formed.proofs.CallsLaw.{calls_are_right}
@@ -37,10 +37,11 @@ use Rattle.lh_formed.proofs.ShapeLaw.{labels_are_blocks}
 use Rattle.lh_formed.specs.KindsOf.{ArgsHaveKinds, HasTypeOfKind}
 use Rattle.lh_formed.proofs.KindsLaw.{operands_have_types}
 use Rattle.lh_unit.specs.Kinds.{uses}
+use Rattle.lh_unit.proofs.Lists.{Each-of-map}
+use Rattle.lh_unit.proofs.ContentsLemmas.{Each-by_blocks}
 use Rattle.lh_eval.specs.Sound.{InstIsSound}
-use Rattle.lh_formed.proofs.EachItem.{each-split, each-of-map, each-contained}
+use Rattle.lh_formed.proofs.EachItem.{each-split, each-contained}
 use Rattle.lh_formed.proofs.AtPlaces.{lines-from}
-use Rattle.lh_sound.proofs.NamedOnce.{giving-append}
 use Rattle.lh_sound.proofs.FitLaws.{of-unit, unit-is-sound}
 use Rattle.lh_exec.proofs.Heads.{args-have-kinds}
 use Rattle.lh_exec.specs.Sound.{IsLabel, LineRight, UnitRight, FunctionsRight}
@@ -60,16 +61,11 @@ leading-in : (all items : List ItemText) → Each (SiteLeading all) (sites items
 leading-in all [] e = tt
 leading-in all (unit_text u ∷ more) e =
     let r = each-split (SiteLeading all) (map (site_in u) (places u)) (sites more) e in
-    (lines-from (Leading all u) 1 true u.blocks (each-of-map (SiteLeading all) (site_in u) (places u) r.0), leading-in all more r.1)
+    (lines-from (Leading all u) 1 true u.blocks (Each-of-map (SiteLeading all) (site_in u) (places u) r.0), leading-in all more r.1)
 leading-in all (declare_text d ∷ more) e = (tt, leading-in all more e)
 
 leading-items : (items : List ItemText) → IsFaultless items → Each (LeadingIn items) items
 leading-items items f = leading-in items items (each-contained (SiteLeading items) (sites items) (λ s c. (calls_are_right items s f c, labels_are_blocks items s f c, operands_have_types items s f c)))
-
--- from the lines of all blocks to those of each
-pub by-blocks : (P : LineText → Type 0) (bs : List BlockText) → Each P (lines_of bs) → Each (λ (b : BlockText). Each P b.lines) bs
-by-blocks P [] e = tt
-by-blocks P (b ∷ more) e = let r = each-split P b.lines (lines_of more) e in (r.0, by-blocks P more r.1)
 
 both : (items : List ItemText) (u : UnitText) → ArgsHaveKinds u → (ls : List LineText) → Each (InstIsSound u) ls → Each (Leading items u) ls → Each (LineRight items u) ls
 both items u k [] s e = tt
@@ -89,7 +85,7 @@ module _ (a : Arena) (o : IsArena a) (g : IsWellFormed (contents a)) where
   unit-right u h k =
       let s = unit-is-sound a u o h g (some-kind (kind_at a u) k) in
       record {
-        lines = by-blocks (LineRight (contents a) (unit_text_at a u)) (unit_text_at a u).blocks
+        lines = Each-by_blocks (LineRight (contents a) (unit_text_at a u)) (unit_text_at a u).blocks
             (both (contents a) (unit_text_at a u) (args-have-kinds (unit_text_at a u) s) (lines_of (unit_text_at a u).blocks) s.lines
             (of-unit a u o h g (some-kind (kind_at a u) k) (LeadingIn (contents a)) (leading-items (contents a) g.1)));
         labelled = all-labelled a u k (blocks_at a u);
@@ -182,7 +178,7 @@ module _ (a : Arena) (o : IsArena a) (g : IsWellFormed (contents a)) where
 
   giving-flat : (n : List ℕ) (bs : List BlockText) → inst_giving n bs ≡ line_giving n (flat (map (λ (b : BlockText). b.lines) bs))
   giving-flat n [] = refl
-  giving-flat n (b ∷ bs) = ap (or_else (line_giving n b.lines)) (giving-flat n bs) ∙ sym (giving-append n b.lines (flat (map (λ (x : BlockText). x.lines) bs)))
+  giving-flat n (b ∷ bs) = ap (or_else (line_giving n b.lines)) (giving-flat n bs) ∙ sym (line_giving-append n b.lines (flat (map (λ (x : BlockText). x.lines) bs)))
 
   pub typed-value : (u : ℕ) → u < unit_count a → (n : List ℕ) (t : TypeTree) → value_type (unit_text_at a u) n ≡ Some t → (v : ValueId) × (v.0 < value_count a u) × (value_name_at a u v.0 ≡ n)
   typed-value u h n t e = by (arg_named n (unit_text_at a u).args) refl e

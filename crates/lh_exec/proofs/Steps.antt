@@ -1,9 +1,8 @@
 -- The machine stands for the point that an instruction leads to.
-use Rattle.std.proofs.Common.{◌≡◌, ℕ, ◌<◌, ◌≤◌, nat_lt, List, [], ◌∷◌, ◌++◌, length, reverse, set, Bool, true, false, if◌then◌else◌, Option, Some, None, is_some, IfSome, refl, ap, sym, ◌∙◌, subst, arith}
+use Rattle.std.proofs.Common.{◌≡◌, ℕ, ◌<◌, ◌≤◌, nat_lt, List, [], ◌∷◌, ◌++◌, length, reverse, set, Bool, true, if◌then◌else◌, Option, Some, None, is_some, IfSome, refl, ap, sym, ◌∙◌, subst, arith, lt-ltb, le-ltb}
 use Rattle.std.specs.Option.{option_map}
 use Rattle.std.proofs.lemmas.Option.{same_Some}
 use Rattle.std.proofs.lemmas.List.{reverse-append, length-reverse}
-use Rattle.std.proofs.lemmas.Bool.Decides.{nat_tests}
 use Rattle.lh_types.specs.Values.{Datum}
 use Rattle.lh_unit.specs.Activation.{Control, Caller, Point, goes, no_step, gives, stores, opens, returns, goes_back, Stand, ends_at}
 use Rattle.lh_unit.specs.Arena.{Arena, naming}
@@ -19,12 +18,6 @@ use Rattle.lh_exec.specs.declared.machine.Call.{Call}
 use Rattle.lh_exec.specs.declared.machine.Machine.{Machine}
 use Rattle.lh_exec.specs.declared.machine.Flow.TheVariants as flow
 use Rattle.lh_exec.specs.Standing.{FrameIs, CallIs, CallsAre, MachineIs, InstLeads, MaybeFrame, returned_in, back}
-
-is-below : (m n : ℕ) → m < n → nat_lt m n ≡ true
-is-below m n h = grind (arith, nat_tests)
-
-is-not-below : (m n : ℕ) → n ≤ m → nat_lt m n ≡ false
-is-not-below m n h = grind (arith, nat_tests)
 
 calls-long : (a : Arena) (cs : List Call) (ds : List Caller) → CallsAre a cs ds → length cs ≡ length ds
 calls-long a [] [] k = refl
@@ -112,7 +105,7 @@ module _ (a : Arena) (m : Machine) (p : Point) (k : MachineIs a m p) where
   opens-leads f c name n g w few e calls wish outcomes =
       let r : Option (List ℕ) = maybe_text (naming a m.frame.unit.0) name in
       let long : length p.callers ≡ length m.callers.items = sym (calls-long a (reverse m.callers.items) p.callers k.callers) ∙ length-reverse m.callers.items in
-      let room : nat_lt (length p.callers) 256 ≡ true = is-below (length p.callers) 256 (omega (arith, long, few)) in
+      let room : nat_lt (length p.callers) 256 ≡ true = lt-ltb (length p.callers) 256 (omega (arith, long, few)) in
       let here : MachineIs a n (record p { control = c; callers = record { control = p.control; result = r } ∷ p.callers }) = record {
         arena = k.arena;
         frame = subst (λ (x : UnitFrame). FrameIs a x c) (sym e) g;
@@ -130,7 +123,7 @@ module _ (a : Arena) (m : Machine) (p : Point) (k : MachineIs a m p) where
   opens-none r None h = refl
   opens-none r (Some c) h =
       let long : length p.callers ≡ length m.callers.items = sym (calls-long a (reverse m.callers.items) p.callers k.callers) ∙ length-reverse m.callers.items in
-      ap (λ b. if b then goes (record p { control = c; callers = record { control = p.control; result = r } ∷ p.callers }) else no_step) (is-not-below (length p.callers) 256 (omega (arith, long, h)))
+      ap (λ b. if b then goes (record p { control = c; callers = record { control = p.control; result = r } ∷ p.callers }) else no_step) (le-ltb (length p.callers) 256 (omega (arith, long, h)))
 
   -- the last call goes on
   pub back-leads : (c : Call) (rest : List Call) (h : Option Held) (s : List (Option Held)) (n : Machine) → m.callers.items ≡ rest ++ c ∷ [] → s ≡ given c.frame.slots c.result h

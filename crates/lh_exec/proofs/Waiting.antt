@@ -12,10 +12,11 @@ use Rattle.lh_unit.specs.Kinds.{used, uses, maybe_used, time_needed, signal_need
 use Rattle.lh_unit.specs.Held.{Env, front, part_at, parts_at, delay_at}
 use Rattle.lh_unit.specs.Activation.{Stand, waits, waiting, wake_at}
 use Rattle.lh_unit.specs.Within.{Each}
+use Rattle.lh_unit.proofs.Lists.{Each-of-map}
 use Rattle.lh_formed.specs.KindsOf.{HasTypeOfKind}
 use Rattle.lh_eval.specs.Fitting.{Fits}
 use Rattle.lh_eval.proofs.GivesFit.{part-fits}
-use Rattle.lh_formed.proofs.EachItem.{each-split, each-of-map}
+use Rattle.lh_formed.proofs.EachItem.{each-split}
 use Rattle.lh_exec.specs.States.{WaitsIn, PartsWithin, IsLater}
 use Rattle.lh_exec.specs.Sound.{StandFits}
 use Rattle.lh_exec.proofs.Heads.{signal-used}
@@ -63,5 +64,5 @@ pub waiting-fits : (w : ℕ) (t : Instant) (v : UnitText) (e : Env) → Fits v w
     → Each (HasTypeOfKind v) (uses (wait_text to after signals)) → WaitsIn v block to
     → waiting block to (parts_at e signals) (wake_at t e after) ≡ Some x → StandFits w t v x
 waiting-fits w t v e f block to after signals x k s h =
-    let ks = each-of-map (HasTypeOfKind v) (used signal_needed) signals (each-split (HasTypeOfKind v) (maybe_used time_needed after) (map (used signal_needed) signals) k).1 in
+    let ks = Each-of-map (HasTypeOfKind v) (used signal_needed) signals (each-split (HasTypeOfKind v) (maybe_used time_needed after) (map (used signal_needed) signals) k).1 in
     stands-fit w t v block to (parts_at e signals) (wake_at t e after) x s (parts-within v w e f signals ks) (wake-later t e after) h

@@ -14,7 +14,7 @@ use Rattle.lh_unit.specs.declared.inst.ValueId.{ValueId}
 use Rattle.lh_unit.specs.declared.inst.Arg.{Arg}
 use Rattle.lh_unit.specs.declared.inst.Inst.{Inst}
 use Rattle.lh_unit.specs.declared.table.Line.{Line}
-use Rattle.lh_unit.proofs.Lists.{Same, same, other, same_or, nat_eq-refl, nat_eq-other, or_false, or_true, some_inj}
+use Rattle.lh_unit.proofs.Lists.{Same, same, other, same_or, nat_eq-refl, nat_eq-other, or_false, or_true, some_inj, or_else-none}
 use Rattle.lh_facts.specs.declared.scope.Fact.{Fact}
 use Rattle.lh_facts.specs.FactsOfUnit.{FactAfter, FactsAfter, GivenBy, GivenArg, FactOfInst, FactOfArg, Marks, blank, line_kind, line_type, arg_type}
 use Rattle.lh_types.specs.Types.{TypeTree}
@@ -36,10 +36,6 @@ get-set-other (x ∷ xs) (suc k) zero y h = refl
 get-set-other (x ∷ xs) (suc k) (suc v) y h = get-set-other xs k v y (λ e. h (ap suc e))
 
 -- one more line, and one more argument
-or_else-none : {X : Type 0} → (o : Option X) → or_else o None ≡ o
-or_else-none None = refl
-or_else-none (Some x) = refl
-
 making-more : (ls : List Line) (l : Line) (v : ℕ) → inst_making (ls ++ l ∷ []) v ≡ or_else (inst_making ls v) (if is_result l.result v then Some l.inst else None)
 making-more [] l v = refl
 making-more (x ∷ ls) l v = by (is_result x.result v) (making-more ls l v)

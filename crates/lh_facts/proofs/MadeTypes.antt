@@ -54,13 +54,10 @@ no-array false false false false w x y z t (inr h) = absurd cc
 pub not-data : (n : ℕ) (t : TypeTree) → is_data t ≡ false → None ≡ array_made n t
 not-data n t h = no-array (nat_eq n 0) (not (is_data t)) (nat_lt 16 (depth_of t + 1)) (nat_lt 65536 (n * bit_count t)) Empty WrongPart TooDeep TooManyBits (array_type n t) (inl (ap not h))
 
-mul-le-mul : (n a b : ℕ) → a ≤ b → n * a ≤ n * b
-mul-le-mul n a b h = mul-le-mul_left n h
-
 pub too-many : (n : ℕ) (t : TypeTree) → IsData t → 65536 < n → None ≡ array_made n t
 too-many n t d h =
     let p : 1 ≤ bit_count t = one_le-bit_count t d in
-    let q : n * 1 ≤ n * bit_count t = mul-le-mul n 1 (bit_count t) p in
+    let q : n * 1 ≤ n * bit_count t = mul-le-mul_left n p in
     let r : nat_lt 65536 (n * bit_count t) ≡ true = above (n * bit_count t) (omega (arith, q)) in
     no-array (nat_eq n 0) (not (is_data t)) (nat_lt 16 (depth_of t + 1)) (nat_lt 65536 (n * bit_count t)) Empty WrongPart TooDeep TooManyBits (array_type n t) (inr r)
   where

@@ -1,6 +1,6 @@
 -- Types by their numbers.
-use Rattle.std.proofs.Common.{◌≡◌, ℕ, ◌+◌, ◌<◌, ◌≤◌, ◌==◌, ◌⊎◌, inl, inr, zero, suc, Bool, true, false, List, [], ◌∷◌, ◌++◌, length, get_or, drop, Option, Some, None, is_some, slice_get, refl, ap, sym, ◌∙◌, subst, arith}
-use Rattle.std.specs.Option.{option_map, option_and_then, option_map_or, option_copied}
+use Rattle.std.proofs.Common.{◌≡◌, ℕ, ◌+◌, ◌<◌, ◌≤◌, ◌==◌, inl, inr, zero, suc, Bool, true, false, List, [], ◌∷◌, ◌++◌, length, get_or, drop, Option, Some, None, slice_get, refl, ap, sym, ◌∙◌, subst, arith}
+use Rattle.std.specs.Option.{option_and_then, option_map_or}
 use Rattle.std.specs.Bool.{if◌then◌else◌}
 use Rattle.std.specs.List.{IsDistinct, AllByRecursion, list_any}
 use Rattle.indexmap.specs.IndexSet.{insert_key}
@@ -11,6 +11,7 @@ use Rattle.lh_types.specs.Types.{TypeTree, row_of, same_type}
 use Rattle.lh_types.specs.Same.{same-is, same-refl}
 use Rattle.lh_unit.specs.declared.inst.Arg.{Arg}
 use Rattle.lh_types.proofs.Rows.{row_of-drop}
+use Rattle.lh_types.proofs.Lists.{push_cases, get_last, get_below}
 use Rattle.lh_unit.proofs.Lists.{Same, same, other, same_or, nat_eq-refl, nat_eq-other, not_true, some_inj}
 use Rattle.lh_facts.specs.Digest.{mixed, digest_of, digest_of_row}
 use Rattle.lh_facts.specs.Numbers.{Grows, IsNumberOf, AreNumbersOf}
@@ -121,26 +122,11 @@ numbers-grow old new args numbers g a k x e = by (slice_get numbers k) (a k x e)
     by None p = cc
     by (Some n) p = g n x.ty p
 
-pub push-get : {X : Type 0} → (xs : List X) (x y : X) (k : ℕ) → slice_get (xs ++ x ∷ []) k ≡ Some y → (slice_get xs k ≡ Some y) ⊎ ((k ≡ length xs) × (x ≡ y))
-push-get [] x y zero e = inr (refl, some_inj x y e)
-push-get [] x y (suc k) e = cc
-push-get (z ∷ xs) x y zero e = inl e
-push-get (z ∷ xs) x y (suc k) e = elim (push-get xs x y k e) [ inl p ↦ inl p | inr p ↦ inr (ap suc p.0, p.1) ]
-
-get-end : {X : Type 0} → (xs : List X) (x : X) → slice_get (xs ++ x ∷ []) (length xs) ≡ Some x
-get-end [] x = refl
-get-end (z ∷ xs) x = get-end xs x
-
-get-front : {X : Type 0} → (xs ys : List X) (k : ℕ) → k < length xs → slice_get (xs ++ ys) k ≡ slice_get xs k
-get-front [] ys k h = absurd (omega arith)
-get-front (z ∷ xs) ys zero h = refl
-get-front (z ∷ xs) ys (suc k) h = get-front xs ys k (omega arith)
-
 pub numbers-push : (types : List TypeTree) (args : List Arg) (numbers : List ℕ) (a : Arg) (n : ℕ) → length numbers ≡ length args → AreNumbersOf types args numbers → slice_get types n ≡ Some a.ty
     → AreNumbersOf types (args ++ a ∷ []) (numbers ++ n ∷ [])
-numbers-push types args numbers a n l old e k x g = elim (push-get args a x k g) [
-  | inl p ↦ let h : k < length numbers = omega (arith, slice_get_within args k x p, l) in ap (option_and_then (slice_get types)) (get-front numbers (n ∷ []) k h) ∙ old k x p
+numbers-push types args numbers a n l old e k x g = elim (push_cases args a x k g) [
+  | inl p ↦ let h : k < length numbers = omega (arith, slice_get_within args k x p, l) in ap (option_and_then (slice_get types)) (get_below numbers (n ∷ []) k h) ∙ old k x p
   | inr p ↦
-      let q : slice_get (numbers ++ n ∷ []) k ≡ Some n = ap (slice_get (numbers ++ n ∷ [])) (p.0 ∙ sym l) ∙ get-end numbers n in
+      let q : slice_get (numbers ++ n ∷ []) k ≡ Some n = ap (slice_get (numbers ++ n ∷ [])) (p.0 ∙ sym l) ∙ get_last numbers n in
       ap (option_and_then (slice_get types)) q ∙ e ∙ ap (λ (y : Arg). Some y.ty) p.1
 ]

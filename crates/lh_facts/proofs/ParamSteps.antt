@@ -1,10 +1,11 @@
 -- The numbers of the types of parameters, one argument or one unit more.
 use Rattle.std.proofs.Common.{◌≡◌, ℕ, ◌+◌, ◌<◌, ◌≤◌, List, [], ◌∷◌, ◌++◌, length, get_or, take, Some, slice_get, ap, sym, ◌∙◌, subst, length-append, inl, inr}
 use Rattle.lh_types.specs.Types.{TypeTree}
+use Rattle.lh_types.proofs.Lists.{push_cases}
 use Rattle.lh_unit.specs.Arena.{Arena, args_at}
 use Rattle.lh_unit.specs.declared.inst.Arg.{Arg}
 use Rattle.lh_facts.specs.Numbers.{Grows, AreNumbersOf}
-use Rattle.lh_facts.proofs.Numbering.{push-get, numbers-grow, numbers-push}
+use Rattle.lh_facts.proofs.Numbering.{numbers-grow, numbers-push}
 use Rattle.lh_facts.proofs.KnowingSteps.{take-item, take-all}
 
 -- no argument
@@ -47,7 +48,7 @@ params-long old new ns n l e = ap length e ∙ length-append old (ns ∷ []) ∙
 pub params-push : {args : List Arg} → (old new : List TypeTree) (a : Arena) (params more : List (List ℕ)) (ns : List ℕ) (u : ℕ) → length params ≡ u → more ≡ params ++ ns ∷ []
     → ((v : ℕ) (ms : List ℕ) → slice_get params v ≡ Some ms → AreNumbersOf old (args_at a v) ms) → Grows old new → args ≡ args_at a u → AreNumbersOf new args ns → (v : ℕ) (ms : List ℕ)
     → slice_get more v ≡ Some ms → AreNumbersOf new (args_at a v) ms
-params-push {args} old new a params more ns u l e known g is has v ms h = elim (push-get params ns ms v (ap (λ p. slice_get p v) (sym e) ∙ h)) [
+params-push {args} old new a params more ns u l e known g is has v ms h = elim (push_cases params ns ms v (ap (λ p. slice_get p v) (sym e) ∙ h)) [
   | inl p ↦ numbers-grow old new (args_at a v) ms g (known v ms p)
   | inr p ↦
       let w : args ≡ args_at a v = is ∙ ap (args_at a) (sym l ∙ sym p.0) in

@@ -1,7 +1,7 @@
 -- The values of a copy have the names that the copy gives, and what the copy gives back is what its text gives back.
 use Rattle.std.proofs.Common.{◌≡◌, ℕ, zero, suc, ◌+◌, ◌<◌, true, false, nat_eq, if◌then◌else◌, List, [], ◌∷◌, ◌++◌, length, get_or, set, map, Some, None, refl, ap, sym, ◌∙◌, subst, arith}
 use Rattle.std.specs.List.{flat_map}
-use Rattle.std.proofs.lemmas.List.{map-append, length-map, get_or-set_same, get_or-set_other}
+use Rattle.std.proofs.lemmas.List.{map-append, length-map, get_or-set_same, get_or-set_other, get_or-map}
 use Rattle.std.proofs.lemmas.List.FromFn.{get_or-map-range_with_len}
 use Rattle.lh_unit.specs.Contents.{OperandText, EdgeText, UnitText}
 use Rattle.lh_names.specs.Names.{same_name}
@@ -18,6 +18,7 @@ use Rattle.lh_unit.specs.declared.inst.Inst.{Inst}
 use Rattle.lh_unit.specs.declared.inst.Inst.TheVariants as inst
 use Rattle.lh_unit.proofs.Lists.{Same, same, other, same_or, nat_eq-refl, nat_eq-other}
 use Rattle.lh_unit.proofs.ById.{same_value-by_id}
+use Rattle.lh_unit.proofs.ModuleLaws.{line-placed}
 use Rattle.lh_flat.specs.declared.flat.MergeEdge.{MergeEdge}
 use Rattle.lh_flat.specs.declared.rename.Renaming.{Renaming}
 use Rattle.lh_flat.specs.Copies.{Copy, argument_or, last_piece}
@@ -26,7 +27,6 @@ use Rattle.lh_flat.specs.Reads.{merge_edge_text}
 use Rattle.lh_flat.specs.Renames.{value_in, last_in}
 use Rattle.lh_flat.specs.Building.{line_of, new_ids, bound, call_args, edge_given, insts_give, blocks_give}
 use Rattle.lh_flat.specs.CopyNames.{NamedFrom}
-use Rattle.lh_flat.proofs.Reading.{line-placed}
 use Rattle.lh_flat.proofs.Building.{length-bound}
 use Rattle.lh_flat.proofs.Copying.{line_text_of, arg_names, CopyIs}
 
@@ -41,11 +41,6 @@ named-at name n (x ∷ xs) (suc i) h l = ap name (further n i) ∙ named-at name
   where
     further : (m j : ℕ) → m + suc j ≡ m + 1 + j
     further m j = omega arith
-
-get_or-map : {A B : Type 0} (f : A → B) (xs : List A) (i : ℕ) (d : A) (e : B) → i < length xs → get_or (map f xs) i e ≡ f (get_or xs i d)
-get_or-map f [] i d e l = absurd (omega arith)
-get_or-map f (x ∷ xs) zero d e l = refl
-get_or-map f (x ∷ xs) (suc i) d e l = get_or-map f xs i d e (omega arith)
 
 module _ (a : Arena) (o : IsArena a) (u : ℕ) (l : u < unit_count a) (g : Naming) where
   -- each value has its name behind the path, and a parameter that of its argument

@@ -4,6 +4,7 @@ use Rattle.std.specs.Option.{option_map}
 use Rattle.std.proofs.lemmas.Bool.{cases_lt}
 use Rattle.std.proofs.lemmas.Grind.{common_steps}
 use Rattle.std.proofs.lemmas.List.{get_or_past}
+use Rattle.std.proofs.lemmas.Option.{same_Some}
 use Rattle.lh_unit.specs.ById.{maybe_id, values_used, blocks_named}
 use Rattle.lh_unit.specs.Contents.{EdgeText, LineText}
 use Rattle.lh_unit.specs.Naming.{Naming, value_text, maybe_text}
@@ -39,14 +40,11 @@ inside xs n e = elim (cases_lt n (length xs)) [
       absurd (empty (sym none ∙ e ∙ ap (λ b. if b then get_or xs n [] else 256 ∷ []) out))
 ]
 
-head-same : {A : Type 0} (x y : A) (xs ys : List A) → x ∷ xs ≡ y ∷ ys → x ≡ y
+pub head-same : {A : Type 0} (x y : A) (xs ys : List A) → x ∷ xs ≡ y ∷ ys → x ≡ y
 head-same x y xs ys e = cc
 
-tail-same : {A : Type 0} (x y : A) (xs ys : List A) → x ∷ xs ≡ y ∷ ys → xs ≡ ys
+pub tail-same : {A : Type 0} (x y : A) (xs ys : List A) → x ∷ xs ≡ y ∷ ys → xs ≡ ys
 tail-same x y xs ys e = cc
-
-some-same : {A : Type 0} (x y : A) → Some x ≡ Some y → x ≡ y
-some-same x y e = cc
 
 -- from lists that are one to their items
 each-same : {A B : Type 0} (f g : A → B) (P : A → Type 0) (xs : List A) → ((x : A) → f x ≡ g x → P x) → map f xs ≡ map g xs → Each P xs
@@ -59,7 +57,7 @@ module _ (g h : Naming) (n m : ℕ) (values : (v : ℕ) → g.value_name v ≡ h
 
   result-below : (v : Option ValueId) → maybe_text g v ≡ maybe_text h v → ValuesBelow n (maybe_id v)
   result-below None e = tt
-  result-below (Some v) e = (values v.0 (some-same (value_text g v) (value_text h v) e), tt)
+  result-below (Some v) e = (values v.0 (same_Some (value_text g v) (value_text h v) e), tt)
 
   inst-below : (i : FlatInst) → flat_line_text g i ≡ flat_line_text h i → InstBelow n m i
   inst-below i e = record {
@@ -75,7 +73,7 @@ module _ (g h : Naming) (n m : ℕ) (values : (v : ℕ) → g.value_name v ≡ h
   merge-below : (x : Option Merge) → option_map (merge_text g) x ≡ option_map (merge_text h) x → MaybeBelow n m x
   merge-below None e = tt
   merge-below (Some x) e =
-      let q : merge_text g x ≡ merge_text h x = some-same (merge_text g x) (merge_text h x) e in
+      let q : merge_text g x ≡ merge_text h x = same_Some (merge_text g x) (merge_text h x) e in
       record {
         value = values x.value.0 (ap (λ (t : MergeText). t.value) q);
         edges = each-same (merge_edge_text g) (merge_edge_text h) (EdgeBelow n m) x.edges edge-below (ap (λ (t : MergeText). t.edges) q);

@@ -1,5 +1,5 @@
 -- What the code that builds a flat text has to know: room, new ids, and ids within their numbers.
-use Rattle.std.proofs.Common.{◌≡◌, ℕ, zero, suc, ◌+◌, ◌-◌, ◌<◌, ◌≤◌, min, inl, inr, List, [], ◌∷◌, ◌++◌, length, get_or, drop, set, replicate, refl, ap, sym, ◌∙◌, subst, arith, Option, Some, None}
+use Rattle.std.proofs.Common.{◌≡◌, ℕ, zero, suc, ◌+◌, ◌-◌, ◌<◌, min, inl, inr, List, [], ◌∷◌, ◌++◌, length, drop, set, replicate, refl, ap, sym, ◌∙◌, subst, arith, Option, Some, None}
 use Rattle.std.proofs.lemmas.Bool.{cases_lt}
 use Rattle.std.proofs.lemmas.List.{length-set, length-replicate}
 use Rattle.std.proofs.lemmas.List.FromFn.{map-range_with_len_more, length-map-range_with_len}
@@ -19,6 +19,7 @@ use Rattle.lh_flat.specs.declared.build.Text.{Text}
 use Rattle.lh_flat.specs.Renames.{no_span, sizes_in}
 use Rattle.lh_flat.specs.Fits.{IdsFit}
 use Rattle.lh_flat.specs.Building.{line_of, insts_room, block_room, unit_room, call_room, span_at, spans_with, spans_of, new_ids, bound, call_ids, blocks_give, merge_in, merging, entering, blocks_added, call_added}
+use Rattle.lh_types.proofs.Lists.{drop_end}
 
 -- the room that a call takes
 pub no_room : (k : ℕ) (a : Arena) → call_room k a None ≡ 0
@@ -47,26 +48,15 @@ pub ids-next : (from n k : ℕ) (xs ys : List ValueId) → xs ≡ new_ids from n
 ids-next from n k xs ys e f g = g ∙ ap (λ zs. zs ++ record { 0 = k } ∷ []) e ∙ sym (map-range_with_len_more (λ (j : ℕ). record { 0 = j }) from n k f)
 
 -- beyond the last parameter or the last argument none is bound
-drop-end : {A : Type 0} (xs : List A) (n : ℕ) → length xs ≤ n → drop n xs ≡ []
-drop-end [] zero h = refl
-drop-end [] (suc n) h = refl
-drop-end (x ∷ xs) zero h = absurd (omega arith)
-drop-end (x ∷ xs) (suc n) h = drop-end xs n (omega arith)
-
 no-args : (ps : List Arg) (vs : List ValueId) → vs ≡ bound ps [] vs
 no-args [] vs = refl
 no-args (p ∷ ps) vs = refl
 
 pub bound-none : (ps : List Arg) (xs vs : List ValueId) (n : ℕ) → n ≡ min (length ps) (length xs) → vs ≡ bound (drop n ps) (drop n xs) vs
 bound-none ps xs vs n e = elim (cases_lt (length ps) (length xs)) [
-  | inl l ↦ ap (λ qs. bound qs (drop n xs) vs) (sym (drop-end ps n (omega arith)))
-  | inr l ↦ no-args (drop n ps) vs ∙ ap (λ ys. bound (drop n ps) ys vs) (sym (drop-end xs n (omega arith)))
+  | inl l ↦ ap (λ qs. bound qs (drop n xs) vs) (sym (drop_end ps n (omega arith)))
+  | inr l ↦ no-args (drop n ps) vs ∙ ap (λ ys. bound (drop n ps) ys vs) (sym (drop_end xs n (omega arith)))
 ]
-
-pub arg-within : (n : ℕ) (ps : List Arg) (k : ℕ) (d : Arg) → ArgsWithin n ps → k < length ps → (get_or ps k d).value.0 < n
-arg-within n [] k d h l = absurd (omega arith)
-arg-within n (p ∷ ps) zero d h l = h.0
-arg-within n (p ∷ ps) (suc k) d h l = arg-within n ps k d h.1 (omega arith)
 
 pub length-new_ids : (from n : ℕ) → length (new_ids from n) ≡ n
 length-new_ids from n = length-map-range_with_len (λ (k : ℕ). record { 0 = k }) from n

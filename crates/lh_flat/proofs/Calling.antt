@@ -24,17 +24,18 @@ use Rattle.lh_unit.specs.ById.{inst_line_text}
 use Rattle.lh_unit.specs.Arena.{Arena, IsArena, InstPlaced, contents, item_text_at, unit_text_at, kind_at, table_at, naming, blocks_at, unit_count, unit_name_at}
 use Rattle.lh_unit.specs.WellFormed.{Site, sites, IsFaultless}
 use Rattle.lh_unit.specs.Within.{Each}
-use Rattle.lh_unit.proofs.Lists.{Each-append, Each-left, Each-right}
+use Rattle.lh_unit.proofs.Lists.{Each-append, Each-left, Each-right, Each-of-map}
 use Rattle.lh_unit.proofs.ById.{unit_named-by_id}
+use Rattle.lh_unit.proofs.ModuleLaws.{line-placed}
 use Rattle.lh_formed.specs.Calls.{NamedIsRight}
 use Rattle.lh_formed.proofs.Sound.{site_in}
 use Rattle.lh_formed.proofs.CallsLaw.{calls_are_right}
-use Rattle.lh_formed.proofs.EachItem.{each-contained, each-of-map, each-at}
+use Rattle.lh_formed.proofs.EachItem.{each-contained, each-at}
 use Rattle.lh_formed.proofs.AtPlaces.{lines-from}
+use Rattle.lh_formed.proofs.Capped.{min-zero}
 use Rattle.lh_flat.specs.declared.calls.CallNode.{CallNode}
 use Rattle.lh_flat.specs.Calls.{callee_if, callees_in, callees}
 use Rattle.lh_flat.specs.Graph.{max_counted, counted, no_node, callee_of, with_inst, with_insts, with_block, with_blocks, node_of}
-use Rattle.lh_flat.proofs.Reading.{line-placed}
 
 -- ---- what a module's instructions call
 
@@ -49,7 +50,7 @@ OnItem P items (declare_text d) = Unit {0}
 on-items : (P : List ItemText → UnitText → LineText → Type 0) (all items : List ItemText) → Each (OnSite P all) (sites items) → Each (OnItem P all) items
 on-items P all [] e = tt
 on-items P all (unit_text u ∷ more) e = (
-  lines-from (P all u) 1 true u.blocks (each-of-map (OnSite P all) (site_in u) (places u) (Each-left (OnSite P all) (map (site_in u) (places u)) (sites more) e)),
+  lines-from (P all u) 1 true u.blocks (Each-of-map (OnSite P all) (site_in u) (places u) (Each-left (OnSite P all) (map (site_in u) (places u)) (sites more) e)),
   on-items P all more (Each-right (OnSite P all) (map (site_in u) (places u)) (sites more) e),
 )
 on-items P all (declare_text d ∷ more) e = (tt, on-items P all more e)
@@ -233,14 +234,11 @@ pub callees-names : (a : Arena) (u : ℕ) → callees (unit_text_at a u) ≡ map
 callees-names a u = blocks-names a u (blocks_at a u) ∙ ap (map (λ (t : UnitId). unit_name_at a t.0)) (sym (blocks-callees a u no_node (blocks_at a u)))
 
 -- so many instructions, and so many pieces
-zero_first : (k : ℕ) → 0 + k ≡ k
+pub zero_first : (k : ℕ) → 0 + k ≡ k
 zero_first k = omega arith
 
 one_first : (m k : ℕ) → suc (m + k) ≡ suc m + k
 one_first m k = omega arith
-
-plus_zero : (b e : ℕ) → min b e ≡ min (b + 0) e
-plus_zero b e = omega arith
 
 one_more : (x e n : ℕ) → min (min (x + 1) e + n) e ≡ min (x + suc n) e
 one_more x e n = omega arith
@@ -265,7 +263,7 @@ length-text f t (i ∷ is) = ap suc (length-text f t is)
 
 blocks-count : (a : Arena) (u : ℕ) (n : CallNode) (bs : List BlockId)
     → min (with_blocks a u n bs).insts max_counted ≡ min (n.insts + lines_sum (map (block_text (naming a u) (table_at a u)) bs)) max_counted
-blocks-count a u n [] = plus_zero n.insts max_counted
+blocks-count a u n [] = min-zero n.insts max_counted
 blocks-count a u n (b ∷ bs) =
     blocks-count a u (with_block a u n b) bs
     ∙ insts-count a u (next_piece n) (insts_at (table_at a u) b.0) (lines_sum (map (block_text (naming a u) (table_at a u)) bs))
@@ -297,7 +295,7 @@ next_block : (b e m n k x : ℕ) → x ≡ m + n → min (min (b + 1) e + (m + (
 next_block b e m n k x h = omega arith
 
 blocks-pieces : (a : Arena) (u : ℕ) (n : CallNode) (bs : List BlockId) → min (with_blocks a u n bs).blocks max_counted ≡ min (n.blocks + (length bs + length (blocks_call a u bs))) max_counted
-blocks-pieces a u n [] = plus_zero n.blocks max_counted
+blocks-pieces a u n [] = min-zero n.blocks max_counted
 blocks-pieces a u n (b ∷ bs) =
     blocks-pieces a u (with_block a u n b) bs
     ∙ insts-pieces a u (next_piece n) (insts_at (table_at a u) b.0) (length bs + length (blocks_call a u bs))

@@ -19,6 +19,7 @@ use Rattle.lh_unit.specs.declared.inst.Inst.{Inst}
 use Rattle.lh_unit.specs.declared.inst.Inst.TheVariants as inst
 use Rattle.lh_unit.specs.declared.table.Line.{Line}
 use Rattle.lh_unit.proofs.Defined.{label_text-named}
+use Rattle.lh_unit.proofs.ModuleLaws.{line-placed}
 use Rattle.lh_flat.specs.declared.rename.Renaming.{Renaming}
 use Rattle.lh_flat.specs.declared.build.Text.{Text}
 use Rattle.lh_flat.specs.Graph.{callee_of}
@@ -31,10 +32,10 @@ use Rattle.lh_flat.specs.Agrees.{Agrees}
 use Rattle.lh_flat.specs.Fits.{IdsFit}
 use Rattle.lh_flat.specs.Building.{line_of, no_block, put, taken, line_in, line_added, insts_added, blocks_added}
 use Rattle.lh_flat.specs.CopyNames.{call_names, insts_names, blocks_names, NamedFrom, IsCallable, InstIsRight, BlockIsRight}
-use Rattle.lh_flat.proofs.Reading.{line-placed}
 use Rattle.lh_flat.proofs.Building.{maybe-within}
 use Rattle.lh_flat.proofs.Names.{maybe-same, renames_as_copied}
-use Rattle.lh_flat.proofs.Placing.{named-left, named-right, labels, labels-left, labels-right, moved, read, read-one_more, long-by_text}
+use Rattle.lh_flat.proofs.Placing.{named-left, named-right, labels, labels-left, labels-right, moved, read, read-one_more, long-by_text, none_less}
+use Rattle.lh_types.proofs.Tests.{or_false_left, or_false_right}
 
 -- the text of an instruction of the unit u
 abbrev pub line_text_of : Arena → (u : ℕ) → InstId → LineText
@@ -80,20 +81,12 @@ abbrev pub Tested : (test : UnitName → Bool) → Arena → Option UnitId → T
 Tested test a None = Unit {0}
 Tested test a (Some f) = test (unit_name_at a f.0) ≡ false
 
-or_left : (x y : Bool) → (x || y) ≡ false → x ≡ false
-or_left true y e = cc
-or_left false y e = refl
-
-or_right : (x y : Bool) → (x || y) ≡ false → y ≡ false
-or_right true y e = cc
-or_right false y e = e
-
 pub tested : (test : UnitName → Bool) (a : Arena) (u : ℕ) (i : Inst) (more : List UnitName) → list_any test (callee_if (inst_text (naming a u) i) more) ≡ false → Tested test a (callee_of a i)
     × (list_any test more ≡ false)
 tested test a u (inst.Call f ty args) more =
     elim (is_assert (unit_name_at a f.0)) as (λ b. list_any test (if b then more else unit_name_at a f.0 ∷ more) ≡ false → Tested test a (if b then None else Some f) × (list_any test more ≡ false)) [
       | true ↦ λ e. (tt, e)
-      | false ↦ λ e. (or_left (test (unit_name_at a f.0)) (list_any test more) e, or_right (test (unit_name_at a f.0)) (list_any test more) e)
+      | false ↦ λ e. (or_false_left (test (unit_name_at a f.0)) (list_any test more) e, or_false_right (test (unit_name_at a f.0)) (list_any test more) e)
     ]
 tested test a u (inst.Ret None) more = λ e. (tt, e)
 tested test a u (inst.Ret (Some t)) more = λ e. (tt, e)
@@ -111,8 +104,8 @@ callees-append (x ∷ xs) ys = ap (callee_if x.inst) (callees-append xs ys) ∙ 
 pub any-append : (test : UnitName → Bool) (xs ys : List UnitName) → list_any test (xs ++ ys) ≡ false → (list_any test xs ≡ false) × (list_any test ys ≡ false)
 any-append test [] ys e = (refl, e)
 any-append test (x ∷ xs) ys e =
-    let r : (list_any test xs ≡ false) × (list_any test ys ≡ false) = any-append test xs ys (or_right (test x) (list_any test (xs ++ ys)) e) in
-    (ap (λ b. b || list_any test xs) (or_left (test x) (list_any test (xs ++ ys)) e) ∙ r.0, r.1)
+    let r : (list_any test xs ≡ false) × (list_any test ys ≡ false) = any-append test xs ys (or_false_right (test x) (list_any test (xs ++ ys)) e) in
+    (ap (λ b. b || list_any test xs) (or_false_left (test x) (list_any test (xs ++ ys)) e) ∙ r.0, r.1)
 
 -- the copy c of the unit u has these ids in the flat text that g names
 pub record CopyIs (a : Arena) (fs : List UnitText) (g : Naming) (u : ℕ) (c : Copy) (r : Renaming) : Type 0 where
@@ -179,9 +172,6 @@ block-records k l m n xs ys e f h = ap (λ p. blocked p m xs) e ∙ ap (λ q. bl
 pushed : {A B : Type 0} (F : A → B) (xs : List A) (x : A) (y : B) (rest : List B) → F x ≡ y → map F (xs ++ x ∷ []) ++ rest ≡ map F xs ++ y ∷ rest
 pushed F xs x y rest e = ap (λ zs. zs ++ rest) (map-append F xs (x ∷ [])) ∙ append_assoc (map F xs) (F x ∷ []) rest ∙ ap (λ z. map F xs ++ z ∷ rest) e
 
-plus_none : (n : ℕ) → n ≡ n + 0
-plus_none n = omega arith
-
 behind : (l n c : ℕ) → l ≡ n + suc c → n + 1 + c + 1 ≡ l + 1
 behind l n c e = omega arith
 
@@ -220,7 +210,7 @@ module _ (a : Arena) (o : IsArena a) (fs : List UnitText) (g : Naming) (called :
     blocks = read-one_more g t.blocks t.current
         ∙ ap (λ (xs : List LineText). read g t.blocks ++ record { label = g.label_name (length t.blocks); merge = option_map (merge_text g) t.current.merge; lines = xs } ∷ [])
         (sym (append-nil (map (flat_line_text g) t.current.insts)));
-    values = plus_none t.values;
+    values = none_less t.values;
   }
   lines-read u c r k label (i ∷ more) w n q t h v =
       by (callee_of a (line_of a u i).inst) refl (tested test a u (line_of a u i).inst (callees_in (map (line_text_of a u) more)) q).0
@@ -295,7 +285,7 @@ module _ (a : Arena) (o : IsArena a) (fs : List UnitText) (g : Naming) (called :
       NamedFrom g.label_name (length t.blocks) (labels (flat_map (flat_block copy_of fs c) (map (block_text (naming a u) (table_at a u)) bs))) →
       NamedFrom g.value_name t.values (blocks_names names a u c.path bs) →
       BlocksRead g (flat_map (flat_block copy_of fs c) (map (block_text (naming a u) (table_at a u)) bs)) (blocks_names names a u c.path bs) t (blocks_added called a u r bs t)
-  blocks-read u c r k [] w q t z h v = record { blocks = sym (append-nil (read g t.blocks)); current = z; values = plus_none t.values }
+  blocks-read u c r k [] w q t z h v = record { blocks = sym (append-nil (read g t.blocks)); current = z; values = none_less t.values }
   blocks-read u c r k (x ∷ bs) w q t z h v =
       let is : List InstId = insts_at (table_at a u) x.0 in
       let m : List ℕ = label_name_at a u x.0 in

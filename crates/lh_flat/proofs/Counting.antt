@@ -20,6 +20,7 @@ use Rattle.lh_flat.specs.Graph.{max_counted, node_at, callees_at}
 use Rattle.lh_flat.specs.Measures.{measuring}
 use Rattle.lh_flat.specs.Lengths.{called_length, copy_length}
 use Rattle.lh_formed.proofs.Graphs.{Distinct, no_longer, is_open-in}
+use Rattle.lh_formed.proofs.Capped.{both_capped}
 use Rattle.lh_descent.specs.Measures.{cycle_in}
 use Rattle.lh_flat.proofs.Measuring.{nests, insts_in}
 
@@ -43,9 +44,6 @@ any-named : {P : UnitId → Type 0} (name : ℕ → UnitName) (F : UnitName → 
     → list_any F (map (λ (t : UnitId). name t.0) ts) ≡ list_any G ts
 any-named name F G [] f h = refl
 any-named name F G (t ∷ ts) f h = ap (λ b. b || list_any F (map (λ (x : UnitId). name x.0) ts)) (f t h.0) ∙ ap (λ b. G t || b) (any-named name F G ts f h.1)
-
-pub both_capped : (a b c d e : ℕ) → min a e ≡ min c e → min b e ≡ min d e → min (a + b) e ≡ min (c + d) e
-both_capped a b c d e p q = omega arith
 
 pub capped-named : {P : UnitId → Type 0} (e : ℕ) (name : ℕ → UnitName) (F : UnitName → ℕ) (G : UnitId → ℕ) (ts : List UnitId) → ((t : UnitId) → P t → min (F (name t.0)) e ≡ min (G t) e) → Each P ts
     → min (sum_by F (map (λ (t : UnitId). name t.0) ts)) e ≡ min (sum_by G ts) e

@@ -12,7 +12,7 @@ use Rattle.lh_unit.specs.Arena.{Arena, IsArena, table_at, naming, blocks_at, uni
 use Rattle.lh_unit.specs.declared.inst.UnitId.{UnitId}
 use Rattle.lh_unit.specs.declared.inst.BlockId.{BlockId}
 use Rattle.lh_unit.specs.declared.inst.InstId.{InstId}
-use Rattle.lh_unit.proofs.Lists.{Each-append, Same, same, other, same_or, nat_eq-refl, nat_eq-other, or_true}
+use Rattle.lh_unit.proofs.Lists.{Each-append, Same, same, other, same_or, nat_eq-other, or_true}
 use Rattle.lh_unit.proofs.ModuleLaws.{label-by_name}
 use Rattle.lh_unit.proofs.Defined.{blocks-within}
 use Rattle.lh_unit.proofs.Within.{Each-more}
@@ -25,7 +25,7 @@ use Rattle.lh_flat.specs.Marks.{UnitsAreNamed}
 use Rattle.lh_flat.proofs.Marks.{nothing_behind, longer-apart}
 use Rattle.lh_flat.proofs.Placing.{labels}
 use Rattle.lh_flat.proofs.Copying.{line_text_of, arg_names, opened-none, opened-some, block-named}
-use Rattle.lh_flat.proofs.Nesting.{block-in, copy_names-none, copy_names-next}
+use Rattle.lh_flat.proofs.Nesting.{block-in, copy_names-none, copy_names-next, is_block-head}
 use Rattle.lh_flat.proofs.Apart.{Differs, Apart, differs-from, apart-append, plain-name, name-there, Begins, At, Under, UnderFrom, from-at, from-first, from-later, at-apart, begins-under, line-apart, plain-under, begins-more}
 
 -- no block stands twice
@@ -68,9 +68,6 @@ AtOne a u p bs x = (b : BlockId) × (is_block bs b.0 ≡ true) × At p (label_na
 
 abbrev UnderOne : (a : Arena) (u : ℕ) (p : List ℕ) → List BlockId → List ℕ → Type 0
 UnderOne a u p bs x = (b : BlockId) × (is_block bs b.0 ≡ true) × UnderFrom p (label_name_at a u b.0) 0 x
-
-first-block : (b : BlockId) (bs : List BlockId) → is_block (b ∷ bs) b.0 ≡ true
-first-block b bs = ap (λ x. x || is_block bs b.0) (nat_eq-refl b.0)
 
 later-block : (b c : BlockId) (bs : List BlockId) → is_block bs c.0 ≡ true → is_block (b ∷ bs) c.0 ≡ true
 later-block b c bs q = ap (λ x. nat_eq b.0 c.0 || x) q ∙ or_true (nat_eq b.0 c.0)
@@ -130,7 +127,7 @@ module _ (a : Arena) (o : IsArena a) (fs : List UnitText) (named : UnitsAreNamed
         apart-append (UnderFrom p m 0) (UnderOne a u p bs) (insts_names names a u p m 0 (insts_at (table_at a u) b.0)) (blocks_names names a u p bs) one.0 rest.0 one.1 rest.1
             (λ x y s t e. blocks-apart u l p b bs x y (within-first (label_count a u) b bs w) w.1 gone (from-at p m 0 x s) (under-one-at u p bs y t) e),
         Each-append (UnderOne a u p (b ∷ bs)) (insts_names names a u p m 0 (insts_at (table_at a u) b.0)) (blocks_names names a u p bs)
-            (Each-more (UnderFrom p m 0) (UnderOne a u p (b ∷ bs)) (insts_names names a u p m 0 (insts_at (table_at a u) b.0)) (λ x s. (b, first-block b bs, s)) one.1)
+            (Each-more (UnderFrom p m 0) (UnderOne a u p (b ∷ bs)) (insts_names names a u p m 0 (insts_at (table_at a u) b.0)) (λ x s. (b, is_block-head b bs, s)) one.1)
             (Each-more (UnderOne a u p bs) (UnderOne a u p (b ∷ bs)) (blocks_names names a u p bs) (λ x s. (s.0, later-block b s.0 bs s.1, s.2)) rest.1),
       )
 
@@ -232,7 +229,7 @@ module _ (a : Arena) (o : IsArena a) (fs : List UnitText) (named : UnitsAreNamed
       subst (λ ns. Apart ns × Each (AtOne a u c.path (b ∷ bs)) ns) (sym (map-append (λ (x : FlatBlockText). x.label) X Y)) (
         apart-append (At c.path m) (AtOne a u c.path bs) (labels X) (labels Y) one.0 rest.0 one.1 rest.1
             (λ x y s t e. blocks-apart u l c.path b bs x y (within-first (label_count a u) b bs w) w.1 gone s t e),
-        Each-append (AtOne a u c.path (b ∷ bs)) (labels X) (labels Y) (Each-more (At c.path m) (AtOne a u c.path (b ∷ bs)) (labels X) (λ x s. (b, first-block b bs, s)) one.1)
+        Each-append (AtOne a u c.path (b ∷ bs)) (labels X) (labels Y) (Each-more (At c.path m) (AtOne a u c.path (b ∷ bs)) (labels X) (λ x s. (b, is_block-head b bs, s)) one.1)
             (Each-more (AtOne a u c.path bs) (AtOne a u c.path (b ∷ bs)) (labels Y) (λ x s. (s.0, later-block b s.0 bs s.1, s.2)) rest.1),
       )
 

@@ -1,6 +1,5 @@
 -- What is made for a process reads as its flat text, by names no two of which are alike.
-use Rattle.std.proofs.Common.{◌≡◌, ℕ, zero, suc, ◌+◌, ◌<◌, ◌≤◌, true, false, nat_lt, List, [], ◌∷◌, ◌++◌, length, get_or, map, Option, Some, None, Ok, Err, refl, ap, sym, ◌∙◌, subst, arith}
-use Rattle.std.proofs.lemmas.Grind.{common_steps}
+use Rattle.std.proofs.Common.{◌≡◌, ℕ, zero, suc, ◌+◌, ◌<◌, ◌≤◌, true, false, List, [], ◌∷◌, ◌++◌, length, get_or, map, Option, Some, None, Ok, Err, refl, ap, sym, ◌∙◌, subst, arith, lt-ltb, le-ltb}
 use Rattle.std.proofs.lemmas.List.{length-append, length-map, get_or_append_left}
 use Rattle.lh_unit.specs.Contents.{ArgText, UnitText}
 use Rattle.lh_unit.specs.Named.{is_function}
@@ -43,6 +42,7 @@ use Rattle.lh_flat.proofs.Apart.{apart-at}
 use Rattle.lh_flat.proofs.Distinct.{unit-values, copies-values, unit-labels, copies-labels}
 use Rattle.lh_flat.proofs.Formed.{units-right}
 use Rattle.lh_flat.proofs.Refusing.{Refuses-measured, Refuses-deep, Refuses-large, Flattens-measured, not-deep}
+use Rattle.lh_flat.proofs.Calling.{zero_first}
 
 -- names at their places
 named-by : (name : ℕ → List ℕ) (n : ℕ) (xs : List (List ℕ)) → ((i : ℕ) → i < length xs → name (n + i) ≡ get_or xs i []) → NamedFrom name n xs
@@ -55,11 +55,8 @@ named-by name n (x ∷ xs) h = (ap name (plus_none n) ∙ h 0 (omega arith), nam
     further : (m j : ℕ) → m + 1 + j ≡ m + suc j
     further m j = omega arith
 
-from_zero : (n : ℕ) → 0 + n ≡ n
-from_zero n = omega arith
-
 named-all : (xs : List (List ℕ)) → NamedFrom (λ k. get_or xs k []) 0 xs
-named-all xs = named-by (λ k. get_or xs k []) 0 xs (λ i l. ap (λ k. get_or xs k []) (from_zero i))
+named-all xs = named-by (λ k. get_or xs k []) 0 xs (λ i l. ap (λ k. get_or xs k []) (zero_first i))
 
 abbrev flat_with : List ArgText → List FlatBlockText → FlatText
 flat_with x y = record { args = x; blocks = y }
@@ -68,7 +65,7 @@ texts : (x y : List ArgText) (v w : List FlatBlockText) → x ≡ y → v ≡ w 
 texts x y v w e q = ap (λ z. flat_with z v) e ∙ ap (flat_with y) q
 
 marked-all : (xs : List (List ℕ)) → NamedFrom (name_or_mark xs) 0 xs
-marked-all xs = named-by (name_or_mark xs) 0 xs (λ i l. ap (name_or_mark xs) (from_zero i) ∙ name-inside xs i l)
+marked-all xs = named-by (name_or_mark xs) 0 xs (λ i l. ap (name_or_mark xs) (zero_first i) ∙ name-inside xs i l)
 
 -- a process does not return
 no-function : (k : Option UnitKind) → k ≡ Some kind.Proc → is_function (kind_text k) ≡ true → ⊥
@@ -131,7 +128,7 @@ module _ (a : Arena) (o : IsArena a) (f : IsFaultless (contents a)) (named : Uni
           blocks-read a o fs g (call_added depth a) (flat_copy depth fs) (copy_names depth a) (nests_below depth fs) (calls-read a o fs (units-right a o f) g gu depth) top (top_copy text) ids top-is
           (blocks_at a top)
           (units-right a o f top l k) starts.nests (no_text (value_count a top)) refl gl
-          (moved g.value_name (0 + length own) (value_count a top) inner (from_zero (length own) ∙ own-long) (named-right g.value_name 0 own inner gv))
+          (moved g.value_name (0 + length own) (value_count a top) inner (zero_first (length own) ∙ own-long) (named-right g.value_name 0 own inner gv))
 
     -- the names of its ids
     abbrev names : Naming
@@ -151,7 +148,7 @@ module _ (a : Arena) (o : IsArena a) (f : IsFaultless (contents a)) (named : Uni
     all-values = made-reads.values ∙ ap (λ n. n + length inner) (sym own-long) ∙ sym (length-append own inner)
 
     all-blocks : length made.blocks ≡ length (labels blocks)
-    all-blocks = long-by_text names [] made.blocks blocks made-reads.blocks ∙ from_zero (length blocks) ∙ sym (length-map blocks (λ (b : FlatBlockText). b.label))
+    all-blocks = long-by_text names [] made.blocks blocks made-reads.blocks ∙ zero_first (length blocks) ∙ sym (length-map blocks (λ (b : FlatBlockText). b.label))
 
     args-below : (xs : List Arg) → ArgsWithin (value_count a top) xs → Each (λ (x : Arg). x.value.0 < made.values) xs
     args-below [] w = tt
@@ -200,12 +197,6 @@ module _ (a : Arena) (o : IsArena a) (f : IsFaultless (contents a)) (named : Uni
   pub made_below : nest_deeper max_nested fs (callees text) ≡ false → (t : Flat) → IsMade a top t → IdsBelow t
   made_below h t m = below max_nested h t m.args m.blocks m.values
 
-above_true : (m n : ℕ) → m < n → nat_lt m n ≡ true
-above_true m n h = grind (arith, common_steps)
-
-above_false : (m n : ℕ) → n ≤ m → nat_lt m n ≡ false
-above_false m n h = grind (arith, common_steps)
-
 process-blocks : (k : Option UnitKind) → k ≡ Some kind.Proc → HasBlocks k
 process-blocks k e = subst HasBlocks (sym e) tt
 
@@ -218,21 +209,21 @@ module _ (a : Arena) (g h : List CallNode) (top : ℕ) (o : IsArena a) (f : IsFa
   flat-refused x m = Refuses-measured a g top o f graph l p x m
 
   pub flat-deep : (m : Measure) → Measures measuring g top (Ok m) → 65 < m.depth → flat_of (contents a) (unit_text_at a top) ≡ refused call_too_deep
-  flat-deep m w d = Refuses-deep a g top o f graph l p m w (above_true 65 m.depth d)
+  flat-deep m w d = Refuses-deep a g top o f graph l p m w (lt-ltb 65 m.depth d)
 
   pub flat-large : (m : Measure) → Measures measuring g top (Ok m) → m.depth ≤ 65 → 65536 < m.insts → flat_of (contents a) (unit_text_at a top) ≡ refused flat_too_large
-  flat-large m w d n = Refuses-large a g top o f graph l p m w (above_false 65 m.depth d) (above_true 65536 m.insts n)
+  flat-large m w d n = Refuses-large a g top o f graph l p m w (le-ltb 65 m.depth d) (lt-ltb 65536 m.insts n)
 
   pub flat-made : UnitsAreNamed a → (m : Measure) → Measures measuring g top (Ok m) → m.depth ≤ 65 → m.insts ≤ 65536 → (b : Arena) (u : UnitId) (t : Flat) → b ≡ a → u.0 ≡ top → IsMade b u.0 t
       → Flattens a top (Ok t)
   flat-made n m w d i b u t eb eu t-made = (
     text_of (functions (contents a)) (unit_text_at a top),
-    Flattens-measured a g top o f graph l p m w (above_false 65 m.depth d) (above_false 65536 m.insts i),
-    made_reads a o f n top l (process-blocks (kind_at a top) p) p (not-deep a g top o f graph l p m w (above_false 65 m.depth d)) t
+    Flattens-measured a g top o f graph l p m w (le-ltb 65 m.depth d) (le-ltb 65536 m.insts i),
+    made_reads a o f n top l (process-blocks (kind_at a top) p) p (not-deep a g top o f graph l p m w (le-ltb 65 m.depth d)) t
         (subst (λ x. IsMade a x t) eu (subst (λ x. IsMade x u.0 t) eb t-made)),
   )
 
   pub flat-below : UnitsAreNamed a → (m : Measure) → Measures measuring g top (Ok m) → m.depth ≤ 65 → (b : Arena) (u : UnitId) (t : Flat) → b ≡ a → u.0 ≡ top → IsMade b u.0 t → IdsBelow t
   flat-below n m w d b u t eb eu t-made =
-      made_below a o f n top l (process-blocks (kind_at a top) p) p (not-deep a g top o f graph l p m w (above_false 65 m.depth d)) t
+      made_below a o f n top l (process-blocks (kind_at a top) p) p (not-deep a g top o f graph l p m w (le-ltb 65 m.depth d)) t
       (subst (λ x. IsMade a x t) eu (subst (λ x. IsMade x u.0 t) eb t-made))

@@ -21,13 +21,14 @@ use Rattle.lh_unit.specs.WellFormed.{IsFaultless, is_allowed, labels_named}
 use Rattle.lh_unit.specs.Within.{Each, EdgeWithin}
 use Rattle.lh_unit.proofs.Lists.{Each-left, Each-right}
 use Rattle.lh_unit.proofs.ById.{block_of-by_id}
+use Rattle.lh_unit.proofs.ModuleLaws.{line-placed}
 use Rattle.lh_formed.proofs.CallsLaw.{calls_are_right}
 use Rattle.lh_formed.proofs.ShapeLaw.{labels_are_blocks, all_allowed}
 use Rattle.lh_flat.specs.Graph.{callee_of}
 use Rattle.lh_flat.specs.Agrees.{IsBlockOf, IsCode}
 use Rattle.lh_flat.specs.Building.{line_of}
 use Rattle.lh_flat.specs.CopyNames.{IsCallable, InstIsRight, BlockIsRight, UnitsAreRight}
-use Rattle.lh_flat.proofs.Reading.{line-placed, CalleeIn, callee-in}
+use Rattle.lh_flat.proofs.Reading.{CalleeIn, callee-in}
 use Rattle.lh_flat.proofs.Calling.{LineNames, unit-lines, CallsFunction, call-right}
 use Rattle.lh_flat.proofs.Refusing.{callee-text}
 

@@ -1,6 +1,6 @@
 -- Steps of loops over the items of a list.
-use Rattle.std.proofs.Common.{◌≡◌, ℕ, ◌+◌, ◌<◌, List, [], ◌∷◌, ◌++◌, length, map, drop, drop-cons, get_or, Some, None, refl, ap, sym, ◌∙◌, subst, add-one, append_assoc}
-use Rattle.lh_unit.specs.Within.{Each}
+use Rattle.std.proofs.Common.{◌≡◌, ℕ, ◌+◌, ◌<◌, List, [], ◌∷◌, ◌++◌, length, map, drop, get_or, Some, None, refl, ap, sym, ◌∙◌, append_assoc}
+use Rattle.std.proofs.lemmas.List.{drop_more}
 use Rattle.lh_unit.specs.declared.inst.BlockId.{BlockId}
 use Rattle.lh_unit.specs.declared.inst.Inst.{Inst}
 use Rattle.lh_unit.specs.declared.inst.Inst.TheVariants as inst
@@ -8,19 +8,12 @@ use Rattle.lh_flat.specs.declared.flat.MergeEdge.{MergeEdge}
 use Rattle.lh_flat.specs.declared.rename.Renaming.{Renaming}
 use Rattle.lh_flat.specs.Building.{edge_given}
 
--- the items from one on
-pub drop-at : {A : Type 0} (xs : List A) (k : ℕ) (d : A) → k < length xs → drop k xs ≡ get_or xs k d ∷ drop (k + 1) xs
-drop-at xs k d h = rw (add-one, drop-cons xs k d)
-
 -- what is made of the items, one after another
 pub mapped-next : {A B : Type 0} (f : A → B) (to new : List B) (xs : List A) (k : ℕ) (d : A) (x : B) → k < length xs → new ≡ to ++ x ∷ [] → x ≡ f (get_or xs k d)
     → to ++ map f (drop k xs) ≡ map f xs → new ++ map f (drop (k + 1) xs) ≡ map f xs
 mapped-next f to new xs k d x h e g o =
     ap (λ ys. ys ++ map f (drop (k + 1) xs)) (e ∙ ap (λ y. to ++ y ∷ []) g) ∙ append_assoc to (f (get_or xs k d) ∷ []) (map f (drop (k + 1) xs))
-    ∙ ap (λ ys. to ++ map f ys) (sym (drop-at xs k d h)) ∙ o
-
-pub each-next : {A : Type 0} (P : A → Type 0) (xs : List A) (k : ℕ) (d : A) → k < length xs → Each P (drop k xs) → Each P (drop (k + 1) xs)
-each-next P xs k d h w = (subst (Each P) (drop-at xs k d h) w).1
+    ∙ ap (λ ys. to ++ map f ys) (sym (drop_more xs k d h)) ∙ o
 
 -- what an instruction gives back comes first
 pub edge-first : (r : Renaming) (b : BlockId) (i : Inst) (more : List MergeEdge) → edge_given r b i more ≡ edge_given r b i [] ++ more

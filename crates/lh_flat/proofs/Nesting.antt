@@ -1,5 +1,5 @@
 -- A copy that is built reads as the copy of the unit's text, whatever is copied into it.
-use Rattle.std.proofs.Common.{◌≡◌, ℕ, zero, suc, ◌+◌, ◌<◌, inl, true, false, Bool, ◌||◌, nat_eq, if◌then◌else◌, List, [], ◌∷◌, ◌++◌, length, get_or, replicate, map, Option, Some, None, refl, ap, sym, ◌∙◌, subst, arith, append_assoc, add_assoc}
+use Rattle.std.proofs.Common.{◌≡◌, ℕ, zero, suc, ◌+◌, ◌<◌, inl, true, false, Bool, ◌||◌, nat_eq, if◌then◌else◌, List, [], ◌∷◌, ◌++◌, length, get_or, replicate, map, Option, Some, None, refl, ap, sym, ◌∙◌, subst, append_assoc, add_assoc}
 use Rattle.std.specs.List.{list_any, flat_map}
 use Rattle.std.specs.Option.{option_map, option_map_or}
 use Rattle.std.proofs.lemmas.List.{append-nil, map-append, length-map, length-replicate, length-append}
@@ -20,6 +20,7 @@ use Rattle.lh_unit.specs.declared.table.Line.{Line}
 use Rattle.lh_unit.proofs.Lists.{Same, same, other, same_or, nat_eq-refl, nat_eq-other, or_true}
 use Rattle.lh_unit.proofs.Defined.{blocks-within}
 use Rattle.lh_unit.proofs.ById.{block_of-by_id}
+use Rattle.lh_unit.proofs.ModuleLaws.{line-placed}
 use Rattle.lh_flat.specs.declared.rename.Renaming.{Renaming}
 use Rattle.lh_flat.specs.declared.build.Text.{Text}
 use Rattle.lh_flat.specs.Calls.{callees, callees_of, nest_deeper}
@@ -31,15 +32,11 @@ use Rattle.lh_flat.specs.Agrees.{IsBlockOf}
 use Rattle.lh_flat.specs.Fits.{IdsFit}
 use Rattle.lh_flat.specs.Building.{line_of, unit_room, call_room, spans_of, new_ids, bound, ids_for, call_args, call_ids, blocks_give, merge_in, taken, branch_to, entering, blocks_added, call_added}
 use Rattle.lh_flat.specs.CopyNames.{own_names, blocks_names, copy_names, NamedFrom, IsCallable, UnitsAreRight}
-use Rattle.lh_flat.proofs.Reading.{line-placed}
 use Rattle.lh_flat.proofs.Building.{no_room, room-next, length-new_ids, ids-fit, maybe-within, call_added-next}
-use Rattle.lh_flat.proofs.Placing.{named-left, named-right, labels, moved, read, read-one_more, long-by_text}
+use Rattle.lh_flat.proofs.Placing.{named-left, named-right, labels, moved, read, read-one_more, long-by_text, none_less}
 use Rattle.lh_flat.proofs.Copying.{line_text_of, arg_names, CopyIs, CallReads, BlocksRead, CallsRead, blocks-read}
 use Rattle.lh_flat.proofs.Spanning.{RoomIs, SpanIsRight, blocks-room, spans-right}
 use Rattle.lh_flat.proofs.Binding.{values-named, call_args-named, blocks-given}
-
-plus_none : (n : ℕ) → n ≡ n + 0
-plus_none n = omega arith
 
 -- whether more calls nest below a function
 abbrev pub nests_below : (depth : ℕ) → List UnitText → UnitName → Bool
@@ -59,7 +56,7 @@ nests-named : (a : Arena) (fs : List UnitText) (depth : ℕ) (f : UnitId) → Is
 nests-named a fs depth f k e = sym (below-any depth fs (callees (unit_text_at a f.0))) ∙ ap (nest_deeper depth fs) (sym (callees-named a fs f k)) ∙ e
 
 -- each block of a unit is one of its blocks
-is_block-head : (b : BlockId) (bs : List BlockId) → is_block (b ∷ bs) b.0 ≡ true
+pub is_block-head : (b : BlockId) (bs : List BlockId) → is_block (b ∷ bs) b.0 ≡ true
 is_block-head b bs = ap (λ x. x || is_block bs b.0) (nat_eq-refl b.0)
 
 each-block : (P : BlockId → Type 0) (all bs : List BlockId) → ((b : BlockId) → is_block all b.0 ≡ true → P b) → ((b : BlockId) → is_block bs b.0 ≡ true → is_block all b.0 ≡ true) → Each P bs
@@ -178,7 +175,7 @@ module _ (a : Arena) (o : IsArena a) (fs : List UnitText) (formed : UnitsAreRigh
     where
       by : (bs : List BlockText) → NamedFrom g.label_name at (labels (flat_map (flat_block (flat_copy depth fs) fs c) bs))
           → g.label_name (at + length (flat_map (flat_block (flat_copy depth fs) fs c) bs)) ≡ c.path → g.label_name at ≡ first_piece c (first_label bs)
-      by [] h e = ap g.label_name (plus_none at) ∙ e ∙ sym (append-nil c.path)
+      by [] h e = ap g.label_name (none_less at) ∙ e ∙ sym (append-nil c.path)
       by (b ∷ bs) h e = h.0
 
   -- what is built for a call reads as its copy

@@ -15,7 +15,8 @@ use Rattle.lh_flat.specs.Lengths.{called_length}
 use Rattle.lh_flat.specs.Graph.{max_counted, node_at, callees_at}
 use Rattle.lh_flat.proofs.Measuring.{blocks_in}
 use Rattle.lh_flat.proofs.Lengths.{opened_length, callee-length}
-use Rattle.lh_flat.proofs.Counting.{StandsFor, capped-named, both_capped, sum-apart}
+use Rattle.lh_flat.proofs.Counting.{StandsFor, capped-named, sum-apart}
+use Rattle.lh_formed.proofs.Capped.{both_capped}
 
 -- one more block for each call, and those of the copies
 abbrev pub more_blocks : (blocks_of : UnitText → ℕ) → List UnitText → List LineText → ℕ

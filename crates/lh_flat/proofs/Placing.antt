@@ -6,6 +6,7 @@ use Rattle.lh_flat.specs.declared.flat.FlatBlock.{FlatBlock}
 use Rattle.lh_flat.specs.Flat.{FlatBlockText}
 use Rattle.lh_flat.specs.Reads.{flat_block_text, flat_blocks_text}
 use Rattle.lh_flat.specs.CopyNames.{NamedFrom}
+use Rattle.lh_flat.proofs.Calling.{zero_first}
 
 pub moved : (name : ℕ → List ℕ) (m n : ℕ) (xs : List (List ℕ)) → m ≡ n → NamedFrom name m xs → NamedFrom name n xs
 moved name m n xs e h = subst (λ k. NamedFrom name k xs) e h
@@ -13,7 +14,7 @@ moved name m n xs e h = subst (λ k. NamedFrom name k xs) e h
 one_less : (n k : ℕ) → n + 1 + k ≡ n + suc k
 one_less n k = omega arith
 
-none_less : (n : ℕ) → n ≡ n + 0
+pub none_less : (n : ℕ) → n ≡ n + 0
 none_less n = omega arith
 
 pub named-left : (name : ℕ → List ℕ) (n : ℕ) (xs ys : List (List ℕ)) → NamedFrom name n (xs ++ ys) → NamedFrom name n xs
@@ -48,11 +49,8 @@ read-long g k (x ∷ xs) = ap suc (read-long g (k + 1) xs)
 abbrev pub read : Naming → List FlatBlock → List FlatBlockText
 read g xs = flat_blocks_text g 0 xs
 
-zero_more : (n : ℕ) → 0 + n ≡ n
-zero_more n = omega arith
-
 pub read-one_more : (g : Naming) (xs : List FlatBlock) (b : FlatBlock) → read g (xs ++ b ∷ []) ≡ read g xs ++ flat_block_text g (length xs) b ∷ []
-read-one_more g xs b = read-push g 0 xs b ∙ ap (λ n. read g xs ++ flat_block_text g n b ∷ []) (zero_more (length xs))
+read-one_more g xs b = read-push g 0 xs b ∙ ap (λ n. read g xs ++ flat_block_text g n b ∷ []) (zero_first (length xs))
 
 -- how many blocks there are where so many were added
 pub long-by_text : (g : Naming) (xs ys : List FlatBlock) (more : List FlatBlockText) → read g ys ≡ read g xs ++ more → length ys ≡ length xs + length more

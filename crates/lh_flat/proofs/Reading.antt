@@ -1,21 +1,20 @@
 -- The graph of a module: its units are in it, and so is each function that is called.
-use Rattle.std.proofs.Common.{◌≡◌, ℕ, ◌+◌, ◌<◌, inl, inr, List, [], ◌∷◌, ◌++◌, length, get_or, drop, Option, Some, None, if◌then◌else◌, true, false, refl, ap, sym, ◌∙◌, subst, arith, add-one}
-use Rattle.std.proofs.Math.Seq.{drop-cons}
-use Rattle.std.proofs.lemmas.List.{get_or_past, get_or_append_left, get_or_push, length-append}
+use Rattle.std.proofs.Common.{◌≡◌, ℕ, ◌+◌, ◌<◌, inl, inr, List, [], ◌∷◌, ◌++◌, length, get_or, drop, Option, Some, None, if◌then◌else◌, true, false, ap, sym, ◌∙◌, subst, arith}
+use Rattle.std.proofs.lemmas.List.{get_or_past, get_or_append_left, get_or_push, length-append, drop_more}
 use Rattle.std.specs.List.{slice_get}
 use Rattle.std.proofs.lemmas.Option.{slice_get-get_or}
 use Rattle.std.proofs.lemmas.Bool.{cases_lt}
 use Rattle.lh_names.specs.UnitNames.{is_assert}
 use Rattle.lh_unit.specs.Within.{Each}
-use Rattle.lh_unit.specs.Table.{line_at, insts_at, no_line}
+use Rattle.lh_unit.specs.Table.{line_at, insts_at}
 use Rattle.lh_unit.specs.Arena.{Arena, IsArena, InstPlaced, table_at, blocks_at, unit_count, unit_name_at}
 use Rattle.lh_unit.specs.declared.inst.UnitId.{UnitId}
 use Rattle.lh_unit.specs.declared.inst.BlockId.{BlockId}
 use Rattle.lh_unit.specs.declared.inst.InstId.{InstId}
 use Rattle.lh_unit.specs.declared.inst.Inst.{Inst}
 use Rattle.lh_unit.specs.declared.inst.Inst.TheVariants as inst
-use Rattle.lh_unit.proofs.Lists.{Same, same, other, same_or, Each-append, Each-at}
-use Rattle.lh_unit.proofs.ModuleLaws.{block-within, block_insts-within}
+use Rattle.lh_unit.proofs.Lists.{Same, same, other, same_or, Each-append}
+use Rattle.lh_unit.proofs.ModuleLaws.{block-within, block_insts-within, line-placed}
 use Rattle.lh_flat.specs.declared.calls.CallNode.{CallNode}
 use Rattle.lh_flat.specs.Graph.{no_node, called_of, callee_of, with_inst, with_insts, with_block, with_blocks, node_of, node_at, callees_at, counted, BlockPlaced, IsGraph}
 use Rattle.lh_descent.specs.Measures.{NodesWithin}
@@ -27,9 +26,6 @@ placed-block a u i b o l e = record { within = block-within a u i b o l e; insts
 
 pub placed-at : (a : Arena) (u i : ℕ) (d : BlockId) (xs : List BlockId) → IsArena a → u < unit_count a → xs ≡ blocks_at a u → i < length xs → BlockPlaced a u (get_or xs i d)
 placed-at a u i d xs o l e k = placed-block a u i (get_or xs i d) o l (ap (λ ys. slice_get ys i) (sym e) ∙ slice_get-get_or xs i d k)
-
-pub each-at : (n i : ℕ) (d : InstId) (xs ys : List InstId) → i < length xs → xs ≡ ys → Each (λ (x : InstId). x.0 < n) ys → (get_or xs i d).0 < n
-each-at n i d xs ys l e h = Each-at (λ (x : InstId). x.0 < n) xs i d (subst (Each (λ (x : InstId). x.0 < n)) (sym e) h) l
 
 -- a graph of the first units
 pub record GraphTo (a : Arena) (n : ℕ) (g : List CallNode) : Type 0 where
@@ -51,13 +47,6 @@ GraphTo-push a n g h x o e f = subst (GraphTo a (n + 1)) (sym e) record {
 
 pub GraphTo-all : (a : Arena) (n : ℕ) (g : List CallNode) → n ≡ unit_count a → GraphTo a n g → IsGraph a g
 GraphTo-all a n g e o = record { long = o.long ∙ e; nodes = λ u l. o.nodes u (omega (arith, l, e)) }
-
--- each instruction is placed
-pub line-placed : (a : Arena) (u i : ℕ) → IsArena a → InstPlaced a u (line_at (table_at a u) i).inst
-line-placed a u i o = elim (cases_lt i (length (table_at a u).lines)) [
-  | inl l ↦ o.placed u i (line_at (table_at a u) i) (slice_get-get_or (table_at a u).lines i no_line l)
-  | inr l ↦ let e : line_at (table_at a u) i ≡ no_line = get_or_past (table_at a u).lines i no_line l in subst (λ x. InstPlaced a u x.inst) (sym e) tt
-]
 
 abbrev Inside : ℕ → List UnitId → Type 0
 Inside n ts = Each (λ (t : UnitId). t.0 < n) ts
@@ -112,15 +101,12 @@ graph-within a g o q u = elim (cases_lt u (length g)) [
   | inr l ↦ let e : node_at g u ≡ no_node = get_or_past g u no_node l in subst (λ x. Inside (length g) x.callees) (sym e) tt
 ]
 
-drop_at : {A : Type 0} (xs : List A) (k : ℕ) (d : A) → k < length xs → drop k xs ≡ get_or xs k d ∷ drop (k + 1) xs
-drop_at xs k d l = rw (add-one, drop-cons xs k d) refl
-
 -- the rest of a block's instructions at one more
 pub insts-next : (a : Arena) (u : ℕ) (n m r : CallNode) (is : List InstId) (k : ℕ) (d : InstId) → k < length is → m ≡ with_inst n (callee_of a (line_at (table_at a u) (get_or is k d).0).inst)
     → with_insts a u n (drop k is) ≡ r → with_insts a u m (drop (k + 1) is) ≡ r
-insts-next a u n m r is k d l e h = rw e (sym (ap (with_insts a u n) (drop_at is k d l)) ∙ h)
+insts-next a u n m r is k d l e h = rw e (sym (ap (with_insts a u n) (drop_more is k d l)) ∙ h)
 
 -- the rest of a unit's blocks at one more
 pub blocks-next : (a : Arena) (u : ℕ) (n m r : CallNode) (bs : List BlockId) (k : ℕ) (d : BlockId) → k < length bs → m ≡ with_block a u n (get_or bs k d) → with_blocks a u n (drop k bs) ≡ r
     → with_blocks a u m (drop (k + 1) bs) ≡ r
-blocks-next a u n m r bs k d l e h = rw e (sym (ap (with_blocks a u n) (drop_at bs k d l)) ∙ h)
+blocks-next a u n m r bs k d l e h = rw e (sym (ap (with_blocks a u n) (drop_more bs k d l)) ∙ h)

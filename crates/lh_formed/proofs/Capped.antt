@@ -34,3 +34,9 @@ below_next j d e h k = omega arith
 
 pub right_capped : (a b e y : ℕ) → min b e ≡ y → min (a + b) e ≡ min (a + y) e
 right_capped a b e y q = omega arith
+
+pub min-zero : (b e : ℕ) → min b e ≡ min (b + 0) e
+min-zero b e = omega arith
+
+pub both_capped : (a b c d e : ℕ) → min a e ≡ min c e → min b e ≡ min d e → min (a + b) e ≡ min (c + d) e
+both_capped a b c d e p q = omega arith

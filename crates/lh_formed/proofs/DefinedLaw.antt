@@ -10,9 +10,9 @@ use Rattle.lh_unit.specs.Places.{InstPlaceText}
 use Rattle.lh_unit.specs.Within.{Each}
 use Rattle.lh_unit.specs.WellFormed.{not_defined, values_named, Lacks, SomeEdgeLacks, SomeValueLacks, stands_later, LacksIn}
 use Rattle.lh_formed.specs.Defined.{IsGiven, IsThere, IsThereOnEdge, IsEarlier, OperandsThere, AllThere}
-use Rattle.lh_formed.proofs.Bools.{none_passes}
 use Rattle.lh_formed.proofs.Sound.{at_site}
 use Rattle.lh_unit.proofs.Within.{Each-more}
+use Rattle.lh_unit.proofs.Lists.{Each-fails}
 
 -- what is not lacking on a path is given on it
 given : (u : UnitText) (b : BlockText) (before : List LineText) (n : List ℕ) → ¬ Lacks u n b before → IsGiven u b before n
@@ -50,7 +50,7 @@ earlier_of u p n h = at (args_define n u.args) (lines_define n p.before) refl re
 all_earlier : (u : UnitText) (p : InstPlaceText) (i : InstText) → ¬ (list_any (stands_later u p) (values_named i) ≡ true) → Each (IsEarlier u p.before) (values_named i)
 all_earlier u p i k =
     Each-more (λ n. stands_later u p n ≡ false) (IsEarlier u p.before) (values_named i) (earlier_of u p)
-    (none_passes (stands_later u p) (values_named i) (false_from_ne_true (list_any (stands_later u p) (values_named i)) k))
+    (Each-fails (stands_later u p) (values_named i) (false_from_ne_true (list_any (stands_later u p) (values_named i)) k))
 
 operands_there : (k : UnitKind) (u : UnitText) (p : InstPlaceText) (i : InstText) → ¬ LacksIn k u p i → OperandsThere k u p i
 operands_there kind.Entity u p i n = all_earlier u p i n

@@ -59,10 +59,6 @@ no_longer (x ∷ xs) ys d h =
     (length-without ys x (h x (inl refl))) refl
 
 -- the first of some answers
-pub first-none : {A B : Type 0} (f : A → Option B) (xs : List A) → Each (λ x. f x ≡ None) xs → first_some f xs ≡ None
-first-none f [] h = refl
-first-none f (x ∷ xs) h = ap (λ o. or_else o (first_some f xs)) h.0 ∙ first-none f xs h.1
-
 pub first-at : {A B : Type 0} (f : A → Option B) (xs : List A) (i : ℕ) (x : A) (v : B) → slice_get xs i ≡ Some x → Each (λ y. f y ≡ None) (take i xs) → f x ≡ Some v → first_some f xs ≡ Some v
 first-at f [] i x v e n h = cc
 first-at f (y ∷ ys) zero x v e n h = let s : y ≡ x = cc in ap (λ z. or_else (f z) (first_some f ys)) s ∙ ap (λ o. or_else o (first_some f ys)) h

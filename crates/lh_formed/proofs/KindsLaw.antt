@@ -2,6 +2,7 @@
 use Rattle.std.proofs.Common.{◌≡◌, ℕ, ◌+◌, List, [], ◌∷◌, ◌++◌, length, map, Bool, true, false, if◌then◌else◌, Option, Some, None, refl, ap, sym, ◌∙◌, subst}
 use Rattle.std.specs.Option.{option_map, option_and_then}
 use Rattle.std.proofs.lemmas.Bool.{not-false}
+use Rattle.std.proofs.lemmas.Option.{none-some}
 use Rattle.lh_types.specs.Types.{TypeTree, signal_type, pointer_type}
 use Rattle.lh_unit.specs.Contents.{InstText, var_text, sig_text, LineText, BlockText, ArgText, UnitText, ItemText, is_result_name}
 use Rattle.lh_names.specs.Names.{same_name}
@@ -24,9 +25,6 @@ abbrev IsSome : {A : Type 0} → Option A → Type 0
 IsSome None = ⊥
 IsSome (Some x) = Unit {0}
 
-none_is_none : {A : Type 0} → (x : A) → None ≡ Some x → ⊥
-none_is_none x h = subst IsSome (sym h) tt
-
 -- what each line of a unit gives
 lines_give : (items : List ItemText) (u : UnitText) → has_paths items u ≡ true → NoneHasFault items (map (site_in u) (places u)) → (k : ℕ) (e : Bool) (b : BlockText) (before rest : List LineText)
     → NoneHasFault items (map (site_in u) (places_in k e b before rest)) → Each (λ (l : LineText). GivesTypeOfRow l.inst) rest
@@ -44,7 +42,7 @@ blocks_give items u q w k e (b ∷ more) n =
     (lines_give items u q w k e b [] b.lines r.0, blocks_give items u q w (k + length b.lines) false more r.1)
 
 line_gives : (n : List ℕ) (i : InstText) (ls : List LineText) → Each (λ (l : LineText). GivesTypeOfRow l.inst) ls → line_giving n ls ≡ Some i → GivesTypeOfRow i
-line_gives n i [] g h = absurd (none_is_none i h)
+line_gives n i [] g h = absurd (none-some i h)
 line_gives n i (l ∷ more) g h = at (is_result_name n l.result) (line_gives n i more g.1) h
   where
     at : (x : Bool) → (line_giving n more ≡ Some i → GivesTypeOfRow i) → (if x then Some l.inst else line_giving n more) ≡ Some i → GivesTypeOfRow i
@@ -52,7 +50,7 @@ line_gives n i (l ∷ more) g h = at (is_result_name n l.result) (line_gives n i
     at false r e = r e
 
 inst_gives : (n : List ℕ) (i : InstText) (bs : List BlockText) → Each (λ (b : BlockText). Each (λ (l : LineText). GivesTypeOfRow l.inst) b.lines) bs → inst_giving n bs ≡ Some i → GivesTypeOfRow i
-inst_gives n i [] g h = absurd (none_is_none i h)
+inst_gives n i [] g h = absurd (none-some i h)
 inst_gives n i (b ∷ more) g h = at (line_giving n b.lines) refl (inst_gives n i more g.1) h
   where
     at : (o : Option InstText) → line_giving n b.lines ≡ o → (inst_giving n more ≡ Some i → GivesTypeOfRow i) → or_else o (inst_giving n more) ≡ Some i → GivesTypeOfRow i
@@ -61,7 +59,7 @@ inst_gives n i (b ∷ more) g h = at (line_giving n b.lines) refl (inst_gives n 
 
 -- the type of what an instruction gives is of its kind
 kind_found : (o : Option TypeTree) (k : Kind) → option_and_then kind_of o ≡ Some k → (t : TypeTree) × (o ≡ Some t) × (kind_of t ≡ Some k)
-kind_found None k h = absurd (none_is_none k h)
+kind_found None k h = absurd (none-some k h)
 kind_found (Some t) k h = (t, refl, h)
 
 typed : (i : InstText) (k : Kind) → GivesTypeOfRow i → result_kind i ≡ Some k → (t : TypeTree) × (result_type i ≡ Some t) × (kind_of t ≡ Some k)
@@ -71,7 +69,7 @@ typed i k g h = kind_found (result_type i) k h
 
 -- and of what is named so
 arg_kind : (n : List ℕ) (args : List ArgText) (a : ArgText) → Each (λ (x : ArgText). (k : Kind) × (kind_of x.ty ≡ Some k)) args → arg_named n args ≡ Some a → (k : Kind) × (kind_of a.ty ≡ Some k)
-arg_kind n [] a g h = absurd (none_is_none a h)
+arg_kind n [] a g h = absurd (none-some a h)
 arg_kind n (x ∷ more) a g h = at (same_name x.name n) (arg_kind n more a g.1) h
   where
     at : (b : Bool) → (arg_named n more ≡ Some a → (k : Kind) × (kind_of a.ty ≡ Some k)) → (if b then Some x else arg_named n more) ≡ Some a → (k : Kind) × (kind_of a.ty ≡ Some k)
@@ -83,7 +81,7 @@ value_typed : (u : UnitText) (n : List ℕ) (k : Kind) → ArgsHaveKinds u → E
 value_typed u n k args g h = at (arg_named n u.args) refl h
   where
     from : (o : Option InstText) → inst_giving n u.blocks ≡ o → option_and_then result_kind o ≡ Some k → (t : TypeTree) × (option_and_then result_type o ≡ Some t) × (kind_of t ≡ Some k)
-    from None e q = absurd (none_is_none k q)
+    from None e q = absurd (none-some k q)
     from (Some i) e q = typed i k (inst_gives n i u.blocks g e) q
 
     argument : (a : ArgText) → (j : Kind) × (kind_of a.ty ≡ Some j) → or_else (kind_of a.ty) (option_and_then result_kind (inst_giving n u.blocks)) ≡ Some k → kind_of a.ty ≡ Some k

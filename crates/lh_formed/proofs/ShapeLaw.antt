@@ -10,9 +10,10 @@ use Rattle.lh_unit.specs.Places.{InstPlaceText, places_in, places_from, places, 
 use Rattle.lh_unit.specs.Within.{Each}
 use Rattle.lh_unit.specs.WellFormed.{undefined, not_here, no_terminator, phi_edges, Site, sites, values_named, labels_named, units_named, is_undefined, is_allowed, in_entity, is_empty, ends_wrong, is_phi, edges_naming, names_predecessors, phi_is_wrong, NoneHasFault}
 use Rattle.lh_formed.specs.Shape.{EndsRight, TerminatorsEnd, EndsOnce, EachUnit, BlocksEndOnce, LabelsAreBlocks, PhiIsRight, PhisAreRight, AllAllowed}
-use Rattle.lh_formed.proofs.Bools.{none_of_three, none_passes, each_passes}
+use Rattle.lh_formed.proofs.Bools.{none_of_three, each_passes}
 use Rattle.lh_formed.proofs.Sound.{site_in, none-append, at_site}
 use Rattle.lh_unit.proofs.Within.{Each-more}
+use Rattle.lh_unit.proofs.Lists.{Each-fails}
 
 abbrev IsNil : List LineText → Type 0
 IsNil [] = Unit {0}
@@ -84,9 +85,9 @@ pub all_found : (items : List ItemText) (u : UnitText) (i : InstText) → is_und
 all_found items u i h =
     let r = none_of_three (list_any (λ n. not (defines_value n u)) (values_named i)) (list_any (λ n. not (defines_label n u)) (labels_named i))
     (list_any (λ n. not (defines_unit n items || is_assert n)) (units_named i)) h in (
-      none_passes (λ n. not (defines_value n u)) (values_named i) r.0,
-      none_passes (λ n. not (defines_label n u)) (labels_named i) r.1,
-      none_passes (λ n. not (defines_unit n items || is_assert n))
+      Each-fails (λ n. not (defines_value n u)) (values_named i) r.0,
+      Each-fails (λ n. not (defines_label n u)) (labels_named i) r.1,
+      Each-fails (λ n. not (defines_unit n items || is_assert n))
           (units_named i) r.2,
     )
 
@@ -105,7 +106,7 @@ phi_right u p (phi_text ty edges) h =
     let to = label_or p.block.label in
     let r = none_of_three (list_any (λ (l : LineText). not (is_phi l.inst)) p.before) p.in_entry (not (names_predecessors u to edges)) h in (
       Each-more (λ (l : LineText). not (is_phi l.inst) ≡ false) (λ (l : LineText). is_phi l.inst ≡ true) p.before (λ l g. not-false (is_phi l.inst) g)
-          (none_passes (λ (l : LineText). not (is_phi l.inst)) p.before r.0),
+          (Each-fails (λ (l : LineText). not (is_phi l.inst)) p.before r.0),
       r.1,
       Each-more (λ (b : BlockText). (not (has_edge b to) || nat_eq (edges_naming (label_or b.label) edges) 1) ≡ true)
           (λ (b : BlockText). has_edge b to ≡ true → edges_naming (label_or b.label) edges ≡ 1)

@@ -15,14 +15,11 @@ IsSome (Some p) = Unit {0}
 abbrev LiesIn : ℕ → Part → Type 0
 LiesIn n p = p.lo + bit_count p.of ≤ n
 
-times_le : (w a b : ℕ) → a ≤ b → w * a ≤ w * b
-times_le w a b h = mul-le-mul_left w h
-
 element_within : (k n w : ℕ) → nat_lt k n ≡ true → k * w + w ≤ n * w
-element_within k n w h = let l : k + 1 ≤ n = grind (arith, nat_tests) in let q : w * (k + 1) ≤ w * n = times_le w (k + 1) n l in grind arith
+element_within k n w h = let l : k + 1 ≤ n = grind (arith, nat_tests) in let q : w * (k + 1) ≤ w * n = mul-le-mul_left w l in grind arith
 
 slice_within : (at len n w : ℕ) → nat_le (at + len) n ≡ true → at * w + len * w ≤ n * w
-slice_within at len n w h = let l : at + len ≤ n = grind (arith, nat_tests) in let q : w * (at + len) ≤ w * n = times_le w (at + len) n l in grind arith
+slice_within at len n w h = let l : at + len ≤ n = grind (arith, nat_tests) in let q : w * (at + len) ≤ w * n = mul-le-mul_left w l in grind arith
 
 bits_within_it : (at len n : ℕ) → nat_le (at + len) n ≡ true → at + len ≤ n
 bits_within_it at len n h = grind (arith, nat_tests)

@@ -1,14 +1,12 @@
 -- Pieces of a text, put one behind the other.
 use Rattle.std.proofs.Common.{◌≡◌, ℕ, List, ◌++◌, Result, Ok, Err, OnOk, ap, sym, ◌∙◌, append_assoc}
-
-two : (start one now a b : List ℕ) → one ≡ start ++ a → now ≡ one ++ b → now ≡ start ++ (a ++ b)
-two start one now a b e g = g ∙ ap (λ l. l ++ b) e ∙ append_assoc start a b
+use Rattle.lh_types.proofs.Lists.{append_twice}
 
 three : (start one second now a b d : List ℕ) → one ≡ start ++ a → second ≡ one ++ b → now ≡ second ++ d → now ≡ start ++ (a ++ b ++ d)
-three start one second now a b d e g h = two start second now (a ++ b) d (two start one second a b e g) h
+three start one second now a b d e g h = append_twice start second now (a ++ b) d (append_twice start one second a b e g) h
 
 four : (start one second third now a b d f : List ℕ) → one ≡ start ++ a → second ≡ one ++ b → third ≡ second ++ d → now ≡ third ++ f → now ≡ start ++ (a ++ b ++ d ++ f)
-four start one second third now a b d f e g h k = two start third now (a ++ b ++ d) f (three start one second third a b d e g h) k
+four start one second third now a b d f e g h k = append_twice start third now (a ++ b ++ d) f (three start one second third a b d e g h) k
 
 pub last-of-four : {T E : Type 0} (r : Result T E) (start one second third now a b d f : List ℕ) → one ≡ start ++ a → second ≡ one ++ b → third ≡ second ++ d → OnOk r (now ≡ third ++ f)
     → OnOk r (now ≡ start ++ (a ++ b ++ d ++ f))

@@ -9,8 +9,8 @@ use Rattle.std.proofs.lemmas.Bool.Decides.{nat_tests}
 use Rattle.std.proofs.lemmas.Cmp.{then_total, on_total, nat_cmp_total, tied_itself}
 use Rattle.lh_time.specs.declared.Instant.{Instant}
 use Rattle.lh_time.specs.Order.{instant_cmp}
-use Rattle.lh_time.proofs.OrderLemmas.{instant_cmp_total}
-use Rattle.lh_history.proofs.Orders.{is_less, then_equal, nat_one}
+use Rattle.lh_time.proofs.OrderLemmas.{instant_cmp_total, nat_less, nat_is_less, is_less}
+use Rattle.lh_history.proofs.Orders.{then_equal, nat_one}
 use Rattle.lh_history.proofs.Instants.{instant_one}
 use Rattle.lh_types.specs.Wish.{DueBit, Wish, due_bit, due_bit_cmp, with_bit, with_bits, IsBelow, IsInOrder}
 
@@ -62,14 +62,8 @@ due_bit_one a b h =
     same_key : (t u : Instant) (i j : ℕ) → t ≡ u → i ≡ j → due_bit t i ≡ due_bit u j
     same_key t u i j x y = cc
 
-nat_less : (a b : ℕ) → a < b → nat_cmp a b ≡ Less
-nat_less a b h = grind (arith, nat_tests)
-
 nat_not_less : (a b : ℕ) → b ≤ a → is_lt (nat_cmp a b) ≡ false
 nat_not_less a b h = grind (arith, nat_tests)
-
-pub nat_is_less : (a b : ℕ) → nat_cmp a b ≡ Less → a < b
-nat_is_less a b h = grind (arith, nat_tests)
 
 -- bits of one instant
 pub same-less : (t u : Instant) (i j : ℕ) → instant_cmp t u ≡ Equal → i < j → due_bit_cmp (due_bit t i) (due_bit u j) ≡ Less

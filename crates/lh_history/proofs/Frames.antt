@@ -27,7 +27,7 @@ histories_join (m ∷ before) more =
     ap (λ cs. claims_of m.made m.instance m.wish ++ cs) (histories_join before more)
     ∙ sym (append_assoc (claims_of m.made m.instance m.wish) (claims before) (claims more))
 
-claims-kept : (made : Instant) (i : ℕ) (w : Wish) → claims (kept made i w) ≡ claims_of made i w
+pub claims-kept : (made : Instant) (i : ℕ) (w : Wish) → claims (kept made i w) ≡ claims_of made i w
 claims-kept made i [] = refl
 claims-kept made i (e ∷ more) = append-nil (claims_of made i (e ∷ more))
 

@@ -2,13 +2,8 @@
 use Rattle.std.proofs.Common.{◌≡◌, ℕ, true, false, refl, arith}
 use Rattle.std.specs.declared.cmp.Ordering.{Ordering}
 use Rattle.std.specs.declared.cmp.Ordering.TheVariants.{Less, Equal, Greater}
-use Rattle.std.specs.Ordering.{is_lt, is_le, is_gt, ordering_then, ordering_reverse, nat_cmp}
+use Rattle.std.specs.Ordering.{is_le, is_gt, ordering_then, ordering_reverse, nat_cmp}
 use Rattle.std.proofs.lemmas.Bool.Decides.{nat_tests}
-
-pub is_less : (o : Ordering) → is_lt o ≡ true → o ≡ Less
-is_less Less h = refl
-is_less Equal h = cc
-is_less Greater h = cc
 
 pub le_of : (o : Ordering) → is_gt o ≡ false → is_le o ≡ true
 le_of Less h = refl

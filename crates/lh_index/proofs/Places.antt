@@ -4,11 +4,10 @@ use Rattle.std.specs.Prelude.{◌≢◌, Result, Ok, Err, MatchResult}
 use Rattle.std.specs.List.{insert, remove}
 use Rattle.std.specs.List.Sorted.{IsBinarySearchResult}
 use Rattle.std.specs.Ordering.{nat_cmp}
-use Rattle.std.specs.declared.cmp.Ordering.TheVariants.{Less}
-use Rattle.std.proofs.lemmas.Bool.Decides.{nat_tests}
 use Rattle.std.proofs.lemmas.List.{get_or_default}
 use Rattle.std.proofs.lemmas.List.Sorted.{searched}
 use Rattle.lh_index.specs.Rising.{IsOneOf, AreAbove, IsRising, HasOneMore, HasOneLess}
+use Rattle.lh_time.proofs.OrderLemmas.{nat_less}
 
 -- each number of a list at which each place is above is above
 pub all_above : (n : ℕ) (xs : List ℕ) → ((k : ℕ) → k < length xs → n < get_or xs k 0) → AreAbove n xs
@@ -20,7 +19,7 @@ above_at x [] i a l = absurd (omega arith)
 above_at x (y ∷ ys) zero a l = a.0
 above_at x (y ∷ ys) (suc i) a l = above_at x ys i a.1 (omega arith)
 
-has_above : (x k : ℕ) (xs : List ℕ) → AreAbove x xs → IsOneOf k xs → x < k
+pub has_above : (x k : ℕ) (xs : List ℕ) → AreAbove x xs → IsOneOf k xs → x < k
 has_above x k [] a h = absurd h
 has_above x k (y ∷ ys) a (inl p) = subst (λ z. x < z) p a.0
 has_above x k (y ∷ ys) a (inr h) = has_above x k ys a.1 h
@@ -180,14 +179,11 @@ found_in items now sought new n i v w r s e =
       subst (λ z. HasOneMore z n new) v (subst (λ z. HasOneMore items n z) (sym e) (one_more n i items)),
     )
 
-less_is : (x n : ℕ) → x < n → nat_cmp x n ≡ Less
-less_is x n l = grind (arith, nat_tests)
-
 -- where the last number is below, the place is at the end
 pub place_behind : (xs : List ℕ) (n : ℕ) → IsRising xs → 0 < length xs → get_or xs (length xs - 1) 0 < n → IsBinarySearchResult (λ y. nat_cmp y n) xs (Err (length xs))
 place_behind xs n r some below = λ sorted. (
   λ k d low high. let l : get_or xs k d < n = (let e : get_or xs k d ≡ get_or xs k 0 = get_or_default xs k d 0 high in
-      let le : get_or xs k 0 ≤ get_or xs (length xs - 1) 0 = rises xs r k (length xs - 1) (omega arith) (omega arith) in omega arith) in less_is (get_or xs k d) n l,
+      let le : get_or xs k 0 ≤ get_or xs (length xs - 1) 0 = rises xs r k (length xs - 1) (omega arith) (omega arith) in omega arith) in nat_less (get_or xs k d) n l,
   λ k d low high. absurd (omega arith),
 )
 

@@ -1,5 +1,5 @@
 -- Wakes that are noted, by the tests of the set that holds them.
-use Rattle.std.proofs.Common.{arith, ◌≡◌, ℕ, ◌<◌, List, [], ◌∷◌, ◌++◌, append_assoc, Bool, true, false, ◌||◌, cond, if◌then◌else◌, refl, ap, sym, ◌∙◌, subst, ◌⊎◌, inl, inr}
+use Rattle.std.proofs.Common.{◌≡◌, ℕ, ◌<◌, List, [], ◌∷◌, ◌++◌, append_assoc, Bool, true, false, ◌||◌, cond, if◌then◌else◌, refl, ap, sym, ◌∙◌, subst, ◌⊎◌, inl, inr, true≢false}
 use Rattle.std.proofs.lemmas.List.{append-nil}
 use Rattle.std.specs.Prelude.{Some}
 use Rattle.std.specs.List.{list_any, AllByRecursion}
@@ -8,11 +8,12 @@ use Rattle.std.specs.declared.cmp.Ordering.{Ordering}
 use Rattle.std.specs.declared.cmp.Ordering.TheVariants.{Less, Equal, Greater}
 use Rattle.std.specs.Ordering.{nat_cmp, ordering_then, ordering_reverse, is_eq, is_le, is_gt}
 use Rattle.std.specs.BTreeMap.{is_at}
+use Rattle.std.proofs.lemmas.Bool.{or_right}
 use Rattle.lh_time.specs.declared.Instant.{Instant}
 use Rattle.lh_time.specs.Order.{instant_cmp, instant_le}
 use Rattle.lh_history.proofs.Orders.{then_equal, nat_one}
 use Rattle.lh_history.proofs.Instants.{instant_one, le_self}
-use Rattle.lh_time.proofs.OrderLemmas.{instant_cmp_total}
+use Rattle.lh_time.proofs.OrderLemmas.{instant_cmp_total, nat_is_less, nat_same}
 use Rattle.lh_index.specs.Rising.{IsOneOf, AreAbove, IsRising}
 use Rattle.lh_index.specs.declared.wakes.Wake.{Wake}
 use Rattle.lh_index.specs.Waking.{IsNoted, NotesOneMore, NotesOneLess, IsSoonest, first_at, AreDue}
@@ -26,9 +27,6 @@ is_equal Less h = cc
 is_equal Equal h = refl
 is_equal Greater h = cc
 
-nat_same : (n : ℕ) → nat_cmp n n ≡ Equal
-nat_same n = grind arith
-
 same_wake : (w : Wake) → is_eq (wake_cmp w w) ≡ true
 same_wake w = simp (nat_same w.at.fs, nat_same w.at.delta, nat_same w.at.eps, nat_same w.instance) refl
 
@@ -37,9 +35,6 @@ one_wake : (w x : Wake) → is_eq (wake_cmp w x) ≡ true → (x.at ≡ w.at) ×
 one_wake w x h =
     let p : (instant_cmp w.at x.at ≡ Equal) × (nat_cmp w.instance x.instance ≡ Equal) = then_equal _ _ (is_equal _ h)
     in (sym (instant_one w.at x.at p.0), sym (nat_one w.instance x.instance p.1))
-
-true_false : true ≡ false → ⊥
-true_false e = cc
 
 same_wakes : (t u : Instant) (j k : ℕ) → t ≡ u → j ≡ k → ◌≡◌ {A = Wake} (record { at = t; instance = j }) (record { at = u; instance = k })
 same_wakes t u j k e f = cc
@@ -53,15 +48,11 @@ noted_by true w x xs e f h = inl (one_wake w x e)
 noted_by false w x xs e f h = inr (f h)
 
 noted_of : (w : Wake) (ks : List Wake) → in_list w ks ≡ true → IsNoted ks w.at w.instance
-noted_of w [] h = absurd (true_false (sym h))
+noted_of w [] h = absurd (true≢false (sym h))
 noted_of w (x ∷ xs) h = noted_by (is_eq (wake_cmp w x)) w x xs refl (noted_of w xs) h
 
 in_more : (w x : Wake) (xs : List Wake) → (w.at ≡ x.at) × (w.instance ≡ x.instance) → is_eq (wake_cmp w x) || in_list w xs ≡ true
 in_more w x xs p = let e : w ≡ x = same_wakes w.at x.at w.instance x.instance p.0 p.1 in subst (λ z. is_eq (wake_cmp w z) || in_list w xs ≡ true) e (ap (λ b. b || in_list w xs) (same_wake w))
-
-or_right : (a b : Bool) → b ≡ true → a || b ≡ true
-or_right true b h = refl
-or_right false b h = h
 
 of_noted : (t : Instant) (k : ℕ) (ks : List Wake) → IsNoted ks t k → in_list (record { at = t; instance = k }) ks ≡ true
 of_noted t k [] h = absurd h
@@ -69,7 +60,7 @@ of_noted t k (x ∷ xs) (inl p) = in_more (record { at = t; instance = k }) x xs
 of_noted t k (x ∷ xs) (inr h) = or_right (is_eq (wake_cmp (record { at = t; instance = k }) x)) _ (of_noted t k xs h)
 
 not_itself : (w x : Wake) → w ≡ x → is_eq (wake_cmp w x) ≡ false → ⊥
-not_itself w x v e = true_false (sym (same_wake w) ∙ subst (λ z. is_eq (wake_cmp w z) ≡ false) (sym v) e)
+not_itself w x v e = true≢false (sym (same_wake w) ∙ subst (λ z. is_eq (wake_cmp w z) ≡ false) (sym v) e)
 
 -- the tests after a wake has been put in or taken out
 abbrev pub Sets : List Wake → List Wake → Wake → Bool → Type 0
@@ -96,7 +87,7 @@ notes_more old new w s u k = (
 
 less_by : (b : Bool) (old new : List Wake) (w : Wake) (u : Instant) (k : ℕ) → is_at (wake_cmp w) (record { at = u; instance = k }) ≡ b →
     in_list (record { at = u; instance = k }) new ≡ cond b false (in_list (record { at = u; instance = k }) old) → IsNoted new u k → IsNoted old u k × ¬ ((w.at ≡ u) × (w.instance ≡ k))
-less_by true old new w u k e s h = absurd (true_false (sym (of_noted u k new h) ∙ s))
+less_by true old new w u k e s h = absurd (true≢false (sym (of_noted u k new h) ∙ s))
 less_by false old new w u k e s h = (
   noted_of (record { at = u; instance = k }) old (sym s ∙ of_noted u k new h),
   λ p. not_itself w (record { at = u; instance = k }) (same_wakes w.at u w.instance k p.0 p.1) e,
@@ -121,13 +112,10 @@ soonest_is ks w m l = ((w.instance, noted_of w ks m), λ u k h. not_later w u k 
     then_le : (o p : Ordering) → is_gt (ordering_then o p) ≡ false → is_le o ≡ true
     then_le Less p h = refl
     then_le Equal p h = refl
-    then_le Greater p h = absurd (true_false h)
+    then_le Greater p h = absurd (true≢false h)
 
     not_later : (w : Wake) (u : Instant) (k : ℕ) → is_gt (wake_cmp w (record { at = u; instance = k })) ≡ false → instant_le w.at u ≡ true
     not_later w u k h = then_le (instant_cmp w.at u) (nat_cmp w.instance k) h
-
-nat_less : (a b : ℕ) → nat_cmp a b ≡ Less → a < b
-nat_less a b h = grind arith
 
 then_less : (o p : Ordering) → o ≡ Equal → ordering_then o p ≡ Less → p ≡ Less
 then_less Less p e h = cc
@@ -156,7 +144,7 @@ lesser w x t h e f =
     let p : w.at ≡ t = instant_one w.at t e in
     let q : x.at ≡ t = instant_one x.at t f in
     let r : instant_cmp w.at x.at ≡ Equal = subst (λ z. instant_cmp w.at z ≡ Equal) (sym q) e in
-    nat_less w.instance x.instance (then_less (instant_cmp w.at x.at) (nat_cmp w.instance x.instance) r h)
+    nat_is_less w.instance x.instance (then_less (instant_cmp w.at x.at) (nat_cmp w.instance x.instance) r h)
 
 above_if : (b : Bool) (w x : Wake) (t : Instant) (xs : List Wake) → is_eq (instant_cmp x.at t) ≡ b → wake_cmp w x ≡ Less → instant_cmp w.at t ≡ Equal → AreAbove w.instance (first_at t xs) →
     AreAbove w.instance (if b then x.instance ∷ first_at t xs else [])
@@ -202,8 +190,8 @@ has_if true k x t xs f l a g (inl p) = inl p.1
 has_if true k x t xs f l a g (inr h) = inr (g h)
 has_if false k x t xs f l a g (inl p) =
     let q : instant_le x.at t ≡ true = subst (λ z. instant_le x.at z ≡ true) p.0 (le_self x.at) in
-    absurd (true_false (sym (one_instant t x.at l q) ∙ f))
-has_if false k x t xs f l a g (inr h) = absurd (true_false (sym (one_instant t x.at l (noted_later x t k xs a h)) ∙ f))
+    absurd (true≢false (sym (one_instant t x.at l q) ∙ f))
+has_if false k x t xs f l a g (inr h) = absurd (true≢false (sym (one_instant t x.at l (noted_later x t k xs a h)) ∙ f))
 
 first_has : (k : ℕ) (t : Instant) (xs : List Wake) → IsStrictlySortedBy wake_cmp xs → NoneBefore xs t → IsNoted xs t k → IsOneOf k (first_at t xs)
 unfolding IsStrictlySortedBy

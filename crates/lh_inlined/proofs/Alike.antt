@@ -19,8 +19,9 @@ use Rattle.lh_flat.specs.Marks.{marks, IsPlain}
 use Rattle.lh_inlined.specs.Tidy.{Either, EdgesArePlain, ResultIsNew, LineTidy, BlockTidy, UnitTidy, FunctionsTidy, NoPhis, PhisFirst}
 use Rattle.lh_inlined.proofs.Finding.{IsLabelled, UnitLabelled, AllLabelled, opens-is, opens-path, BlocksAreFound}
 use Rattle.lh_inlined.proofs.Holding.{CopyFits, Holds, Holds-put, Holds-below, Below, Below-put, Below-same, Below-then, keeps-datum}
-use Rattle.lh_inlined.proofs.LastPieces.{label-is, block-each, edge-copied}
+use Rattle.lh_inlined.proofs.LastPieces.{block-each, edge-copied}
 use Rattle.lh_inlined.proofs.TopTypes.{path-marks}
+use Rattle.lh_inlined.proofs.Facts.{label-found}
 
 -- labels of tidy units
 pub tidy-labelled : (fs : List UnitText) (u : UnitText) → UnitTidy fs u → UnitLabelled u
@@ -111,7 +112,7 @@ module _ (s : Scene) (u : UnitText) (name : UnitName) (top : ℕ) (w : Functions
   block-tidy left c label b o e = block-each (BlockTidy s.functions c.unit) label c.unit.blocks b e o.tidy.blocks
 
   pub label-plain : (left : ℕ) (c : Copy) (label : List ℕ) (b : BlockText) → InPlace left c → block_of label c.unit.blocks ≡ Some b → IsPlain label
-  label-plain left c label b o e = subst IsPlain (label-is label c.unit.blocks b e) (block-tidy left c label b o e).plain
+  label-plain left c label b o e = subst IsPlain (label-found label c.unit.blocks b e) (block-tidy left c label b o e).plain
 
   -- open calls hold what they held
   pub callers-below : (xs : List Caller) (left : ℕ) (d : Copy) (f g : Env) → Callers xs left d f → Below (marks d.path) f g → Callers xs left d g

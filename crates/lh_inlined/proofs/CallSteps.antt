@@ -17,11 +17,13 @@ use Rattle.lh_flat.specs.Marks.{marks}
 use Rattle.lh_inlined.specs.Tidy.{BlockTidy, UnitTidy, FunctionsTidy, NoPhis, EntryHasNoPhi}
 use Rattle.lh_flat.proofs.Marks.{is_same}
 use Rattle.lh_inlined.proofs.Finding.{Opens, opens-is, IsLabelled, call-stands}
-use Rattle.lh_inlined.proofs.Holding.{CopyFits, Holds, name-marks, Given, held-datum, begins-given, low-name}
-use Rattle.lh_inlined.proofs.LastPieces.{label-is, none-called}
+use Rattle.lh_inlined.proofs.Holding.{CopyFits, Holds, name-marks, Given, begins-given, low-name}
+use Rattle.lh_inlined.proofs.LastPieces.{none-called}
 use Rattle.lh_inlined.proofs.TopTypes.{path-marks, opens-own}
 use Rattle.lh_inlined.proofs.Alike.{tidy-labelled, functions-labelled, flat, all, InPlace, Callers, Alike, label-plain, no_phis-taken, no_phis-copied}
 use Rattle.lh_inlined.proofs.Entering.{Follows, first-block, first-runs, past}
+use Rattle.lh_inlined.proofs.Facts.{label-found}
+use Rattle.lh_eval.proofs.ValuesFit.{datum-held}
 
 -- what the operands of a call name has no more marks than the path of the copy
 args-low : (u : UnitText) (c : Copy) (e f : Env) (args : List OperandText) (ds : List Datum) → CopyFits c → Holds u c e f → data_at e args ≡ Some ds
@@ -34,7 +36,7 @@ args-low u c e f (x ∷ args) ds o k q = by (datum_at e x.value) refl (data_at e
         → Each (λ (n : List ℕ). marks n ≤ marks c.path) (map (λ (o : OperandText). c.value o.value) (x ∷ args))
     by None a vs b r go = absurd (none-some ds r)
     by (Some v) a None b r go = absurd (none-some ds r)
-    by (Some v) a (Some vs) b r go = (name-marks c x.value o (k.plain x.value (datum_held v) (held-datum (e x.value) v a)), go vs b)
+    by (Some v) a (Some vs) b r go = (name-marks c x.value o (k.plain x.value (datum_held v) (datum-held (e x.value) v a)), go vs b)
 
 each-below : (m n : ℕ) (xs : List (List ℕ)) → n ≡ suc m → Each (λ (x : List ℕ). marks x ≤ m) xs → Each (λ (x : List ℕ). marks x < n) xs
 each-below m n [] e h = tt
@@ -67,7 +69,7 @@ module _ (s : Scene) (u : UnitText) (name : UnitName) (top : ℕ) (w : Functions
     record {
       tidy = w o.callee d.unit o.named;
       stands = call-stands s.functions (functions-labelled s.functions w) (all s u name top w) (suc left) c p.stands (tidy-labelled s.functions c.unit p.tidy) label text b
-          (label-plain s u name top w (suc left) c label text p b) (sym (label-is label c.unit.blocks text b)) before rest l d y q;
+          (label-plain s u name top w (suc left) c label text p b) (sym (label-found label c.unit.blocks text b)) before rest l d y q;
       nests = ap (λ g. nest_deeper left s.functions (option_map_or callees g [])) (sym o.named)
           ∙ none-called (λ f. nest_deeper left s.functions (callees_of s.functions f)) c.unit.blocks label text before rest l o.callee o.ty o.args p.nests b y o.inst o.no_assert;
       fits = record {

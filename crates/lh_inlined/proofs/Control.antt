@@ -1,5 +1,6 @@
 -- At each place of a flat text the operands are there.
 use Rattle.std.proofs.Common.{◌≡◌, ◌⊎◌, ℕ, zero, suc, List, ◌∷◌, ◌++◌, map, Bool, true, false, Option, Some, refl, ap, sym, ◌∙◌, inl, inr, subst}
+use Rattle.std.proofs.lemmas.Bool.{or_cases}
 use Rattle.lh_types.specs.Types.{TypeTree}
 use Rattle.lh_unit.specs.declared.inst.UnitKind.TheVariants as kind
 use Rattle.lh_unit.specs.Contents.{OperandText, EdgeText, InstText, const_text, pure_text, var_text, ld_text, st_text, sig_text, prb_text, drv_text, reg_text, child_text, call_text, phi_text, br_text, branch_text, wait_text, halt_text, ret_text, LineText, BlockText, UnitText, lines_define, blocks_define, args_define}
@@ -13,7 +14,6 @@ use Rattle.lh_flat.specs.Flat.{flat_copy, max_nested}
 use Rattle.lh_inlined.proofs.Cuts.{Among, Cut, all-among}
 use Rattle.lh_inlined.proofs.CopyPieces.{CopyPiece, next_cut, CopyPieceOf, Nested, flat_copy_piece}
 use Rattle.lh_inlined.proofs.SoundCopies.{IsCode}
-use Rattle.lh_inlined.proofs.Lines.{or-cases}
 use Rattle.lh_inlined.proofs.Paths.{as_block, IsGood, CallIsGood, There, Located, goes-on, located}
 use Rattle.lh_inlined.proofs.There.{operand-there}
 use Rattle.lh_inlined.proofs.Phis.{PhisAreGood, phi-there}
@@ -50,7 +50,7 @@ module _ (fs : List UnitText) (u x : UnitText) (args : x.args ≡ u.args)
         where
           differ : (b : Bool) → b ≡ false → b ≡ true → ⊥
           differ b p q = cc
-      given f earlier (inr h) = or-cases (lines_define e.value last.lines) (blocks_define e.value earlier) h
+      given f earlier (inr h) = or_cases (lines_define e.value last.lines) (blocks_define e.value earlier) h
 
       by : args_define e.value x.args ≡ false → (earlier : List BlockText) → Located fs u x args last earlier → (lines_define e.value last.lines ≡ true) ⊎ (blocks_define e.value earlier ≡ true)
       by f earlier at =

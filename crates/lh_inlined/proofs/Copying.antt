@@ -42,7 +42,8 @@ use Rattle.lh_inlined.proofs.Paths.{IsGood, CallIsGood, copy_piece-block, nested
 use Rattle.lh_inlined.proofs.Phis.{PhisAreGood, given-by}
 use Rattle.lh_inlined.proofs.Facts.{FactsIn, UnitFacts, each-among, fact-at, is-good, phis-good, is-code, no-ret}
 use Rattle.lh_inlined.proofs.Typing.{argument-typed, among-lines, among-middle}
-use Rattle.lh_inlined.proofs.Opening.{Opens, opens-is, cut-opens, argument-named, function-is, any-among, callee-among}
+use Rattle.lh_inlined.proofs.Opening.{cut-opens, argument-named, function-is, any-among, callee-among}
+use Rattle.lh_inlined.proofs.Finding.{opens-is, Opens}
 
 labelled-by : (k : UnitKind) (u : UnitText) → in_entity k ≡ false → Labelled k u.blocks → AllLabelled u.blocks
 labelled-by kind.Entity u e h = absurd cc
@@ -164,7 +165,7 @@ module _ (items : List ItemText) (m : ModuleFacts items items) (u : UnitText) (a
       arguments : (a : List ℕ) → args_define a z.copy.unit.args ≡ true → (w : List ℕ) × Among (values_named z.line.inst) w × (z.copy.value a ≡ c.value w)
       arguments a d =
           let r = argument-named c.unit z.copy.unit.args opens.args c (call_path c (label_or s.block.label) z.number ++ a) a (call-args k c n s h z e) d in
-          (r.0, subst (λ i. Among (values_named i) r.0) (sym opens.inst) r.1, ap (λ (x : Copy). x.value a) opens.copy ∙ r.2)
+          (r.0, subst (λ i. Among (values_named i) r.0) (sym opens.inst) r.1, ap (λ (x : Copy). x.value a) (sym opens.copy) ∙ r.2)
 
       result : (r : Option (List ℕ)) → z.line.result ≡ r → (a : List ℕ) → is_result_name a r ≡ true → lines_define (c.value a) (with_merge (merge_of fs c z.copy z.line.inst r) []) ≡ true
       result None q a d = absurd cc
@@ -180,7 +181,7 @@ module _ (items : List ItemText) (m : ModuleFacts items items) (u : UnitText) (a
   copies-arguments k c nest s h z e n a q =
       let o = opens-is fs c (call_path c (label_or s.block.label) z.number) z.line.inst z.copy (cut-opens fs c (label_or s.block.label) s.number s.rest z e) in
       let r = argument-typed c.unit z.copy.unit.args o.args c (call_path c (label_or s.block.label) z.number ++ n) n a (call-args (suc k) c nest s h z e) q in
-      (r.0, r.1, ap (λ (x : Copy). x.value n) o.copy ∙ r.2)
+      (r.0, r.1, ap (λ (x : Copy). x.value n) (sym o.copy) ∙ r.2)
 
   -- a result of a call is that of the merge behind it, and of its type
   pub copies-results : (k : ℕ) (c : Copy) → Nested fs u k c → (s : CopyPiece) → CopyPieceOf fs c s → (z : Cut) → next_cut fs c s ≡ Some z → (n : List ℕ) → is_result_name n z.line.result ≡ true

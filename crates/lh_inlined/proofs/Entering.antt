@@ -17,8 +17,9 @@ use Rattle.lh_inlined.specs.Tidy.{ResultIsNew, FunctionsTidy}
 use Rattle.lh_inlined.specs.Activates.{flat_stand, StandIsPlain, EndsAlike}
 use Rattle.lh_inlined.proofs.Finding.{as_block, found-block, first_of, first-found}
 use Rattle.lh_inlined.proofs.Holding.{Keeps, Holds}
-use Rattle.lh_inlined.proofs.LastPieces.{label-is, last-append}
+use Rattle.lh_inlined.proofs.LastPieces.{last-append}
 use Rattle.lh_inlined.proofs.Alike.{functions-labelled, tidy-labelled, GivesInBoth, gives-result, flat, all, InPlace, Runs, Callers, Alike, block-tidy, label-plain, callers-below, phis-copied}
+use Rattle.lh_inlined.proofs.Facts.{label-found}
 
 module _ (s : Scene) (u : UnitText) (name : UnitName) (top : ℕ) (w : FunctionsTidy s.functions) where
   -- a copy's block is found in the flat text by the label of its first piece
@@ -28,7 +29,7 @@ module _ (s : Scene) (u : UnitText) (name : UnitName) (top : ℕ) (w : Functions
       found-block (first_piece c label) (all s u name top w)
       ∙ ap (option_map as_block)
       (first-found s.functions (functions-labelled s.functions w) (all s u name top w) left c o.stands (tidy-labelled s.functions c.unit o.tidy) label b e
-      (label-plain s u name top w left c label b o e) (sym (label-is label c.unit.blocks b e)))
+      (label-plain s u name top w left c label b o e) (sym (label-found label c.unit.blocks b e)))
 
   -- ---- into a block
 
@@ -51,7 +52,7 @@ module _ (s : Scene) (u : UnitText) (name : UnitName) (top : ℕ) (w : Functions
     stands = z;
     split = refl;
     here = refl;
-    next = ap (λ n. (pieces_from (flat_copy left s.functions) s.functions c n 0 b.lines).rest) (label-is label c.unit.blocks b z);
+    next = ap (λ n. (pieces_from (flat_copy left s.functions) s.functions c n 0 b.lines).rest) (label-found label c.unit.blocks b z);
   }
 
   pub enters : (left : ℕ) (c : Copy) (e f : Env) (from to : List ℕ) (k : Control) → InPlace s u name top w left c → Holds u c e f → IsPlain from → entered c.unit e from to ≡ Some k
@@ -245,5 +246,5 @@ module _ (s : Scene) (u : UnitText) (name : UnitName) (top : ℕ) (w : Functions
   runs-end left c at block rest r e =
       r.here
       ∙ ap (last_from s.functions c at.block (first_piece c at.block) 0) (sym (r.split ∙ ap (λ l. r.before ++ l) e ∙ append-nil r.before))
-      ∙ ap (λ n. last_from s.functions c n (first_piece c n) 0 r.text.lines) (sym (label-is at.block c.unit.blocks r.text r.stands))
+      ∙ ap (λ n. last_from s.functions c n (first_piece c n) 0 r.text.lines) (sym (label-found at.block c.unit.blocks r.text r.stands))
       ∙ ap (λ o. option_map_or (last_piece s.functions c) o (first_piece c at.block)) (sym r.stands)

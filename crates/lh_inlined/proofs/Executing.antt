@@ -16,7 +16,7 @@ use Rattle.lh_unit.specs.Named.{function_named}
 use Rattle.lh_names.specs.UnitNames.{is_assert}
 use Rattle.lh_unit.specs.Places.{is_terminator}
 use Rattle.lh_unit.specs.Typing.{value_type, carried, or_else}
-use Rattle.lh_unit.specs.Held.{Held, datum_held, cell_held, part_held, Env, with_held, as_cell, as_datum, as_part, datum_at, cell_at, part_at, data_at, parts_at, test_at, front, bits_in}
+use Rattle.lh_unit.specs.Held.{Held, datum_held, cell_held, part_held, Env, with_held, as_datum, as_part, datum_at, cell_at, part_at, data_at, parts_at, test_at, front, bits_in}
 use Rattle.lh_unit.specs.Effects.{operated, signal_part, stepped, step_of, probed, read_bits, driven}
 use Rattle.lh_unit.specs.Activation.{Scene, Stand, waits, halted, Control, Point, Next, stores, tells, jumps, chosen, entered, waiting, wake_at, ends_at, asserted, opens, called, executes}
 use Rattle.lh_flat.specs.Copies.{Copy, top_copy, first_piece, last_piece_of, copied_operand, copied}
@@ -27,19 +27,7 @@ use Rattle.lh_inlined.proofs.Holding.{Keeps, keeps-same, keeps-map, Holds, Holds
 use Rattle.lh_inlined.proofs.TopTypes.{type-same}
 use Rattle.lh_inlined.proofs.Alike.{flat, InPlace, Alike, label-plain}
 use Rattle.lh_inlined.proofs.Entering.{Follows, Enters, enters, gives-follows, jump-follows, wish-follows, tell-follows, ends-follows, alike-held, runs-end}
-
--- what is read is held
-held-cell : (h : Option Held) (d : Datum) → option_and_then as_cell h ≡ Some d → h ≡ Some (cell_held d)
-held-cell None d e = absurd (none-some d e)
-held-cell (Some (datum_held x)) d e = absurd (none-some d e)
-held-cell (Some (cell_held x)) d e = ap (λ v. Some (cell_held v)) (same_Some x d e)
-held-cell (Some (part_held x)) d e = absurd (none-some d e)
-
-held-part : (h : Option Held) (r : Range) → option_and_then as_part h ≡ Some r → h ≡ Some (part_held r)
-held-part None d e = absurd (none-some d e)
-held-part (Some (datum_held x)) d e = absurd (none-some d e)
-held-part (Some (cell_held x)) d e = absurd (none-some d e)
-held-part (Some (part_held x)) d e = ap (λ v. Some (part_held v)) (same_Some x d e)
+use Rattle.lh_eval.proofs.GivesFit.{cell-held, part-held}
 
 datum_no_part : (d : Datum) (r : Range) → datum_held d ≡ part_held r → ⊥
 datum_no_part d r e = cc
@@ -84,7 +72,7 @@ module _ (s : Scene) (u : UnitText) (name : UnitName) (top : ℕ) (w : Functions
   part-top : (c : Copy) (e f : Env) (o : Op) (args : List OperandText) (h : Held) → Holds u c e f → signal_part c.unit e o args ≡ Some h → (x : OperandText) × (r : Range) × (args ≡ x ∷ [])
       × (e x.value ≡ Some (part_held r))
   part-top c e f o [] h k q = absurd (none-some h q)
-  part-top c e f o (x ∷ []) h k q = let r = stepped-part (value_type c.unit x.value) (part_at e x.value) (step_of o) h q in (x, r.part, refl, held-part (e x.value) r.part r.is)
+  part-top c e f o (x ∷ []) h k q = let r = stepped-part (value_type c.unit x.value) (part_at e x.value) (step_of o) h q in (x, r.part, refl, part-held (e x.value) r.part r.is)
   part-top c e f o (x ∷ y ∷ more) h k q = absurd (none-some h q)
 
   -- where it is read, the flat text reads it too
@@ -136,7 +124,7 @@ module _ (s : Scene) (u : UnitText) (name : UnitName) (top : ℕ) (w : Functions
   store-follows p f a n None y v z e k l = tt
   store-follows p f a n (Some old) y None z e k l = tt
   store-follows p f a n (Some old) y (Some d) z e k l =
-      let h : p.control.held n ≡ Some (cell_held old) = held-cell (p.control.held n) old e in
+      let h : p.control.held n ≡ Some (cell_held old) = cell-held (p.control.held n) old e in
       let own : a.copy.value n ≡ a.copy.path ++ n = a.holds.cells n old h in
       subst (λ i. Follows s u name top w (stores p n (Some old) (Some d)) (stores f (a.copy.value n) i z)) (sym (k old refl))
       (subst (λ i. Follows s u name top w (stores p n (Some old) (Some d)) (stores f (a.copy.value n) (Some old) i)) (sym (l d refl))

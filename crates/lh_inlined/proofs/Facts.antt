@@ -10,6 +10,7 @@ use Rattle.lh_unit.specs.Places.{InstPlaceText, places_in, places_from, places, 
 use Rattle.lh_unit.specs.WellFormed.{Site, sites, is_allowed, in_entity, is_phi, values_named, labels_named, IsFaultless}
 use Rattle.lh_unit.specs.Within.{Each}
 use Rattle.lh_unit.specs.declared.inst.UnitKind.{UnitKind}
+use Rattle.lh_unit.proofs.Lists.{Each-of-map}
 use Rattle.lh_unit.specs.declared.inst.UnitKind.TheVariants as kind
 use Rattle.lh_names.proofs.NameLists.{same_name-is}
 use Rattle.lh_meaning.proofs.Labelled.{AllLabelled, In, own_block, block_of-in}
@@ -26,7 +27,7 @@ use Rattle.lh_formed.proofs.ShapeLaw.{labels_are_blocks, phis_are_right, all_all
 use Rattle.lh_formed.proofs.There.{as-process, last-leads}
 use Rattle.lh_eval.specs.Sound.{InstIsSound}
 use Rattle.lh_spelled.specs.Printable.{IsPrintable}
-use Rattle.lh_formed.proofs.EachItem.{each-contained, each-split, each-of-map}
+use Rattle.lh_formed.proofs.EachItem.{each-contained, each-split}
 use Rattle.lh_inlined.proofs.Cuts.{Among}
 use Rattle.lh_inlined.proofs.SoundCopies.{IsCode}
 use Rattle.lh_inlined.proofs.Lines.{LastOf, no_last, last_is, last-of}
@@ -51,7 +52,7 @@ FactsIn items (declare_text d) = Unit {0}
 
 facts-in : (all items : List ItemText) → Each (SiteFacts all) (sites items) → Each (FactsIn all) items
 facts-in all [] h = tt
-facts-in all (unit_text u ∷ more) h = let r = each-split (SiteFacts all) (map (site_in u) (places u)) (sites more) h in (each-of-map (SiteFacts all) (site_in u) (places u) r.0, facts-in all more r.1)
+facts-in all (unit_text u ∷ more) h = let r = each-split (SiteFacts all) (map (site_in u) (places u)) (sites more) h in (Each-of-map (SiteFacts all) (site_in u) (places u) r.0, facts-in all more r.1)
 facts-in all (declare_text d ∷ more) h = (tt, facts-in all more h)
 
 pub facts-of-items : (items : List ItemText) → IsFaultless items → Each (FactsIn items) items

@@ -2,6 +2,7 @@
 use Rattle.std.proofs.Common.{◌≡◌, ◌⊎◌, ℕ, zero, suc, ◌+◌, List, [], ◌∷◌, ◌++◌, length, map, Bool, true, false, if◌then◌else◌, Option, Some, None, IsSome, option_map, refl, ap, sym, ◌∙◌, inl, inr, subst}
 use Rattle.std.specs.List.{flat_map}
 use Rattle.std.proofs.lemmas.Option.{same_Some, none-some}
+use Rattle.std.proofs.lemmas.Bool.{both_ways}
 use Rattle.lh_types.specs.Types.{TypeTree, int_type, time_type, void_type, array_type, tuple_type, signal_type, pointer_type}
 use Rattle.lh_names.specs.declared.name.UnitName.{UnitName}
 use Rattle.lh_unit.specs.declared.inst.UnitKind.{UnitKind}
@@ -41,10 +42,10 @@ use Rattle.lh_inlined.proofs.Cuts.{Among, among-right, Cut, behind, lines-cut, p
 use Rattle.lh_inlined.proofs.CopyPieces.{CopyPiece, next_cut, next_lines, first_copy_piece, CopyPieceOf, begins, goes_on, Nested, outermost, called, flat_copy_piece, copy_piece-stands}
 use Rattle.lh_inlined.proofs.SoundCopies.{IsCode}
 use Rattle.lh_inlined.proofs.Paths.{as_block, IsGood, CallIsGood, copy_piece-block, nested-right}
-use Rattle.lh_inlined.proofs.Phis.{phi-of, PhisAreGood, no-branch, nothing-is, differ, merge-edges}
+use Rattle.lh_inlined.proofs.Phis.{phi-of, PhisAreGood, no-branch, nothing-is, merge-edges}
 use Rattle.lh_inlined.proofs.Splits.{LineOf, is_merge, is_copied, is_branch, line-of}
 use Rattle.lh_inlined.proofs.Facts.{PlaceFacts, UnitFacts, each-among, fact-at, label-found, among-in}
-use Rattle.lh_inlined.proofs.Opening.{opens-is, cut-opens, function-is}
+use Rattle.lh_inlined.proofs.Opening.{cut-opens, function-is}
 use Rattle.lh_inlined.proofs.Copying.{ModuleFacts, copy-facts, copies-good, copies-phis, copies-code, process-no-ret, begins-with, copies-calls, copies-arguments, copies-results, copies-sound, copies-merges, copies-returned, copies-naming, not-deep}
 use Rattle.lh_inlined.proofs.Typing.{among-lines, among-middle, typed}
 use Rattle.lh_inlined.proofs.Soundness.{IsCopyPiece, every-copy_piece, line-sound}
@@ -54,6 +55,7 @@ use Rattle.lh_inlined.proofs.Labels.{once-found, labels-new, last-apart}
 use Rattle.lh_inlined.proofs.Ending.{copy_piece-ends}
 use Rattle.lh_inlined.proofs.Leading.{copied-leads, branch-leads, merge-leads, calm-opened, copied-calls}
 use Rattle.lh_inlined.proofs.Control.{line-there}
+use Rattle.lh_inlined.proofs.Finding.{opens-is}
 
 -- ---- places of a unit, block by block
 
@@ -420,7 +422,7 @@ module _ (items : List ItemText) (m : ModuleFacts items items) (u : UnitText) (a
         by (is_branch z q r) = no-branch z.copy l ty es r i
         by (is_copied start j rest q r e) =
             let f = phi-of fs (top_copy u) j.inst ty es (ap (λ (j : LineText). j.inst) (sym r) ∙ i) in
-            differ (is_phi j.inst) ((phis max_nested (top_copy u) outermost).entry begin.0 begin.1 begin.2 start _ j
+            both_ways (is_phi j.inst) ((phis max_nested (top_copy u) outermost).entry begin.0 begin.1 begin.2 start _ j
             (lines-there (top_copy u) first (begins begin.0 (subst (λ bs. Among bs begin.0) (sym begin.2) (inl refl))) start j rest q)) (ap is_phi f.is)
 
     self-is : block_of (label_or b.label) x.blocks ≡ Some b

@@ -21,6 +21,7 @@ use Rattle.lh_flat.specs.Copies.{Copy, top_copy, argument_or, copied_operand}
 use Rattle.lh_flat.specs.Marks.{marks, IsPlain}
 use Rattle.lh_inlined.specs.Tidy.{ArgsOnce}
 use Rattle.lh_flat.proofs.Marks.{not_same, is_same, Names, one, two, names, marks-append}
+use Rattle.lh_eval.proofs.ValuesFit.{datum-held}
 
 -- ---- where there is something, it is the same
 
@@ -248,13 +249,6 @@ skipped (p ∷ ps) e (h ∷ hs) n q = by (same_name p.name n) refl q (λ r. skip
         none t = cc
     by false s r go = go r ∙ ap (λ b. if b then Some h else e n) s
 
--- a value that is read is held
-pub held-datum : (h : Option Held) (d : Datum) → option_and_then as_datum h ≡ Some d → h ≡ Some (datum_held d)
-held-datum None d e = absurd (none-some d e)
-held-datum (Some (datum_held x)) d e = ap (λ v. Some (datum_held v)) (same_Some x d e)
-held-datum (Some (cell_held x)) d e = absurd (none-some d e)
-held-datum (Some (part_held x)) d e = absurd (none-some d e)
-
 pub begins-given : (u : UnitText) (c : Copy) (e f : Env) → Holds u c e f → (ps : List ArgText) (os : List OperandText) (ds : List Datum) (before : Env) (other n : List ℕ) (h : Held) → ArgsOnce ps
     → data_at e os ≡ Some ds → before n ≡ None
     → with_args before ps (map datum_held ds) n ≡ Some h → Given f (argument_or ps (map (λ (o : OperandText). c.value o.value) os) other n) n h
@@ -276,7 +270,7 @@ begins-given u c e f k (p ∷ ps) (o ∷ os) ds before other n h w d b q =
           value = x;
           is = v;
           plain = subst IsPlain y w.0;
-          same = k.same o.value (datum_held x) (held-datum (e o.value) x r) ∙ ap Some (sym v);
+          same = k.same o.value (datum_held x) (datum-held (e o.value) x r) ∙ ap Some (sym v);
         }
     both x xs r t z (two y g) go =
         subst (λ (a : Bool). Given f (if a then c.value o.value else argument_or ps (map (λ (o : OperandText). c.value o.value) os) other n) n h) (sym g)

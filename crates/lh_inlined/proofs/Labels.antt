@@ -1,27 +1,19 @@
 -- Labels of a flat text stand once.
-use Rattle.std.proofs.Common.{◌≡◌, ◌⊎◌, ◌||◌, ℕ, List, [], ◌∷◌, ◌++◌, map, Bool, true, false, if◌then◌else◌, Some, refl, ap, sym, ◌∙◌, inl, inr}
+use Rattle.std.proofs.Common.{◌≡◌, ◌⊎◌, ◌||◌, ℕ, List, [], ◌∷◌, ◌++◌, map, false, if◌then◌else◌, Some, refl, ap, sym, ◌∙◌, inl, inr}
 use Rattle.lh_unit.specs.Contents.{BlockText, UnitText, defines_label_in}
-use Rattle.lh_names.specs.Names.{same_name}
 use Rattle.lh_unit.specs.Named.{block_of, label_or}
-use Rattle.lh_names.proofs.NameLists.{same_name-is, same_name-refl}
+use Rattle.lh_names.proofs.NameLists.{same_name-refl}
 use Rattle.lh_spelled.specs.Printable.{labels_repeat}
 use Rattle.lh_flat.specs.Copies.{Copy, last_piece}
 use Rattle.lh_flat.specs.Flat.{FlatBlockText}
 use Rattle.lh_flat.specs.Marks.{IsPlain}
-use Rattle.lh_flat.proofs.Marks.{path-apart}
+use Rattle.lh_flat.proofs.Marks.{path-apart, not_same}
 use Rattle.lh_flat.proofs.Apart.{Differs, Apart}
 use Rattle.lh_flat.proofs.Placing.{labels}
 use Rattle.lh_inlined.proofs.Cuts.{Among, among-parts}
 use Rattle.lh_inlined.proofs.Finding.{Piece}
 use Rattle.lh_inlined.proofs.LastPieces.{last_piece-is}
 use Rattle.lh_inlined.proofs.Paths.{as_block}
-
-not-same : (a b : List ℕ) → (a ≡ b → ⊥) → same_name a b ≡ false
-not-same a b h = by (same_name a b) refl
-  where
-    by : (c : Bool) → same_name a b ≡ c → same_name a b ≡ false
-    by true e = absurd (h (same_name-is a b e))
-    by false e = e
 
 other-label : (x : List ℕ) (bs : List FlatBlockText) (y : FlatBlockText) → Differs x (labels bs) → Among bs y → x ≡ y.label → ⊥
 other-label x [] y d a e = elim a [ ]
@@ -36,13 +28,13 @@ once-found (b ∷ bs) y p (inl e) =
     ∙ ap (λ t. if t then Some (as_block b) else block_of b.label (map as_block bs)) (same_name-refl b.label)
     ∙ ap (λ (z : FlatBlockText). Some (as_block z)) e
 once-found (b ∷ bs) y p (inr a) =
-    ap (λ t. if t then Some (as_block b) else block_of y.label (map as_block bs)) (not-same b.label y.label (other-label b.label bs y p.0 a))
+    ap (λ t. if t then Some (as_block b) else block_of y.label (map as_block bs)) (not_same b.label y.label (other-label b.label bs y p.0 a))
     ∙ once-found bs y p.1 a
 
 -- a label that none of these blocks has
 none-defines : (n : List ℕ) (bs : List FlatBlockText) → ((y : FlatBlockText) → Among bs y → y.label ≡ n → ⊥) → defines_label_in n (map as_block bs) ≡ false
 none-defines n [] h = refl
-none-defines n (b ∷ bs) h = ap (λ t. t || defines_label_in n (map as_block bs)) (not-same b.label n (h b (inl refl))) ∙ none-defines n bs (λ y a. h y (inr a))
+none-defines n (b ∷ bs) h = ap (λ t. t || defines_label_in n (map as_block bs)) (not_same b.label n (h b (inl refl))) ∙ none-defines n bs (λ y a. h y (inr a))
 
 map-ends : (seen : List FlatBlockText) (b : FlatBlockText) → map as_block seen ++ as_block b ∷ [] ≡ map as_block (seen ++ b ∷ [])
 map-ends [] b = refl

@@ -16,7 +16,6 @@ use Rattle.lh_unit.specs.Hierarchy.{lines_of}
 use Rattle.lh_unit.specs.Activation.{edge_from}
 use Rattle.lh_unit.specs.Within.{Each}
 use Rattle.lh_unit.proofs.Lists.{Each-right}
-use Rattle.lh_names.proofs.NameLists.{same_name-is}
 use Rattle.lh_formed.specs.Shape.{EndsOnce}
 use Rattle.lh_flat.specs.Calls.{callee_if, callees_in}
 use Rattle.lh_flat.specs.Copies.{Copy, call_path, opened, first_piece, last_from, last_piece, last_piece_of, copied_edge}
@@ -25,6 +24,7 @@ use Rattle.lh_flat.specs.Marks.{IsPlain}
 use Rattle.lh_inlined.specs.Tidy.{Either, NoPhis, PhisFirst}
 use Rattle.lh_flat.proofs.Marks.{not_same, is_same, Names, one, two, names, nothing_behind, mark_behind, path-apart}
 use Rattle.lh_inlined.proofs.Finding.{Piece, IsLabelled, opens-is, opens-path}
+use Rattle.lh_inlined.proofs.Facts.{label-found}
 
 -- ---- lines and blocks of a unit
 
@@ -34,18 +34,6 @@ each-middle P before rest l ls e h = by before (subst (Each P) e h)
     by : (before : List LineText) → Each P (before ++ l ∷ rest) → P l
     by [] k = k.0
     by (x ∷ more) k = by more k.1
-
-pub label-is : (label : List ℕ) (bs : List BlockText) (b : BlockText) → block_of label bs ≡ Some b → label_or b.label ≡ label
-label-is label [] b e = absurd (none-some b e)
-label-is label (y ∷ bs) b e = by (is_result_name label y.label) refl e (label-is label bs b)
-  where
-    named : (o : Option (List ℕ)) → is_result_name label o ≡ true → label_or o ≡ label
-    named None q = absurd cc
-    named (Some m) q = same_name-is m label q
-
-    by : (t : Bool) → is_result_name label y.label ≡ t → (if t then Some y else block_of label bs) ≡ Some b → (block_of label bs ≡ Some b → label_or b.label ≡ label) → label_or b.label ≡ label
-    by true q r go = ap (λ (x : BlockText). label_or x.label) (sym (same_Some y b r)) ∙ named y.label q
-    by false q r go = go r
 
 pub block-each : (P : BlockText → Type 0) (label : List ℕ) (bs : List BlockText) (b : BlockText) → block_of label bs ≡ Some b → Each P bs → P b
 block-each P label [] b e h = absurd (none-some b e)
@@ -150,7 +138,7 @@ last_piece_of-is fs c label = by (block_of label c.unit.blocks) refl
   where
     by : (o : Option BlockText) → block_of label c.unit.blocks ≡ o → Piece c.path label (option_map_or (last_piece fs c) o (first_piece c label))
     by None q = first-is c label
-    by (Some b) q = subst (λ n. Piece c.path n (last_piece fs c b)) (label-is label c.unit.blocks b q) (last_piece-is fs c b)
+    by (Some b) q = subst (λ n. Piece c.path n (last_piece fs c b)) (label-found label c.unit.blocks b q) (last_piece-is fs c b)
 
 -- last pieces of two blocks are one where their labels are
 pub pieces-apart : (p m n x y : List ℕ) → IsPlain m → IsPlain n → Piece p m x → Piece p n y → (m ≡ n → ⊥) → same_name x y ≡ false
@@ -243,7 +231,7 @@ given-blocks fs d label text before l o (y ∷ bs) w p s e h i = by (is_result_n
         edge-right (last_piece fs d text) (given_in d (last_piece fs d y) y.lines) (flat_map (λ b. given_in d (last_piece fs d b) b.lines) bs)
         (given-elsewhere d (last_piece fs d y) (last_piece fs d text) y.lines
         (pieces-apart d.path (label_or y.label) label (last_piece fs d y) (last_piece fs d text) w.0.plain p (last_piece-is fs d y)
-        (subst (λ n. Piece d.path n (last_piece fs d text)) (label-is label bs text q) (last_piece-is fs d text)) other))
+        (subst (λ n. Piece d.path n (last_piece fs d text)) (label-found label bs text q) (last_piece-is fs d text)) other))
         ∙ go q
       where
         other : label_or y.label ≡ label → ⊥

@@ -1,5 +1,5 @@
 -- Calls that are replaced: what they name, and the units that are copied.
-use Rattle.std.proofs.Common.{◌≡◌, ℕ, ◌+◌, List, [], ◌∷◌, ◌++◌, map, Bool, true, false, ◌||◌, if◌then◌else◌, Option, Some, None, option_map, refl, ap, sym, ◌∙◌, inl, inr, subst}
+use Rattle.std.proofs.Common.{◌≡◌, ℕ, ◌+◌, List, [], ◌∷◌, ◌++◌, map, Bool, true, false, ◌||◌, if◌then◌else◌, Option, Some, None, refl, ap, sym, ◌∙◌, inl, inr, subst}
 use Rattle.std.specs.List.{list_any}
 use Rattle.std.proofs.lemmas.Option.{same_Some, none-some}
 use Rattle.lh_types.specs.Types.{TypeTree}
@@ -13,50 +13,8 @@ use Rattle.lh_unit.specs.Hierarchy.{lines_of}
 use Rattle.lh_unit.specs.Kinds.{Use, all_used, data_or_time_needed}
 use Rattle.lh_formed.specs.Calls.{ArgumentsAre}
 use Rattle.lh_flat.specs.Calls.{callee_if, callees_in, callees}
-use Rattle.lh_flat.specs.Copies.{Copy, call_path, argument_or, copy_at, opened}
+use Rattle.lh_flat.specs.Copies.{Copy, call_path, argument_or, opened}
 use Rattle.lh_inlined.proofs.Cuts.{Among, Cut, cut, cut_by}
-
--- an instruction that is replaced by this copy
-pub record Opens (fs : List UnitText) (c : Copy) (path : List ℕ) (i : InstText) (d : Copy) : Type 0 where
-  pub callee : UnitName
-  pub ty : TypeTree
-  pub args : List OperandText
-  pub inst : i ≡ call_text callee ty args
-  pub no_assert : is_assert callee ≡ false
-  pub named : function_named callee fs ≡ Some d.unit
-  pub copy : d ≡ copy_at path (map (λ (o : OperandText). c.value o.value) args) d.unit
-
-pub opens-is : (fs : List UnitText) (c : Copy) (path : List ℕ) (i : InstText) (d : Copy) → opened fs c path i ≡ Some d → Opens fs c path i d
-opens-is fs c path (call_text f ty args) d h = by (is_assert f) refl h
-  where
-    made : (o : Option UnitText) → function_named f fs ≡ o → option_map (copy_at path (map (λ (o : OperandText). c.value o.value) args)) o ≡ Some d → is_assert f ≡ false
-        → Opens fs c path (call_text f ty args) d
-    made None e q n = absurd (none-some d q)
-    made (Some g) e q n =
-        let k : copy_at path (map (λ (o : OperandText). c.value o.value) args) g ≡ d = same_Some _ d q in
-        let w : g ≡ d.unit = ap (λ (x : Copy). x.unit) k in
-        record { callee = f; ty = ty; args = args; inst = refl; no_assert = n; named = e ∙ ap Some w; copy = sym k ∙ ap (copy_at path (map (λ (o : OperandText). c.value o.value) args)) w }
-
-    by : (b : Bool) → is_assert f ≡ b → (if b then None else option_map (copy_at path (map (λ (o : OperandText). c.value o.value) args)) (function_named f fs)) ≡ Some d
-        → Opens fs c path (call_text f ty args) d
-    by true n q = absurd (none-some d q)
-    by false n q = made (function_named f fs) refl q n
-opens-is fs c path (const_text x) d h = absurd (none-some d h)
-opens-is fs c path (pure_text x y) d h = absurd (none-some d h)
-opens-is fs c path (var_text x) d h = absurd (none-some d h)
-opens-is fs c path (ld_text x) d h = absurd (none-some d h)
-opens-is fs c path (st_text x y) d h = absurd (none-some d h)
-opens-is fs c path (sig_text x) d h = absurd (none-some d h)
-opens-is fs c path (prb_text x) d h = absurd (none-some d h)
-opens-is fs c path (drv_text x y z w) d h = absurd (none-some d h)
-opens-is fs c path (reg_text x y) d h = absurd (none-some d h)
-opens-is fs c path (child_text x y z) d h = absurd (none-some d h)
-opens-is fs c path (phi_text x y) d h = absurd (none-some d h)
-opens-is fs c path (br_text x) d h = absurd (none-some d h)
-opens-is fs c path (branch_text x y z) d h = absurd (none-some d h)
-opens-is fs c path (wait_text x y z) d h = absurd (none-some d h)
-opens-is fs c path halt_text d h = absurd (none-some d h)
-opens-is fs c path (ret_text x) d h = absurd (none-some d h)
 
 -- the call at which lines are cut is replaced by the copy, and its path is that of its line
 pub cut-opens : (fs : List UnitText) (c : Copy) (label : List ℕ) (k : ℕ) (ls : List LineText) (z : Cut) → cut fs c label k ls ≡ Some z

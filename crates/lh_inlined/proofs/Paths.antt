@@ -1,11 +1,13 @@
 -- A path of blocks of a flat text goes through pieces of copies; what was given in them on the way was given on the path.
 use Rattle.std.proofs.Common.{◌≡◌, ◌⊎◌, ℕ, zero, suc, List, [], ◌∷◌, ◌++◌, map, true, false, Option, Some, None, refl, ap, sym, ◌∙◌, inl, inr, subst}
 use Rattle.std.specs.List.{list_any, flat_map}
+use Rattle.std.proofs.lemmas.Bool.{or_cases, or_left, or_right}
 use Rattle.lh_unit.specs.Contents.{OperandText, ret_text, LineText, BlockText, UnitText, is_result_name, lines_define, blocks_define, args_define}
 use Rattle.lh_names.specs.Names.{same_name}
 use Rattle.lh_unit.specs.Named.{block_of, label_or}
 use Rattle.lh_unit.specs.Places.{leads_to, last_leads_to, has_edge, entry_of, IsPath}
 use Rattle.lh_unit.specs.WellFormed.{values_named, is_phi}
+use Rattle.lh_unit.proofs.ById.{lines_define-append}
 use Rattle.lh_names.proofs.NameLists.{same_name-is, same_name-refl}
 use Rattle.lh_formed.specs.Defined.{IsThere}
 use Rattle.lh_formed.proofs.There.{last-leads}
@@ -13,7 +15,7 @@ use Rattle.lh_flat.specs.Copies.{Copy, top_copy, first_piece, copied, copied_lin
 use Rattle.lh_flat.specs.Flat.{FlatBlockText, merge_of, first_label, branch_into, flat_block, flat_copy, max_nested, with_merge}
 use Rattle.lh_inlined.proofs.Cuts.{Among, Cut, ending, behind, lines-cut, piece-lines}
 use Rattle.lh_inlined.proofs.CopyPieces.{CopyPiece, next_cut, next_lines, first_copy_piece, after_copy_piece, CopyPieceOf, begins, goes_on, Nested, outermost, called, flat_copy_piece}
-use Rattle.lh_inlined.proofs.Lines.{or-cases, or-left, or-right, define-parts, define-left, define-copied, merge-defines, lines-define, merge-leads, merge-ends, LastOf, no_last, last_is, last-of, Leads, within, back, leads-copied}
+use Rattle.lh_inlined.proofs.Lines.{define-parts, define-copied, merge-defines, lines-define, merge-leads, merge-ends, LastOf, no_last, last_is, last-of, Leads, within, back, leads-copied}
 
 inner : (b : List LineText) (l : LineText) (r : List LineText) → b ++ l ∷ r ≡ (b ++ l ∷ []) ++ r
 inner [] l r = refl
@@ -29,8 +31,8 @@ nested-right (x ∷ a) b c = ap (λ ls. x ∷ ls) (nested-right a b c)
 
 among-named : (ns : List (List ℕ)) (n m : List ℕ) → Among ns n → n ≡ m → list_any (λ x. same_name x m) ns ≡ true
 among-named [] n m a e = elim a [ ]
-among-named (x ∷ ns) n m (inl q) e = or-left (same_name x m) (list_any (λ y. same_name y m) ns) (ap (λ y. same_name y m) (q ∙ e) ∙ same_name-refl m)
-among-named (x ∷ ns) n m (inr a) e = or-right (same_name x m) (list_any (λ y. same_name y m) ns) (among-named ns n m a e)
+among-named (x ∷ ns) n m (inl q) e = or_left (same_name x m) (list_any (λ y. same_name y m) ns) (ap (λ y. same_name y m) (q ∙ e) ∙ same_name-refl m)
+among-named (x ∷ ns) n m (inr a) e = or_right (same_name x m) (list_any (λ y. same_name y m) ns) (among-named ns n m a e)
 
 -- a block of a flat text as one of a process
 abbrev pub as_block : FlatBlockText → BlockText
@@ -127,7 +129,7 @@ module _ (fs : List UnitText) where
 
         by : (o : Option Cut) → next_cut fs c s ≡ o → LeadsOn m
         by None e = by-last e (next_lines fs c s) refl (last-of (next_lines fs c s))
-        by (Some z) e = into z e (named (or-cases (same_name (first_piece z.copy (first_label z.copy.unit.blocks)) m) false (sym (ap (λ ns. list_any (λ x. same_name x m) ns) (cut-leads z e)) ∙ h)))
+        by (Some z) e = into z e (named (or_cases (same_name (first_piece z.copy (first_label z.copy.unit.blocks)) m) false (sym (ap (λ ns. list_any (λ x. same_name x m) ns) (cut-leads z e)) ∙ h)))
           where
             named : ((same_name (first_piece z.copy (first_label z.copy.unit.blocks)) m ≡ true) ⊎ (false ≡ true)) → m ≡ first_piece z.copy (first_label z.copy.unit.blocks)
             named (inl f) = sym (same_name-is (first_piece z.copy (first_label z.copy.unit.blocks)) m f)
@@ -140,10 +142,10 @@ module _ (fs : List UnitText) where
 
     pub there-later : (b : BlockText) (earlier : List BlockText) (n : List ℕ) → There earlier n → There (b ∷ earlier) n
     there-later b earlier n (inl h) = inl h
-    there-later b earlier n (inr h) = inr (or-right (lines_define n b.lines) (blocks_define n earlier) h)
+    there-later b earlier n (inr h) = inr (or_right (lines_define n b.lines) (blocks_define n earlier) h)
 
     pub there-now : (b : BlockText) (earlier : List BlockText) (n : List ℕ) → lines_define n b.lines ≡ true → There (b ∷ earlier) n
-    there-now b earlier n h = inr (or-left (lines_define n b.lines) (blocks_define n earlier) h)
+    there-now b earlier n h = inr (or_left (lines_define n b.lines) (blocks_define n earlier) h)
 
     -- the path that the copy's unit has taken to a block, and what was given on it
     pub record Came (earlier : List BlockText) (c : Copy) (b : BlockText) (q : List BlockText) : Type 0 where
@@ -235,7 +237,7 @@ module _ (fs : List UnitText) where
         pub calm-given : (n : List ℕ) → lines_define n (next_lines fs at.copy at.piece) ≡ true → lines_define (at.copy.value n) y.lines ≡ true
         calm-given n h =
             ap (lines_define (at.copy.value n)) lines-are
-            ∙ lines-define (at.copy.value n) at.piece.merge _ (define-left (at.copy.value n) (map (copied_line fs at.copy) (next_lines fs at.copy at.piece)) _
+            ∙ lines-define (at.copy.value n) at.piece.merge _ (lines_define-append (at.copy.value n) (map (copied_line fs at.copy) (next_lines fs at.copy at.piece)) _
             (define-copied fs at.copy n (next_lines fs at.copy at.piece) h))
 
         -- so is what the merge gives
@@ -304,7 +306,7 @@ module _ (fs : List UnitText) where
           by : (a : List ℕ) → ((lines_define a (s.before ++ next_lines fs c s) ≡ true) ⊎ (lines_define a (z.line ∷ []) ≡ true))
               → There path (c.value a) ⊎ (lines_define (c.value a) (with_merge (merge_of fs c z.copy z.line.inst z.line.result) []) ≡ true)
           by a (inl d) = inl (lines a d)
-          by a (inr d) = last (or-cases (is_result_name a z.line.result) false d)
+          by a (inr d) = last (or_cases (is_result_name a z.line.result) false d)
             where
               last : ((is_result_name a z.line.result ≡ true) ⊎ (false ≡ true))
                   → There path (c.value a) ⊎ (lines_define (c.value a) (with_merge (merge_of fs c z.copy z.line.inst z.line.result) []) ≡ true)
@@ -354,7 +356,7 @@ module _ (fs : List UnitText) where
           came = record {
             path = (edge, (good at.depth at.copy at.nested).self d a, at.came.path);
             arguments = (came-on y earlier at).arguments;
-            given = λ n h. by-block n (or-cases (lines_define n at.piece.block.lines) (blocks_define n at.taken) h);
+            given = λ n h. by-block n (or_cases (lines_define n at.piece.block.lines) (blocks_define n at.taken) h);
           };
           begun = λ n h. cc;
         }

@@ -1,18 +1,19 @@
 -- What a `phi` of a flat text takes on an edge has been given at the end of the block that the edge leaves.
-use Rattle.std.proofs.Common.{◌≡◌, ◌⊎◌, ℕ, zero, suc, ◌+◌, List, [], ◌∷◌, ◌++◌, map, Bool, true, false, Option, Some, None, refl, ap, sym, ◌∙◌, inl, inr, subst}
+use Rattle.std.proofs.Common.{◌≡◌, ◌⊎◌, ℕ, zero, suc, ◌+◌, List, [], ◌∷◌, ◌++◌, map, true, false, Option, Some, None, refl, ap, sym, ◌∙◌, inl, inr, subst}
 use Rattle.std.specs.List.{flat_map}
 use Rattle.std.specs.Option.{option_map_or}
+use Rattle.std.proofs.lemmas.Bool.{both_ways}
 use Rattle.lh_types.specs.Types.{TypeTree}
 use Rattle.lh_unit.specs.Contents.{const_text, pure_text, var_text, ld_text, st_text, sig_text, prb_text, drv_text, reg_text, child_text, call_text, phi_text, br_text, branch_text, wait_text, halt_text, ret_text, InstText, OperandText, EdgeText, LineText, BlockText, UnitText, lines_define, blocks_define}
 use Rattle.lh_unit.specs.Named.{block_of, label_or}
 use Rattle.lh_unit.specs.Places.{has_edge}
 use Rattle.lh_unit.specs.WellFormed.{values_named, is_phi}
+use Rattle.lh_unit.proofs.ById.{lines_define-append}
 use Rattle.lh_formed.specs.Defined.{IsThere, IsThereOnEdge}
 use Rattle.lh_flat.specs.Copies.{Copy, top_copy, first_piece, last_from, last_piece, copied_edge, copied}
 use Rattle.lh_flat.specs.Flat.{MergeText, edge_if_given, given_in, given_by, merge_of, first_label, branch_into, flat_copy, max_nested, with_merge}
 use Rattle.lh_inlined.proofs.Cuts.{Among, among-left, among-right, Cut, cut, behind, lines-cut, last_by, last-cut, among-parts, among-map}
 use Rattle.lh_inlined.proofs.CopyPieces.{CopyPiece, next_cut, next_lines, after_copy_piece, CopyPieceOf, begins, goes_on, Nested, flat_copy_piece}
-use Rattle.lh_inlined.proofs.Lines.{define-left}
 use Rattle.lh_inlined.proofs.Splits.{LineOf, is_merge, is_copied, is_branch, line-of}
 use Rattle.lh_inlined.proofs.Paths.{as_block, IsGood, CallIsGood, There, Located, Step, jumps, returns, enters, copy_piece-block, copy_piece-lines, whole-block, value-there, nested-right}
 
@@ -144,9 +145,6 @@ no-branch d l ty es f i = let e : br_text (first_piece d (first_label d.unit.blo
 pub nothing-is : (m : MergeText) → None ≡ Some m → ⊥
 nothing-is m e = cc
 
-pub differ : (b : Bool) → b ≡ false → b ≡ true → ⊥
-differ b e f = cc
-
 -- what is asked of the `phi` of a unit
 pub record PhisAreGood (v : UnitText) : Type 0 where
   pub edges : (d : BlockText) (before after : List LineText) (l : LineText) (ty : TypeTree) (es : List EdgeText) → Among v.blocks d → d.lines ≡ before ++ l ∷ after → l.inst ≡ phi_text ty es
@@ -208,7 +206,7 @@ module _ (fs : List UnitText) (u x : UnitText) (args : x.args ≡ u.args)
         wider before l after n q (inr h) = inr (λ earlier path. more earlier (h earlier path))
           where
             more : (earlier : List BlockText) → ((lines_define n before ≡ true) ⊎ (blocks_define n earlier ≡ true)) → (lines_define n at.piece.block.lines ≡ true) ⊎ (blocks_define n earlier ≡ true)
-            more earlier (inl h) = inl (ap (lines_define n) q ∙ define-left n before (l ∷ after) h)
+            more earlier (inl h) = inl (ap (lines_define n) q ∙ lines_define-append n before (l ∷ after) h)
             more earlier (inr h) = inr h
 
     -- the block to which the edge leads is that of the next piece
@@ -251,7 +249,7 @@ module _ (fs : List UnitText) (u x : UnitText) (args : x.args ≡ u.args)
                 let f = phi-of fs z.copy j.inst ty es g in
                 let no : is_phi j.inst ≡ false = (phis k z.copy n').entry b more bs start _ j (lines-cut fs z.copy (label_or b.label) 0 b.lines
                 ∙ ap (λ ls. ls ++ behind fs z.copy (label_or b.label) (cut fs z.copy (label_or b.label) 0 b.lines)) r ∙ nested-right start (j ∷ rest) _) in
-                elim (differ (is_phi j.inst) no (ap is_phi f.is)) [ ]
+                elim (both_ways (is_phi j.inst) no (ap is_phi f.is)) [ ]
             copied-step (returns k' c' n0 s' h0 z r' zc none ret) start j rest r g h' n' =
                 let f = phi-of fs c' j.inst ty es g in
                 let lines : s'.block.lines ≡ (((s'.before ++ next_lines fs c' s') ++ z.line ∷ []) ++ start) ++ j
@@ -262,4 +260,4 @@ module _ (fs : List UnitText) (u x : UnitText) (args : x.args ≡ u.args)
                 ∙ sym (nested-right ((s'.before ++ next_lines fs c' s') ++ z.line ∷ []) start _) in
                 let yes : is_phi z.line.inst ≡ true = (phis k c' n').first s'.block _ _ j (copy_piece-block fs c' s' h0).0 lines (ap is_phi f.is) z.line
                 (among-left ((s'.before ++ next_lines fs c' s') ++ z.line ∷ []) start z.line (among-right (s'.before ++ next_lines fs c' s') (z.line ∷ []) z.line (inl refl))) in
-                elim (differ (is_phi z.line.inst) (calls k' c' n0 s' h0 z r').no_phi yes) [ ]
+                elim (both_ways (is_phi z.line.inst) (calls k' c' n0 s' h0 z r').no_phi yes) [ ]

@@ -2,6 +2,7 @@
 use Rattle.std.proofs.Common.{◌≡◌, ℕ, zero, suc, ◌+◌, List, [], ◌∷◌, ◌++◌, Bool, true, false, cond, Option, Some, None, refl, ap, sym, ◌∙◌, inl, inr, subst, arith}
 use Rattle.std.specs.Option.{option_map_or}
 use Rattle.std.proofs.lemmas.List.Sums.{sum_by-cons}
+use Rattle.std.proofs.lemmas.Bool.{both_ways}
 use Rattle.lh_types.specs.Types.{TypeTree}
 use Rattle.lh_unit.specs.Contents.{OperandText, EdgeText, InstText, const_text, pure_text, var_text, ld_text, st_text, sig_text, prb_text, drv_text, reg_text, child_text, call_text, phi_text, br_text, branch_text, wait_text, halt_text, ret_text, LineText, BlockText, UnitText}
 use Rattle.lh_names.specs.Names.{same_name}
@@ -16,7 +17,7 @@ use Rattle.lh_inlined.proofs.CopyPieces.{CopyPiece, next_cut, next_lines, first_
 use Rattle.lh_inlined.proofs.Splits.{LineOf, is_merge, is_copied, is_branch, line-of}
 use Rattle.lh_inlined.proofs.Typing.{among-image}
 use Rattle.lh_inlined.proofs.Paths.{as_block, IsGood, CallIsGood, Step, jumps, returns, enters, copy_piece-block, copy_piece-lines, nested-right, LeadsOn, into, within_unit, back_from, leads-on}
-use Rattle.lh_inlined.proofs.Phis.{own-last, phi-of, PhisAreGood, no-branch, nothing-is, differ, merge-edges}
+use Rattle.lh_inlined.proofs.Phis.{own-last, phi-of, PhisAreGood, no-branch, nothing-is, merge-edges}
 
 -- an edge of these names the block
 abbrev pub Names : List EdgeText → List ℕ → Type 0
@@ -194,7 +195,7 @@ module _ (fs : List UnitText) (u x : UnitText) (args : x.args ≡ u.args)
                 let f = phi-of fs z.copy j.inst ty es g in
                 let no : is_phi j.inst ≡ false = (phis k z.copy n').entry b more bs start _ j (lines-cut fs z.copy (label_or b.label) 0 b.lines
                 ∙ ap (λ ls. ls ++ behind fs z.copy (label_or b.label) (cut fs z.copy (label_or b.label) 0 b.lines)) r ∙ nested-right start (j ∷ rest) _) in
-                elim (differ (is_phi j.inst) no (ap is_phi f.is)) [ ]
+                elim (both_ways (is_phi j.inst) no (ap is_phi f.is)) [ ]
             copied-step (returns k' c' n0 s' h0 z r' zc none ret) start j rest r g h' n' =
                 let f = phi-of fs c' j.inst ty es g in
                 let lines : s'.block.lines ≡ (((s'.before ++ next_lines fs c' s') ++ z.line ∷ []) ++ start) ++ j
@@ -205,4 +206,4 @@ module _ (fs : List UnitText) (u x : UnitText) (args : x.args ≡ u.args)
                 ∙ sym (nested-right ((s'.before ++ next_lines fs c' s') ++ z.line ∷ []) start _) in
                 let yes : is_phi z.line.inst ≡ true = (phis k c' n').first s'.block _ _ j (copy_piece-block fs c' s' h0).0 lines (ap is_phi f.is) z.line
                 (among-left ((s'.before ++ next_lines fs c' s') ++ z.line ∷ []) start z.line (among-right (s'.before ++ next_lines fs c' s') (z.line ∷ []) z.line (inl refl))) in
-                elim (differ (is_phi z.line.inst) (calls k' c' n0 s' h0 z r').no_phi yes) [ ]
+                elim (both_ways (is_phi z.line.inst) (calls k' c' n0 s' h0 z r').no_phi yes) [ ]

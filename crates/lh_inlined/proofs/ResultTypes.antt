@@ -1,12 +1,13 @@
 -- Each result of a line has a type: in a unit of a well-formed module by its row and its spelling, and so in copies of it.
-use Rattle.std.proofs.Common.{◌≡◌, ◌≤◌, ◌*◌, ℕ, zero, suc, ◌+◌, List, [], ◌∷◌, ◌++◌, length, map, true, false, nat_eq, nat_lt, Option, Some, None, IsSome, option_map, refl, ap, sym, ◌∙◌, subst, arith}
+use Rattle.std.proofs.Common.{◌≡◌, ◌≤◌, ℕ, zero, suc, ◌+◌, List, [], ◌∷◌, ◌++◌, length, map, true, false, Option, Some, None, IsSome, option_map, refl, ap, sym, ◌∙◌, subst, arith, le-ltb}
 use Rattle.std.specs.List.{flat_map}
-use Rattle.std.proofs.lemmas.Grind.{common_steps}
 use Rattle.std.proofs.lemmas.Option.{same_Some, none-some}
-use Rattle.lh_types.specs.Types.{TypeTree, TypeRow, int_type, array_type, tuple_type, no_types, more_types, row_of, bit_count, bit_count_row, depth_of, depth_of_row, IsData, AreData}
-use Rattle.lh_types.specs.Faults.{is_data, all_data, is_empty_row, int_fault, array_fault, tuple_fault}
+use Rattle.std.proofs.lemmas.Bool.{false≢true}
+use Rattle.lh_types.specs.Types.{TypeTree, TypeRow, int_type, array_type, tuple_type, no_types, more_types, row_of, bit_count_row, IsData}
+use Rattle.lh_types.specs.Faults.{is_empty_row, int_fault}
 use Rattle.lh_types.specs.Values.{Datum, int_value, time_value}
 use Rattle.lh_types.specs.declared.op.Op.{Op}
+use Rattle.lh_types.proofs.TypeFaults.{array-again, tuple-again, above_zero}
 use Rattle.lh_types.specs.declared.op.Op.TheVariants as op
 use Rattle.lh_unit.specs.Contents.{OperandText, InstText, const_text, pure_text, var_text, ld_text, sig_text, prb_text, call_text, phi_text, LineText, BlockText, UnitText}
 use Rattle.lh_names.specs.declared.name.UnitName.{UnitName}
@@ -28,45 +29,17 @@ use Rattle.lh_flat.specs.Copies.{Copy, call_path, opened, copied, copied_line}
 use Rattle.lh_flat.specs.Flat.{MergeText, FlatBlockText, Pieces, merge_of, with_line, pieces_from, with_merge, flat_block, flat_copy}
 use Rattle.lh_inlined.proofs.SoundCopies.{IsCode, result-copied}
 use Rattle.lh_inlined.proofs.Paths.{as_block}
-use Rattle.lh_inlined.proofs.Opening.{Opens, opens-is}
+use Rattle.lh_inlined.proofs.Finding.{opens-is, Opens}
+use Rattle.lh_sound.proofs.Finding.{is-some}
 
 -- ---- types within their limits
 
-some : {A : Type 0} (o : Option A) (x : A) → o ≡ Some x → IsSome o
-some o x e = subst (λ y. IsSome y) (sym e) refl
-
-at_most : (x y : ℕ) → y ≤ x → nat_lt x y ≡ false
-at_most x y h = grind (arith, common_steps)
-
-above_zero : (n : ℕ) → 1 ≤ n → nat_eq n 0 ≡ false
-above_zero n h = grind (arith, common_steps)
-
-data-yes : (t : TypeTree) → IsData t → is_data t ≡ true
-data-yes (int_type n) h = refl
-data-yes (array_type n t) h = refl
-data-yes (tuple_type r) h = refl
-data-yes _ h = absurd h
-
-all-data-yes : (r : TypeRow) → AreData r → all_data r ≡ true
-all-data-yes no_types h = refl
-all-data-yes (more_types t r) h = rw (data-yes t h.0, all-data-yes r h.1) refl
-
 int-made : (n : ℕ) → IsData (int_type n) → int_fault n ≡ None
-int-made n h = let a = above_zero n h.0 in let b = at_most 128 n h.1 in rw (a, b) refl
-
-array-made : (n : ℕ) (t : TypeTree) → IsData (array_type n t) → array_fault n t ≡ None
-array-made n t h =
-    let a = above_zero n h.1 in let b = data-yes t h.0 in let c = at_most 16 (depth_of t + 1) h.4 in let d = at_most 65536 (n * bit_count t) h.3 in
-    rw (a, b, c, d) refl
+int-made n h = let a = above_zero n h.0 in let b = le-ltb 128 n h.1 in rw (a, b) refl
 
 filled : (r : TypeRow) → 1 ≤ bit_count_row r → is_empty_row r ≡ false
 filled no_types h = absurd (omega (arith, h))
 filled (more_types t r) h = refl
-
-tuple-made : (r : TypeRow) → IsData (tuple_type r) → tuple_fault r ≡ None
-tuple-made r h =
-    let a = filled r h.1 in let b = all-data-yes r h.0 in let c = at_most 16 (depth_of_row r + 1) h.3 in let d = at_most 65536 (bit_count_row r) h.2 in
-    rw (a, b, c, d) refl
 
 -- the types before operands, where each has one
 types-written : (args : List OperandText) (r : TypeRow) → operand_types args ≡ Some r → row_of (written_types args) ≡ r
@@ -82,7 +55,7 @@ types-written (o ∷ args) r e = by o.ty (operand_types args) refl e (types-writ
 -- ---- the result of a line of a unit
 
 constant-typed : (d : Datum) (ts : List Lexeme) → SpellsInst (const_text d) ts → IsSome (result_type (const_text d))
-constant-typed (int_value n bits) ts h = some (if_made (int_fault n) (int_type n)) (int_type n) (ap (λ f. if_made f (int_type n)) (int-made n h.3.1))
+constant-typed (int_value n bits) ts h = is-some (if_made (int_fault n) (int_type n)) (int_type n) (ap (λ f. if_made f (int_type n)) (int-made n h.3.1))
 constant-typed (time_value d) ts h = refl
 constant-typed _ ts h = absurd h
 
@@ -90,14 +63,14 @@ array-typed : (args : List OperandText) (ts : List Lexeme) → SpellsPure op.Arr
 array-typed [] ts h g = absurd h
 array-typed (o ∷ rest) ts h g =
     let same : h.0 ≡ g.0 = same_Some h.0 g.0 (sym h.4 ∙ g.1) in
-    some (operation_type op.Array (o ∷ rest)) (array_type (length (o ∷ rest)) g.0) (g.2 (array-made (length (o ∷ rest)) g.0 (subst (λ t. IsData (array_type (length (o ∷ rest)) t)) same h.7)))
+    is-some (operation_type op.Array (o ∷ rest)) (array_type (length (o ∷ rest)) g.0) (g.2 (array-again (length (o ∷ rest)) g.0 (subst (λ t. IsData (array_type (length (o ∷ rest)) t)) same h.7)))
 
 repeat-typed : (n : ℕ) (args : List OperandText) (ts : List Lexeme) → SpellsPure (op.Repeat n) args ts → OperationGives (op.Repeat n) args → IsSome (operation_type (op.Repeat n) args)
 repeat-typed n [] ts h g = absurd h
 repeat-typed n (o ∷ p ∷ rest) ts h g = absurd h
 repeat-typed n (o ∷ []) ts h g =
     let same : h.0 ≡ g.0 = same_Some h.0 g.0 (sym h.5 ∙ g.1) in
-    some (operation_type (op.Repeat n) (o ∷ [])) (array_type n g.0) (g.2 (array-made n g.0 (subst (λ t. IsData (array_type n t)) same h.7)))
+    is-some (operation_type (op.Repeat n) (o ∷ [])) (array_type n g.0) (g.2 (array-again n g.0 (subst (λ t. IsData (array_type n t)) same h.7)))
 
 operation-typed : (o : Op) (args : List OperandText) (ts : List Lexeme) → SpellsPure o args ts → OperationGives o args → IsSome (operation_type o args)
 operation-typed op.Eq args ts h g = refl
@@ -113,22 +86,19 @@ operation-typed op.Uge args ts h g = refl
 operation-typed op.Array args ts h g = array-typed args ts h g
 operation-typed (op.Repeat n) args ts h g = repeat-typed n args ts h g
 operation-typed op.Tuple args ts h g =
-    some (operation_type op.Tuple args) (tuple_type g.0) (g.2 (tuple-made g.0 (subst (λ (r : TypeRow). IsData (tuple_type r)) (types-written args g.0 g.1) h.3)))
-operation-typed o args ts h g = some (operation_type o args) g.0 g.2
-
-no : false ≡ true → ⊥
-no e = cc
+    is-some (operation_type op.Tuple args) (tuple_type g.0) (g.2 (tuple-again g.0 (subst (λ (r : TypeRow). IsData (tuple_type r)) (types-written args g.0 g.1) h.3)))
+operation-typed o args ts h g = is-some (operation_type o args) g.0 g.2
 
 inst-typed : (v : UnitText) (n : List ℕ) (i : InstText) (ts : List Lexeme) → SpellsLine (Some n) i ts → RowIs v i → IsSome (result_type i)
 inst-typed v n (const_text d) ts h r = constant-typed d h.0 h.3
 inst-typed v n (pure_text o args) ts h r = operation-typed o args h.0 h.3 (gives v (pure_text o args) r)
-inst-typed v n (var_text a) ts h r = let g = gives v (var_text a) r in some (result_type (var_text a)) _ g.2
-inst-typed v n (ld_text p) ts h r = let g = gives v (ld_text p) r in some (result_type (ld_text p)) _ g.2
-inst-typed v n (sig_text a) ts h r = let g = gives v (sig_text a) r in some (result_type (sig_text a)) _ g.2
-inst-typed v n (prb_text s) ts h r = let g = gives v (prb_text s) r in some (result_type (prb_text s)) _ g.2
+inst-typed v n (var_text a) ts h r = let g = gives v (var_text a) r in is-some (result_type (var_text a)) _ g.2
+inst-typed v n (ld_text p) ts h r = let g = gives v (ld_text p) r in is-some (result_type (ld_text p)) _ g.2
+inst-typed v n (sig_text a) ts h r = let g = gives v (sig_text a) r in is-some (result_type (sig_text a)) _ g.2
+inst-typed v n (prb_text s) ts h r = let g = gives v (prb_text s) r in is-some (result_type (prb_text s)) _ g.2
 inst-typed v n (call_text f result args) ts h r = refl
 inst-typed v n (phi_text ty edges) ts h r = refl
-inst-typed v n _ ts h r = absurd (no h.2)
+inst-typed v n _ ts h r = absurd (false≢true h.2)
 
 -- what this line gives has a type
 abbrev pub IsTyped : LineText → Type 0

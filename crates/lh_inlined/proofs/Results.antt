@@ -1,7 +1,7 @@
 -- Each result of a flat text stands once.
-use Rattle.std.proofs.Common.{◌≡◌, ◌⊎◌, ◌||◌, ℕ, zero, suc, ◌+◌, List, [], ◌∷◌, ◌++◌, map, Bool, true, false, Option, Some, None, option_map, refl, ap, sym, ◌∙◌, inl, inr, subst, append_assoc}
+use Rattle.std.proofs.Common.{◌≡◌, ◌⊎◌, ◌||◌, ℕ, zero, suc, ◌+◌, List, [], ◌∷◌, ◌++◌, map, true, false, Option, Some, None, option_map, refl, ap, sym, ◌∙◌, inl, inr, subst, append_assoc}
 use Rattle.std.specs.List.{flat_map}
-use Rattle.std.proofs.lemmas.Bool.{or_parts}
+use Rattle.std.proofs.lemmas.Bool.{or_parts, or_from}
 use Rattle.std.proofs.lemmas.List.{append_cancel_left}
 use Rattle.lh_names.specs.declared.name.UnitName.{UnitName}
 use Rattle.lh_unit.specs.Contents.{OperandText, InstText, call_text, LineText, BlockText, ArgText, UnitText, is_result_name, lines_define, args_define}
@@ -21,7 +21,7 @@ use Rattle.lh_inlined.proofs.Cuts.{Among, among-left, among-right}
 use Rattle.lh_inlined.proofs.Paths.{as_block}
 use Rattle.lh_inlined.proofs.Facts.{each-among}
 use Rattle.lh_inlined.proofs.Holding.{other-name}
-use Rattle.lh_inlined.proofs.Opening.{Opens, opens-is}
+use Rattle.lh_inlined.proofs.Finding.{opens-is, Opens}
 
 -- ---- the names of results
 
@@ -76,21 +76,18 @@ apart-across (z ∷ xs) ys x y h (inr a) b e = apart-across xs ys x y h.1 a b e
 abbrev pub IsNewIn : List ArgText → (seen : List LineText) → List ℕ → Type 0
 IsNewIn args seen n = (args_define n args ≡ false) × (lines_define n seen ≡ false)
 
-or-false : (a b : Bool) → a ≡ false → b ≡ false → (a || b) ≡ false
-or-false a b p q = ap (λ x. x || b) p ∙ q
-
 define-append : (n : List ℕ) (seen : List LineText) (l : LineText) → lines_define n seen ≡ false → is_result_name n l.result ≡ false → lines_define n (seen ++ l ∷ []) ≡ false
-define-append n [] l p q = or-false (is_result_name n l.result) false q refl
+define-append n [] l p q = or_from (is_result_name n l.result) false q refl
 define-append n (x ∷ seen) l p q =
     let r = or_parts (is_result_name n x.result) (lines_define n seen) p in
-    or-false (is_result_name n x.result) (lines_define n (seen ++ l ∷ [])) r.0 (define-append n seen l r.1 q)
+    or_from (is_result_name n x.result) (lines_define n (seen ++ l ∷ [])) r.0 (define-append n seen l r.1 q)
 
 define-parts : (n : List ℕ) (seen : List LineText) (l : LineText) → lines_define n (seen ++ l ∷ []) ≡ false → (lines_define n seen ≡ false) × (is_result_name n l.result ≡ false)
 define-parts n [] l p = (refl, (or_parts (is_result_name n l.result) false p).0)
 define-parts n (x ∷ seen) l p =
     let r = or_parts (is_result_name n x.result) (lines_define n (seen ++ l ∷ [])) p in
     let s = define-parts n seen l r.1 in
-    (or-false (is_result_name n x.result) (lines_define n seen) r.0 s.0, s.1)
+    (or_from (is_result_name n x.result) (lines_define n seen) r.0 s.0, s.1)
 
 -- so results do not repeat
 pub results-new : (args : List ArgText) (seen ls : List LineText) → Apart (results ls) → Each (IsNewIn args seen) (results ls) → results_repeat args seen ls ≡ false
@@ -102,7 +99,7 @@ results-new args seen (l ∷ ls) a h = by l.result refl a h (λ x y. results-new
         → (result_repeats args seen r || results_repeat args (seen ++ l ∷ []) ls) ≡ false
     by None e a h go = go a (Each-more (IsNewIn args seen) (IsNewIn args (seen ++ l ∷ [])) (results ls) (λ n k. (k.0, define-append n seen l k.1 (ap (is_result_name n) e))) h)
     by (Some m) e a h go =
-        or-false (args_define m args || lines_define m seen) (results_repeat args (seen ++ l ∷ []) ls) (or-false (args_define m args) (lines_define m seen) h.0.0 h.0.1)
+        or_from (args_define m args || lines_define m seen) (results_repeat args (seen ++ l ∷ []) ls) (or_from (args_define m args) (lines_define m seen) h.0.0 h.0.1)
         (go a.1 (later (results ls) a.0 h.1))
       where
         later : (ns : List (List ℕ)) → Differs m ns → Each (IsNewIn args seen) ns → Each (IsNewIn args (seen ++ l ∷ [])) ns
@@ -360,11 +357,11 @@ module _ (fs : List UnitText) (functions : (n : UnitName) (f : UnitText) → fun
   opened-own : (c : Copy) (path : List ℕ) (i : InstText) (d : Copy) → opened fs c path i ≡ Some d → (d.path ≡ path) × CopyIsOwn d
   opened-own c path i d e =
       let o : Opens fs c path i d = opens-is fs c path i d e in
-      let q : d.path ≡ path = ap (λ (x : Copy). x.path) o.copy in (
+      let q : d.path ≡ path = ap (λ (x : Copy). x.path) (sym o.copy) in (
         q,
         record {
           unit = functions o.callee d.unit o.named;
-          value = λ n h. ap (λ (x : Copy). x.value n) o.copy ∙ other-name d.unit.args (map (λ (o : OperandText). c.value o.value) o.args) (path ++ n) n h ∙ ap (λ p. p ++ n) (sym q);
+          value = λ n h. ap (λ (x : Copy). x.value n) (sym o.copy) ∙ other-name d.unit.args (map (λ (o : OperandText). c.value o.value) o.args) (path ++ n) n h ∙ ap (λ p. p ++ n) (sym q);
         },
       )
 
@@ -387,7 +384,7 @@ module _ (fs : List UnitText) (functions : (n : UnitName) (f : UnitText) → fun
   -- a name with a mark is no argument, where those are of bytes
   no-argument : (args : List ArgText) (m : List ℕ) (k : ℕ) (x : List ℕ) → Each (λ (a : ArgText). IsPlain a.name) args → UnderFrom [] m k x → args_define x args ≡ false
   no-argument [] m k x p h = refl
-  no-argument (a ∷ args) m k x p h = or-false (same_name a.name x) (args_define x args) (not_same a.name x (λ e. plain-under [] a.name m k a.name x p.0 refl h e)) (no-argument args m k x p.1 h)
+  no-argument (a ∷ args) m k x p h = or_from (same_name a.name x) (args_define x args) (not_same a.name x (λ e. plain-under [] a.name m k a.name x p.0 refl h e)) (no-argument args m k x p.1 h)
 
   -- Each result of the flat text of a process stands once.
   pub once : (u : UnitText) (name : UnitName) → OwnNames u → Each (λ (a : ArgText). IsPlain a.name) u.args

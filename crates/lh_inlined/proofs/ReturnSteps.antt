@@ -19,9 +19,10 @@ use Rattle.lh_flat.specs.Marks.{marks}
 use Rattle.lh_inlined.specs.Tidy.{ResultIsNew, CallGives, AlwaysGives, LineTidy, BlockTidy, FunctionsTidy, NoPhis, PhisFirst}
 use Rattle.lh_inlined.proofs.Finding.{as_block, found-block, Opens, opens-is, next_of, next-found}
 use Rattle.lh_inlined.proofs.Holding.{Holds, Below-same, keeps-datum}
-use Rattle.lh_inlined.proofs.LastPieces.{each-middle, block-each, label-is, ends-last, no_phi-behind, edge-given}
+use Rattle.lh_inlined.proofs.LastPieces.{each-middle, block-each, ends-last, no_phi-behind, edge-given}
 use Rattle.lh_inlined.proofs.Alike.{tidy-labelled, functions-labelled, GivesInBoth, gives-result, flat, all, Runs, CallAt, Callers, Alike, block-tidy, label-plain, callers-below, no_phis-taken, no_phis-copied}
 use Rattle.lh_inlined.proofs.Entering.{Follows, past, runs-past, runs-end}
+use Rattle.lh_inlined.proofs.Facts.{label-found}
 
 module _ (s : Scene) (u : UnitText) (name : UnitName) (top : ℕ) (w : FunctionsTidy s.functions) where
   abbrev Calls : (left : ℕ) → Copy → Caller → Copy → Env → Type 0
@@ -52,7 +53,7 @@ module _ (s : Scene) (u : UnitText) (name : UnitName) (top : ℕ) (w : Functions
         found-block d.path (all s u name top w)
         ∙ ap (option_map as_block)
         (next-found s.functions (functions-labelled s.functions w) (all s u name top w) (suc left) c k.place.stands (tidy-labelled s.functions c.unit k.place.tidy) x.control.block k.text k.stands
-        (label-plain s u name top w (suc left) c x.control.block k.text k.place k.stands) (sym (label-is x.control.block c.unit.blocks k.text k.stands)) k.before x.control.rest k.line d k.split
+        (label-plain s u name top w (suc left) c x.control.block k.text k.place k.stands) (sym (label-found x.control.block c.unit.blocks k.text k.stands)) k.before x.control.rest k.line d k.split
         k.opens)
 
     call-no_phi : is_phi k.line.inst ≡ false

@@ -4,6 +4,7 @@ use Rattle.lh_unit.specs.Contents.{phi_text, LineText, UnitText}
 use Rattle.lh_unit.specs.Named.{label_or}
 use Rattle.lh_flat.specs.Copies.{Copy, copied_line}
 use Rattle.lh_flat.specs.Flat.{MergeText, FlatBlockText, branch_into, with_merge}
+use Rattle.lh_flat.proofs.Bounds.{head-same, tail-same}
 use Rattle.lh_inlined.proofs.Cuts.{Cut, ending}
 use Rattle.lh_inlined.proofs.CopyPieces.{CopyPiece, next_cut, next_lines}
 
@@ -12,19 +13,13 @@ pub data InParts {A : Type 0} (xs ys before : List A) (l : A) (after : List A) :
   in_first : (rest : List A) → xs ≡ before ++ l ∷ rest → after ≡ rest ++ ys → InParts xs ys before l after
   in_second : (start : List A) → ys ≡ start ++ l ∷ after → before ≡ xs ++ start → InParts xs ys before l after
 
-heads : {A : Type 0} (x y : A) (xs ys : List A) → x ∷ xs ≡ y ∷ ys → x ≡ y
-heads x y xs ys h = cc
-
-tails : {A : Type 0} (x y : A) (xs ys : List A) → x ∷ xs ≡ y ∷ ys → xs ≡ ys
-tails x y xs ys h = cc
-
 pub in-parts : {A : Type 0} (xs ys before : List A) (l : A) (after : List A) → xs ++ ys ≡ before ++ l ∷ after → InParts xs ys before l after
 in-parts [] ys before l after h = in_second before h refl
-in-parts (x ∷ xs) ys [] l after h = in_first xs (ap (λ y. y ∷ xs) (heads x l (xs ++ ys) after h)) (sym (tails x l (xs ++ ys) after h))
-in-parts (x ∷ xs) ys (b ∷ before) l after h = on (in-parts xs ys before l after (tails x b (xs ++ ys) (before ++ l ∷ after) h))
+in-parts (x ∷ xs) ys [] l after h = in_first xs (ap (λ y. y ∷ xs) (head-same x l (xs ++ ys) after h)) (sym (tail-same x l (xs ++ ys) after h))
+in-parts (x ∷ xs) ys (b ∷ before) l after h = on (in-parts xs ys before l after (tail-same x b (xs ++ ys) (before ++ l ∷ after) h))
   where
     same : x ≡ b
-    same = heads x b (xs ++ ys) (before ++ l ∷ after) h
+    same = head-same x b (xs ++ ys) (before ++ l ∷ after) h
 
     on : InParts xs ys before l after → InParts (x ∷ xs) ys (b ∷ before) l after
     on (in_first rest e f) = in_first rest (λ j. same j ∷ e j) f
@@ -42,10 +37,10 @@ pub record InMap {A B : Type 0} (f : A → B) (xs : List A) (before : List B) (l
 pub in-map : {A B : Type 0} (f : A → B) (xs : List A) (before : List B) (l : B) (after : List B) → map f xs ≡ before ++ l ∷ after → InMap f xs before l
 in-map f [] [] l after h = cc
 in-map f [] (b ∷ before) l after h = cc
-in-map f (x ∷ xs) [] l after h = record { start = []; item = x; rest = xs; splits = refl; is_before = refl; is = sym (heads (f x) l (map f xs) after h) }
+in-map f (x ∷ xs) [] l after h = record { start = []; item = x; rest = xs; splits = refl; is_before = refl; is = sym (head-same (f x) l (map f xs) after h) }
 in-map f (x ∷ xs) (b ∷ before) l after h =
-    let r = in-map f xs before l after (tails (f x) b (map f xs) (before ++ l ∷ after) h) in
-    let same : f x ≡ b = heads (f x) b (map f xs) (before ++ l ∷ after) h in
+    let r = in-map f xs before l after (tail-same (f x) b (map f xs) (before ++ l ∷ after) h) in
+    let same : f x ≡ b = head-same (f x) b (map f xs) (before ++ l ∷ after) h in
     record { start = x ∷ r.start; item = r.item; rest = r.rest; splits = ap (λ ys. x ∷ ys) r.splits; is_before = (λ j. sym same j ∷ r.is_before j); is = r.is }
 
 -- the `phi` that a merge stands for
@@ -64,9 +59,9 @@ module _ (fs : List UnitText) (c : Copy) (s : CopyPiece) (copy_of : Copy → Lis
       → LineOf fs c s before l
   ending-line None e [] before after l h = cc
   ending-line None e (x ∷ start) before after l h = cc
-  ending-line (Some z) e [] before after l h = is_branch z e (sym (heads (branch_into z.copy) l [] after h))
-  ending-line (Some z) e (x ∷ []) before after l h = let r : [] ≡ l ∷ after = tails (branch_into z.copy) x [] (l ∷ after) h in cc
-  ending-line (Some z) e (x ∷ y ∷ start) before after l h = let r : [] ≡ y ∷ (start ++ l ∷ after) = tails (branch_into z.copy) x [] (y ∷ (start ++ l ∷ after)) h in cc
+  ending-line (Some z) e [] before after l h = is_branch z e (sym (head-same (branch_into z.copy) l [] after h))
+  ending-line (Some z) e (x ∷ []) before after l h = let r : [] ≡ l ∷ after = tail-same (branch_into z.copy) x [] (l ∷ after) h in cc
+  ending-line (Some z) e (x ∷ y ∷ start) before after l h = let r : [] ≡ y ∷ (start ++ l ∷ after) = tail-same (branch_into z.copy) x [] (y ∷ (start ++ l ∷ after)) h in cc
 
   plain-line : (prefix : List LineText → List LineText) → ((a : List LineText) → prefix a ≡ with_merge s.merge a) → (before after : List LineText) (l : LineText)
       → map (copied_line fs c) (next_lines fs c s) ++ ending fs c (label_or s.block.label) copy_of (next_cut fs c s) ≡ before ++ l ∷ after → LineOf fs c s (prefix before) l
@@ -83,8 +78,8 @@ module _ (fs : List UnitText) (c : Copy) (s : CopyPiece) (copy_of : Copy → Lis
       by : (m : Option MergeText) → s.merge ≡ m → (before : List LineText) → with_merge m (map (copied_line fs c) (next_lines fs c s) ++ ending fs c (label_or s.block.label) copy_of (next_cut fs c s))
           ≡ before ++ l ∷ after → LineOf fs c s before l
       by None e before h = plain-line (λ a. a) (λ a. ap (λ m. with_merge m a) (sym e)) before after l h
-      by (Some m) e [] h = is_merge m e (sym (heads (merge_line m) l _ after h)) refl
+      by (Some m) e [] h = is_merge m e (sym (head-same (merge_line m) l _ after h)) refl
       by (Some m) e (b ∷ before) h =
-          let same : merge_line m ≡ b = heads (merge_line m) b _ (before ++ l ∷ after) h in
+          let same : merge_line m ≡ b = head-same (merge_line m) b _ (before ++ l ∷ after) h in
           subst (λ x. LineOf fs c s (x ∷ before) l) same
-          (plain-line (λ a. merge_line m ∷ a) (λ a. ap (λ m. with_merge m a) (sym e)) before after l (tails (merge_line m) b _ (before ++ l ∷ after) h))
+          (plain-line (λ a. merge_line m ∷ a) (λ a. ap (λ m. with_merge m a) (sym e)) before after l (tail-same (merge_line m) b _ (before ++ l ∷ after) h))

@@ -28,9 +28,9 @@ use Rattle.lh_unit.specs.SpellsInst.{is_void, gives_value}
 use Rattle.lh_unit.specs.WellFormed.{in_entity, is_phi, labels_named, IsWellFormed}
 use Rattle.lh_unit.specs.Within.{Each}
 use Rattle.lh_unit.specs.Activation.{functions}
-use Rattle.lh_unit.proofs.Lists.{Each-left, Each-right}
 use Rattle.lh_names.proofs.NameLists.{same_name-is, same_name-refl}
 use Rattle.lh_unit.proofs.Within.{Each-more}
+use Rattle.lh_unit.proofs.ContentsLemmas.{Each-by_blocks}
 use Rattle.lh_formed.specs.Calls.{NamedIsRight}
 use Rattle.lh_formed.specs.Operands.{RowIs, ReturnIs}
 use Rattle.lh_formed.specs.Shape.{EndsOnce, EachUnit}
@@ -44,8 +44,8 @@ use Rattle.lh_flat.specs.Marks.{IsPlain}
 use Rattle.lh_flat.proofs.Apart.{plain-name, name-there}
 use Rattle.lh_inlined.specs.Tidy.{ResultIsNew, EdgesArePlain, AlwaysGives, CallGives, LineTidy, Either, NoPhis, PhisFirst, BlockTidy, ArgsOnce, EntryHasNoPhi, UnitTidy, FunctionsTidy, FunctionsAreTidy, ProcessesAreTidy}
 use Rattle.lh_inlined.proofs.Cuts.{Among}
-use Rattle.lh_inlined.proofs.LastPieces.{label-is, block-each}
-use Rattle.lh_inlined.proofs.Facts.{UnitFacts, fact-at, phis-good, facts-of-items}
+use Rattle.lh_inlined.proofs.LastPieces.{block-each}
+use Rattle.lh_inlined.proofs.Facts.{UnitFacts, fact-at, phis-good, facts-of-items, label-found}
 use Rattle.lh_inlined.proofs.Copying.{ModuleFacts, function-facts, process-facts}
 use Rattle.lh_inlined.proofs.Opening.{function-is}
 
@@ -128,7 +128,7 @@ result-named r i h = (spaced-lexed (item_line (inst_item (record { result = Some
 -- ---- no name twice
 
 -- a name that was seen stands no more
-seen-once : (n : List ℕ) (seen xs : List ArgText) → args_repeat seen xs ≡ false → args_define n seen ≡ true → args_define n xs ≡ false
+pub seen-once : (n : List ℕ) (seen xs : List ArgText) → args_repeat seen xs ≡ false → args_define n seen ≡ true → args_define n xs ≡ false
 seen-once n seen [] h d = refl
 seen-once n seen (a ∷ xs) h d = by (same_name a.name n) refl (seen-once n (seen ++ a ∷ []) xs parts.1 (more seen d))
   where
@@ -173,16 +173,11 @@ results-new args seen (l ∷ ls) h =
     let p = or_parts (result_repeats args seen l.result) (results_repeat args (seen ++ l ∷ []) ls) h in
     (λ r e. (or_parts (args_define r args) (lines_define r seen) (ap (result_repeats args seen) (sym e) ∙ p.0)).0, results-new args (seen ++ l ∷ []) ls p.1)
 
--- from the lines of all blocks to those of each
-by-blocks : (P : LineText → Type 0) (bs : List BlockText) → Each P (lines_of bs) → Each (λ (b : BlockText). Each P b.lines) bs
-by-blocks P [] e = tt
-by-blocks P (b ∷ more) e = (Each-left P b.lines (lines_of more) e, by-blocks P more (Each-right P b.lines (lines_of more) e))
-
 -- ---- a function that gives a value does so at each `ret`
 
 always-gives : (items : List ItemText) (d : UnitText) (t : TypeTree) → UnitFacts items d → d.result ≡ Some t → (t ≡ void_type → ⊥) → AlwaysGives d
 always-gives items d t f e n =
-    by-blocks (λ (l : LineText). l.inst ≡ ret_text None → ⊥) d.blocks
+    Each-by_blocks (λ (l : LineText). l.inst ≡ ret_text None → ⊥) d.blocks
     (Each-more (InstIsSound d) (λ (l : LineText). l.inst ≡ ret_text None → ⊥) (lines_of d.blocks) (λ l s q. n (subst (λ (o : Option TypeTree). ReturnIs d o None) e (subst (RowIs d) q s.row))) f.sound)
 
 function-result : (k : UnitKind) (n : UnitName) (args : List ArgText) (r : Option TypeTree) → is_function k ≡ true → HasLine (header_item k n args r) → (t : TypeTree) × (r ≡ Some t)
@@ -240,7 +235,7 @@ module _ (items : List ItemText) (all : (n : UnitName) (d : UnitText) → functi
   labels = Each-more IsLabelled LabelRight v.blocks label-right (shaped v.kind v.blocks f.runs f.printable.shaped)
 
   found-label : (n : List ℕ) (b : BlockText) → block_of n v.blocks ≡ Some b → IsName n
-  found-label n b e = subst IsName (label-is n v.blocks b e) (block-each LabelRight n v.blocks b e labels)
+  found-label n b e = subst IsName (label-found n v.blocks b e) (block-each LabelRight n v.blocks b e labels)
 
   edges-plain : (i : InstText) → Each (λ n. (b : BlockText) × (block_of n v.blocks ≡ Some b)) (labels_named i) → EdgesArePlain i
   edges-plain (phi_text ty edges) h = by edges h
@@ -325,8 +320,8 @@ module _ (items : List ItemText) (all : (n : UnitName) (d : UnitText) → functi
   pub unit-tidy : UnitTidy (functions items) v
   unit-tidy = record {
     args = args-once [] v.args f.printable.new_args (header-plain v.kind v.name v.args v.result (spaced-lexed (header v.kind v.name v.args v.result) f.printable.headed.0));
-    blocks = blocks-tidy v.blocks (λ b m. m) labels ends (by-blocks HasInstLine v.blocks f.printable.written)
-        (by-blocks (IsNoArg v.args) v.blocks (results-new v.args [] (lines_of v.blocks) f.printable.new_results));
+    blocks = blocks-tidy v.blocks (λ b m. m) labels ends (Each-by_blocks HasInstLine v.blocks f.printable.written)
+        (Each-by_blocks (IsNoArg v.args) v.blocks (results-new v.args [] (lines_of v.blocks) f.printable.new_results));
     entry = entry-tidy v.blocks refl;
   }
 

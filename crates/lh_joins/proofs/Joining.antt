@@ -1,9 +1,8 @@
 -- Where edges join: the loops over them.
-use Rattle.std.proofs.Common.{◌≡◌, ℕ, zero, suc, ◌+◌, ◌<◌, ◌≤◌, List, [], ◌∷◌, ◌++◌, length, get_or, Bool, true, false, ◌&&◌, ◌||◌, not, nat_eq, nat_lt, if◌then◌else◌, refl, ap, sym, ◌∙◌, subst, arith}
+use Rattle.std.proofs.Common.{◌≡◌, ℕ, zero, suc, ◌+◌, ◌<◌, ◌≤◌, List, [], ◌∷◌, ◌++◌, length, get_or, Bool, true, false, ◌&&◌, ◌||◌, not, nat_eq, nat_lt, if◌then◌else◌, refl, ap, sym, ◌∙◌, subst, arith, ltb-true, lt-ltb}
 use Rattle.std.specs.List.{list_any, filter}
 use Rattle.std.proofs.lemmas.List.{length_push}
 use Rattle.std.proofs.lemmas.List.Elements.{filter-append}
-use Rattle.lh_term.proofs.Arenas.{lt_of, of_lt}
 use Rattle.lh_unit.proofs.Lists.{Same, same, other, same_or, nat_eq-refl, nat_eq-other}
 use Rattle.lh_types.specs.declared.op.Op.TheVariants.{Or, And}
 use Rattle.lh_unit.specs.Within.{Each}
@@ -136,7 +135,7 @@ listed-same : (ns : List Node) (ts : List TermId) (t : TermId) → OneId ns → 
 listed-same ns [] t o i j = refl
 listed-same ns (c ∷ ts) t o i j =
     let p = both-of (nat_lt c.0 (length ns)) (ids_below (length ns) ts) i in
-    let a = same-id ns c t o (lt_of c.0 (length ns) p.0) j in
+    let a = same-id ns c t o (ltb-true c.0 (length ns) p.0) j in
     let b = listed-same ns ts t o p.1 j in
     λ k. a k || b k
   where
@@ -199,7 +198,7 @@ trees-push ns [] c = refl
 trees-push ns (t ∷ ts) c = ap (λ (x : List Tree). tree_at (trees ns) t ∷ x) (trees-push ns ts c)
 
 in-push : (ns : List Node) (ts : List TermId) (c : TermId) → AreIn ns ts → IsIn ns c → AreIn ns (ts ++ c ∷ [])
-in-push ns [] c i j = ap (λ (b : Bool). b && true) (of_lt c.0 (length ns) j)
+in-push ns [] c i j = ap (λ (b : Bool). b && true) (lt-ltb c.0 (length ns) j)
 in-push ns (t ∷ ts) c i j = by (nat_lt t.0 (length ns)) (ids_below (length ns) ts) (ids_below (length ns) (ts ++ c ∷ [])) i (λ k. in-push ns ts c k j)
   where
     by : (a b d : Bool) → a && b ≡ true → (b ≡ true → d ≡ true) → a && d ≡ true
@@ -243,7 +242,7 @@ OthersSoFar-push ns s others more seen after c f i e q o = subst (OthersSoFar ns
 -- each listed term is one of the arena
 pub listed-in : (ns : List Node) (ts : List TermId) (i : ℕ) (d : TermId) → AreIn ns ts → i < length ts → IsIn ns (get_or ts i d)
 listed-in ns [] i d h l = absurd (omega arith)
-listed-in ns (t ∷ ts) zero d h l = lt_of t.0 (length ns) (first (nat_lt t.0 (length ns)) (ids_below (length ns) ts) h)
+listed-in ns (t ∷ ts) zero d h l = ltb-true t.0 (length ns) (first (nat_lt t.0 (length ns)) (ids_below (length ns) ts) h)
   where
     first : (a b : Bool) → a && b ≡ true → a ≡ true
     first true b e = refl

@@ -1,5 +1,5 @@
 -- What tells edges apart, and the values that are merged by it.
-use Rattle.std.proofs.Common.{◌≡◌, ℕ, zero, suc, ◌<◌, List, [], ◌∷◌, ◌++◌, length, map, get_or, Bool, true, false, ◌&&◌, not, nat_lt, refl, ap, sym, ◌∙◌, subst, arith}
+use Rattle.std.proofs.Common.{◌≡◌, ℕ, zero, suc, ◌<◌, List, [], ◌∷◌, ◌++◌, length, map, get_or, Bool, true, false, ◌&&◌, not, nat_lt, refl, ap, sym, ◌∙◌, subst, arith, ltb-true}
 use Rattle.std.specs.List.{filter}
 use Rattle.lh_unit.specs.Within.{Each}
 use Rattle.lh_term.specs.Tree.{Tree}
@@ -9,12 +9,11 @@ use Rattle.lh_term.specs.Arena.{trees, tree_at, trees_at, ids_below, IsIn, AreIn
 use Rattle.lh_term.specs.Conjuncts.{conjuncts_of, conjunction}
 use Rattle.lh_term.specs.declared.term.TermId.{TermId}
 use Rattle.lh_term.specs.declared.term.Node.{Node}
-use Rattle.lh_term.proofs.Arenas.{lt_of}
 use Rattle.lh_term.proofs.Swaps.{tree_grown, in_grown, stands_grown, grows_on}
 use Rattle.lh_rows.specs.Joins.{RegionEdge, in_each, selector}
 use Rattle.lh_rows.specs.Typed.{IsCondition, IsOfType}
-use Rattle.lh_term.proofs.Conditions.{AllBits, conjuncts_are_bits, filter-bits}
-use Rattle.lh_rows.proofs.Merging.{made-choice}
+use Rattle.lh_term.proofs.Conditions.{AllBits, filter-bits}
+use Rattle.lh_rows.proofs.Merging.{made-choice, bits-of}
 use Rattle.lh_joins.specs.declared.edge.Edge.{Edge}
 use Rattle.lh_joins.specs.declared.joins.Shared.{Shared}
 use Rattle.lh_joins.specs.Joins.{IsConditionAt, AreConditions, edge_on, edges_on, IsShared, after_first, AreMade, AreOthers, chosen_by, CanChoose, CanMerge}
@@ -145,11 +144,11 @@ made-push ns [] (y ∷ xs) t x h s = absurd h
 made-push ns (u ∷ ts) [] t x h s = absurd h
 made-push ns (u ∷ ts) (y ∷ xs) t x h s = (h.0, made-push ns ts xs t x h.1 s)
 
-trees-grown : (old new : List Node) (ts : List TermId) → Grows old new → AreIn old ts → trees_at new ts ≡ trees_at old ts
+pub trees-grown : (old new : List Node) (ts : List TermId) → Grows old new → AreIn old ts → trees_at new ts ≡ trees_at old ts
 trees-grown old new [] g i = refl
 trees-grown old new (t ∷ ts) g i =
     let p = both-of (nat_lt t.0 (length old)) (ids_below (length old) ts) i in
-    let a = tree_grown old new g t (lt_of t.0 (length old) p.0) in
+    let a = tree_grown old new g t (ltb-true t.0 (length old) p.0) in
     let b = trees-grown old new ts g p.1 in
     λ k. a k ∷ b k
   where
@@ -189,14 +188,11 @@ SelectorsSoFar-none ns es rest c o = record {
   conds = later-cond (edges_on ns es) (each-cond ns es c);
 }
 
-bits-of : (t : Tree) → IsCondition t → AllBits (conjuncts_of t)
-bits-of t c = conjuncts_are_bits t c.typed c.type
-
-bits-conditions : (ns : List Node) (ts : List TermId) → AreIn ns ts → AllBits (trees_at ns ts) → Each (IsConditionAt ns) ts
+pub bits-conditions : (ns : List Node) (ts : List TermId) → AreIn ns ts → AllBits (trees_at ns ts) → Each (IsConditionAt ns) ts
 bits-conditions ns [] i b = tt
 bits-conditions ns (t ∷ ts) i b =
     let p = both-of (nat_lt t.0 (length ns)) (ids_below (length ns) ts) i in
-    (record { is_in = lt_of t.0 (length ns) p.0; cond = record { typed = b.0.typed; type = b.0.type } }, bits-conditions ns ts p.1 b.1)
+    (record { is_in = ltb-true t.0 (length ns) p.0; cond = record { typed = b.0.typed; type = b.0.type } }, bits-conditions ns ts p.1 b.1)
   where
     both-of : (a b : Bool) → a && b ≡ true → (a ≡ true) × (b ≡ true)
     both-of true b e = (refl, e)

@@ -1,14 +1,12 @@
 -- The acts of a frame, as the definition has them, by what the code ran.
 use Rattle.std.proofs.Common.{◌≡◌, ℕ, suc, ◌+◌, ◌<◌, List, [], ◌∷◌, ◌++◌, map, length, Bool, true, false, if◌then◌else◌, Option, Some, None, slice_get, slice_set, refl, ap, sym, ◌∙◌, subst, inl, inr, append_assoc, add-zero, zero-add, length-append, arith}
-use Rattle.std.proofs.lemmas.List.{append-nil}
 use Rattle.std.proofs.lemmas.Option.{same_Some}
 use Rattle.std.proofs.Math.Seq.{set-append_seam}
 use Rattle.lh_time.specs.declared.Instant.{Instant}
 use Rattle.lh_types.specs.declared.frame.Outcome.{Outcome}
-use Rattle.lh_types.specs.Wish.{Wish}
 use Rattle.lh_types.specs.History.{Claim, claims_of, claims, kept}
 use Rattle.lh_history.specs.Frames.{due_entries}
-use Rattle.lh_history.proofs.Frames.{wishes_split, histories_join}
+use Rattle.lh_history.proofs.Frames.{wishes_split, histories_join, claims-kept}
 use Rattle.lh_unit.specs.Arena.{Arena, IsArena, contents, unit_name_at, unit_text_at}
 use Rattle.lh_unit.specs.Within.{Each}
 use Rattle.lh_unit.specs.Contents.{UnitText}
@@ -255,10 +253,6 @@ left-after a (y ∷ ts) k xs pre (s ∷ ss) l q h = by y.is_woken xs h (λ ys v.
         (states_after (slice_set (pre ++ s ∷ ss) x.instance x.act.next) xs) y.does.after (afters (map task_act ts)) h.1.next
         (subst (λ (all : List InstState). AreLeft a (map (λ (x : Task). x.instance) ts) (pre ++ x.act.next ∷ []) (states_after all xs)
         (afters (map task_act ts))) (sym (set-here pre s x.act.next ss k x.instance l h.0)) (ih xs x.act.next h.2))
-
-claims-kept : (t : Instant) (k : ℕ) (w : Wish) → claims (kept t k w) ≡ claims_of t k w
-claims-kept t k [] = refl
-claims-kept t k (e ∷ more) = append-nil (claims_of t k (e ∷ more))
 
 claims-first : (a : Arena) (t : Instant) (i : Instance) (k : ℕ) (x : Activation) (d : Act) → x.instance ≡ k → ActIs a i x.act d → claims (kept t k d.wish) ≡ due_entries t x.instance x.act.wishes
 claims-first a t i k x d e h =

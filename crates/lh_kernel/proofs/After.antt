@@ -1,13 +1,15 @@
 -- What is kept of the instances after a frame fits, and wakes later.
-use Rattle.std.proofs.Common.{◌≡◌, ◌≢◌, ℕ, zero, suc, ◌+◌, List, [], ◌∷◌, Bool, true, false, ◌||◌, if◌then◌else◌, slice_get, slice_set, Option, Some, None, refl, ap, sym, subst, ◌⊎◌, inl, inr, ⊎_elim, arith}
+use Rattle.std.proofs.Common.{◌≡◌, ◌≢◌, ℕ, zero, suc, ◌+◌, List, [], ◌∷◌, Bool, true, false, if◌then◌else◌, slice_get, slice_set, Option, Some, None, refl, ap, sym, subst, ◌⊎◌, inl, inr, ⊎_elim, arith}
 use Rattle.std.specs.Option.{option_map_or}
 use Rattle.std.specs.List.{list_any}
 use Rattle.std.specs.declared.cmp.Ordering.{Ordering}
 use Rattle.std.specs.declared.cmp.Ordering.TheVariants.{Less, Equal, Greater}
 use Rattle.std.specs.Ordering.{is_eq, is_le, is_lt}
+use Rattle.std.proofs.lemmas.Option.{same_Some, none-some}
 use Rattle.lh_time.specs.declared.Instant.{Instant}
 use Rattle.lh_time.specs.Order.{instant_cmp, instant_le}
 use Rattle.lh_types.specs.declared.part.Range.{Range}
+use Rattle.lh_types.proofs.Tests.{or_false_right}
 use Rattle.lh_unit.specs.Arena.{Arena}
 use Rattle.lh_unit.specs.Within.{Each}
 use Rattle.lh_unit.specs.World.{bit_numbers, bit_differs, is_at, Moment, wakes}
@@ -24,20 +26,14 @@ use Rattle.lh_kernel.specs.Woken.{awakes, awake_from}
 use Rattle.lh_kernel.specs.Kept.{WakesAfter}
 use Rattle.lh_kernel.proofs.Wished.{instances_of}
 
-same_some : {A : Type 0} (x y : A) → Some x ≡ Some y → x ≡ y
-same_some x y e = cc
-
-none_some : {A : Type 0} (x : A) → None ≡ Some x → ⊥
-none_some x e = cc
-
 -- ---- what is kept fits
 
 fit_set : (a : Arena) (width : ℕ) (is : List Instance) (ss : List InstState) (k : ℕ) (i : Instance) (s : InstState) → StatesFit a width is ss → slice_get is k ≡ Some i → StateFits a width i s →
     StatesFit a width is (slice_set ss k s)
-fit_set a width [] [] k i s f e g = absurd (none_some i e)
+fit_set a width [] [] k i s f e g = absurd (none-some i e)
 fit_set a width [] (t ∷ ts) k i s f e g = absurd f
 fit_set a width (j ∷ js) [] k i s f e g = absurd f
-fit_set a width (j ∷ js) (t ∷ ts) zero i s f e g = (subst (λ x. StateFits a width x s) (sym (same_some j i e)) g, f.1)
+fit_set a width (j ∷ js) (t ∷ ts) zero i s f e g = (subst (λ x. StateFits a width x s) (sym (same_Some j i e)) g, f.1)
 fit_set a width (j ∷ js) (t ∷ ts) (suc k) i s f e g = (f.0, fit_set a width js ts k i s f.1 e g)
 
 pub after_fit : (a : Arena) (width : ℕ) (t : Instant) (is : List Instance) (ss : List InstState) (xs : List Activation) → StatesFit a width is ss → Each (ActOfOne a width t is) xs →
@@ -50,8 +46,8 @@ after_fit a width t is ss (x ∷ xs) f e =
 
 -- what is got where one was set
 get_set : (ss : List InstState) (k j : ℕ) (s x : InstState) → slice_get (slice_set ss k s) j ≡ Some x → ((k ≡ j) × (s ≡ x)) ⊎ ((k ≢ j) × (slice_get ss j ≡ Some x))
-get_set [] k j s x e = absurd (none_some x e)
-get_set (y ∷ ys) zero zero s x e = inl (refl, same_some s x e)
+get_set [] k j s x e = absurd (none-some x e)
+get_set (y ∷ ys) zero zero s x e = inl (refl, same_Some s x e)
 get_set (y ∷ ys) zero (suc j) s x e = inr (λ q. omega (arith, q), e)
 get_set (y ∷ ys) (suc k) zero s x e = inr (λ q. omega (arith, q), e)
 get_set (y ∷ ys) (suc k) (suc j) s x e = ⊎_elim (λ p. inl (ap suc p.0, p.1)) (λ p. inr (λ q. p.0 (omega (arith, q)), p.1)) (get_set ys k j s x e)
@@ -84,10 +80,6 @@ not_at_later Less e l = refl
 not_at_later Equal e l = cc
 not_at_later Greater e l = cc
 
-right_false : (a b : Bool) → a || b ≡ false → b ≡ false
-right_false true b e = cc
-right_false false b e = e
-
 later_if : (t : Instant) (o : Option Instant) → option_map_or (is_at t) o false ≡ false → ((u : Instant) → o ≡ Some u → instant_le t u ≡ true) → IsLaterIfAny t o
 later_if t None e l = tt
 later_if t (Some u) e l = not_at_later (instant_cmp t u) e (l u refl)
@@ -99,18 +91,18 @@ sleeps_later m sensed wake = by m.before
     by : (before : Option (List Bool)) → wakes (record { before = before; now = m.now; at = m.at }) sensed wake ≡ false →
         ((u : Instant) → wake ≡ Some u → instant_le m.at u ≡ true) → IsLaterIfAny m.at wake
     by None e l = absurd cc
-    by (Some old) e l = later_if m.at wake (right_false (list_any (bit_differs old m.now) (bit_numbers sensed)) (option_map_or (is_at m.at) wake false) e) l
+    by (Some old) e l = later_if m.at wake (or_false_right (list_any (bit_differs old m.now) (bit_numbers sensed)) (option_map_or (is_at m.at) wake false) e) l
 
 -- from number n on, each is awake or wakes later
 awake_or_later : (n : ℕ) (a : Arena) (width : ℕ) (m : Moment) (is : List Instance) (ss : List InstState) → StatesFit a width is ss →
     ((u : Instant) (k : ℕ) → WakesItself ss u k → instant_le m.at u ≡ true) → (k : ℕ) (s : InstState) → slice_get ss k ≡ Some s →
     IsOneOf (n + k) (awake_from n a m is ss) ⊎ IsLaterIfAny m.at (wake_kept s)
-awake_or_later n a width m is [] f l k s e = absurd (none_some s e)
+awake_or_later n a width m is [] f l k s e = absurd (none-some s e)
 awake_or_later n a width m [] (x ∷ xs) f l k s e = absurd f
 awake_or_later n a width m (i ∷ is) (x ∷ xs) f l zero s e = at (awakes a m i x) refl
   where
     same : x ≡ s
-    same = same_some x s e
+    same = same_Some x s e
 
     at : (b : Bool) → awakes a m i x ≡ b → IsOneOf (n + 0) (if b then n ∷ awake_from (n + 1) a m is xs else awake_from (n + 1) a m is xs) ⊎ IsLaterIfAny m.at (wake_kept s)
     at true b = inl (inl (omega arith))

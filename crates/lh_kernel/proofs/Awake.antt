@@ -5,6 +5,7 @@ use Rattle.lh_unit.specs.Arena.{Arena}
 use Rattle.lh_unit.specs.World.{Moment}
 use Rattle.lh_eval.specs.declared.instance.Instance.{Instance}
 use Rattle.lh_index.specs.Rising.{IsOneOf, AreAbove, IsRising}
+use Rattle.lh_index.proofs.Places.{has_above}
 use Rattle.lh_states.specs.declared.state.InstState.{InstState}
 use Rattle.lh_kernel.specs.Woken.{awakes, awake_from}
 
@@ -106,18 +107,13 @@ module _ (a : Arena) (m : Moment) where
       at false g ih = let r : n < k + 1 + length is = ih g in omega arith
 
 -- rising lists that have the same are the same
-above_has : (k n : ℕ) (xs : List ℕ) → AreAbove k xs → IsOneOf n xs → k < n
-above_has k n [] a h = absurd h
-above_has k n (x ∷ xs) a (inl p) = let l : k < x = a.0 in omega (arith, p)
-above_has k n (x ∷ xs) a (inr h) = above_has k n xs a.1 h
-
 least : (x y : ℕ) (xs ys : List ℕ) → AreAbove y ys → IsOneOf x (y ∷ ys) → AreAbove x xs → IsOneOf y (x ∷ xs) → x ≡ y
 least x y xs ys b (inl p) a h = sym p
 least x y xs ys b (inr g) a (inl p) = p
-least x y xs ys b (inr g) a (inr h) = let l : x < y = above_has x y xs a h in let m : y < x = above_has y x ys b g in omega arith
+least x y xs ys b (inr g) a (inr h) = let l : x < y = has_above x y xs a h in let m : y < x = has_above y x ys b g in omega arith
 
 rest : (x n : ℕ) (xs ys : List ℕ) → AreAbove x xs → IsOneOf n xs → IsOneOf n (x ∷ ys) → IsOneOf n ys
-rest x n xs ys a h (inl p) = let l : x < n = above_has x n xs a h in absurd (omega arith)
+rest x n xs ys a h (inl p) = let l : x < n = has_above x n xs a h in absurd (omega arith)
 rest x n xs ys a h (inr g) = g
 
 pub rising_same : (xs ys : List ℕ) → IsRising xs → IsRising ys → ((k : ℕ) → IsOneOf k xs ↔ IsOneOf k ys) → xs ≡ ys

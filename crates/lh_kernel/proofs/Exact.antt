@@ -1,8 +1,8 @@
 -- What is noted stays exact: what activations come to is entered, what they go from is left, and then it is that of the states after them.
-use Rattle.std.proofs.Common.{arith, ◌≡◌, ℕ, zero, suc, ◌+◌, ◌<◌, ◌≤◌, List, [], ◌∷◌, length, map, Bool, true, false, Option, Some, None, refl, ap, sym, ◌∙◌, subst, ◌⊎◌, inl, inr}
+use Rattle.std.proofs.Common.{arith, ◌≡◌, ℕ, zero, suc, ◌+◌, ◌<◌, ◌≤◌, List, [], ◌∷◌, length, map, true, false, Option, Some, None, refl, ap, sym, ◌∙◌, subst, ◌⊎◌, inl, inr, true≢false}
 use Rattle.std.specs.Prelude.{◌↔◌, slice_get, slice_set}
 use Rattle.std.specs.Ordering.{is_eq}
-use Rattle.std.proofs.lemmas.Bool.{cases_lt, cases_eq}
+use Rattle.std.proofs.lemmas.Bool.{cases_lt, cases_eq, cases_Bool}
 use Rattle.std.proofs.lemmas.Cmp.{tied_itself}
 use Rattle.std.proofs.lemmas.Option.{slice_get_within}
 use Rattle.lh_time.specs.declared.Instant.{Instant}
@@ -35,17 +35,10 @@ use Rattle.lh_kernel.proofs.Places.{are_within, fit_at, probed_at}
 use Rattle.lh_kernel.proofs.Relations.{with_same, without_same}
 
 -- what is known or is not
-bool_or : (b : Bool) → (b ≡ true) ⊎ (b ≡ false)
-bool_or true = inl refl
-bool_or false = inr refl
-
-true_false : true ≡ false → ⊥
-true_false e = cc
-
 instant_or : (t u : Instant) → (t ≡ u) ⊎ (t ≡ u → ⊥)
-instant_or t u = elim (bool_or (is_at t u)) [
+instant_or t u = elim (cases_Bool (is_at t u)) [
   | inl e ↦ inl (at_one t u e)
-  | inr e ↦ inr (λ q. true_false (sym (ap is_eq (tied_itself instant_cmp_total t)) ∙ ap (λ (x : Instant). is_at t x) q ∙ e))
+  | inr e ↦ inr (λ q. true≢false (sym (ap is_eq (tied_itself instant_cmp_total t)) ∙ ap (λ (x : Instant). is_at t x) q ∙ e))
 ]
 
 wake_or : (o : Option Instant) (t : Instant) → (o ≡ Some t) ⊎ (o ≡ Some t → ⊥)

@@ -1,6 +1,7 @@
 -- A frame that is taken: what is kept after it, and which worlds the machine then stands for.
-use Rattle.std.proofs.Common.{◌≡◌, ◌≢◌, ◌<◌, ℕ, zero, suc, List, [], ◌∷◌, ◌++◌, map, Bool, true, false, length, slice_get, Option, Some, None, arith, refl, ap, sym, ◌∙◌, subst}
+use Rattle.std.proofs.Common.{◌≡◌, ◌≢◌, ◌<◌, ℕ, List, [], ◌∷◌, ◌++◌, map, Bool, true, false, length, Option, Some, None, refl, ap, sym, ◌∙◌, subst}
 use Rattle.std.specs.Option.{option_map}
+use Rattle.std.proofs.lemmas.Option.{slice_get_within}
 use Rattle.lh_time.specs.declared.Instant.{Instant}
 use Rattle.lh_time.specs.Order.{instant_le}
 use Rattle.lh_time.proofs.OrderLemmas.{instant_le-lt}
@@ -16,6 +17,7 @@ use Rattle.lh_unit.specs.Trace.{least_runaway, outcomes_of}
 use Rattle.lh_unit.specs.Frames.{woken_from, woken_at, signal_values, changes_by, values_before}
 use Rattle.lh_unit.specs.Within.{Each}
 use Rattle.lh_meaning.proofs.TraceLaw.{bits_stay_law}
+use Rattle.lh_meaning.proofs.ValuesLaw.{as_many as length_values}
 use Rattle.lh_eval.specs.declared.instance.Instance.{Instance}
 use Rattle.lh_queue.specs.declared.wish.Wish.{Wish}
 use Rattle.lh_queue.specs.Queued.{QueuedWish, due_later, BitsWithin, EachWithin, EachNames}
@@ -38,13 +40,13 @@ use Rattle.lh_kernel.specs.declared.plan.FramePlan.{FramePlan}
 use Rattle.lh_kernel.specs.declared.noted.Noted.{Noted}
 use Rattle.lh_kernel.specs.declared.noted.Move.{Move}
 use Rattle.lh_kernel.specs.declared.run.Activation.{Activation}
-use Rattle.lh_kernel.proofs.Looking.{length_values, length_fit}
 use Rattle.lh_kernel.proofs.Ahead.{plan_rises, plan_instances}
 use Rattle.lh_kernel.proofs.Acts.{InstancesAreKnown, woken_same, defined_acts, runaway_same, outcomes_same, afters_stand, claims_ran}
 use Rattle.lh_kernel.proofs.After.{after_fit, after_wakes}
 use Rattle.lh_kernel.proofs.Exact.{fresh_moves, noted_after}
 use Rattle.lh_kernel.proofs.Putting.{entries_put, put_each, put_within, put_names, put_holds}
 use Rattle.lh_kernel.proofs.Wished.{can_all, each_wish, each_grouped, filled_names, entries_same, later_each, later_waits, made_before, IsMadeElsewhen}
+use Rattle.lh_kernel.proofs.Places.{as_many}
 
 -- What is known once the bits of a planned frame are taken, in terms of the machine before.
 pub record IsTaken (old : SimState) (t : Instant) (p : FramePlan) (b l : List Bool) (q : List QueuedWish) (n : Noted) : Type 0 where
@@ -114,24 +116,16 @@ awake_are_woken old t b kept comes bits values w h =
     sym (ap (λ (m : Moment). woken_from 0 (contents a) m (map (instance_text a) old.design.instances.items) w.states) (moment_is old t w comes h b bits values)
     ∙ woken_same a (length old.design.init) old.design.instances.items old.states.items w.states (moment_in (looked_at old t) t) known)
 
-got_within : {A : Type 0} (xs : List A) (k : ℕ) (x : A) → slice_get xs k ≡ Some x → k < length xs
-got_within [] k x e = absurd (nothing e)
-  where
-    nothing : None ≡ Some x → ⊥
-    nothing z = cc
-got_within (y ∷ ys) zero x e = omega arith
-got_within (y ∷ ys) (suc k) x e = let h : k < length ys = got_within ys k x e in omega (arith, h)
-
 -- the instances that did something are there
 all_there : (a : Arena) (width n : ℕ) (t : Instant) (is : List Instance) (xs : List Activation) → n ≡ length is → Each (ActOfOne a width t is) xs → Each (λ (x : Activation). x.instance < n) xs
 all_there a width n t is [] e s = tt
-all_there a width n t is (x ∷ xs) e s = (subst (λ (m : ℕ). x.instance < m) (sym e) (got_within is x.instance s.0.instance s.0.is), all_there a width n t is xs e s.1)
+all_there a width n t is (x ∷ xs) e s = (subst (λ (m : ℕ). x.instance < m) (sym e) (slice_get_within is x.instance s.0.instance s.0.is), all_there a width n t is xs e s.1)
 
 pub there_ahead : (old mid : SimState) (t : Instant) (p : FramePlan) → mid ≡ record old { looked = mid.looked; queue = mid.queue; noted = mid.noted } → IsKept old → IsAhead old t p mid →
     Each (λ (x : Activation). x.instance < length mid.states.items) p.acts.items
 there_ahead old mid t p e k a =
     all_there old.«module».now (length (looked_at old t).looked) (length mid.states.items) t old.design.instances.items p.acts.items
-    (ap (λ (m : SimState). length m.states.items) e ∙ length_fit old.«module».now (length old.design.init) old.design.instances.items old.states.items k.fit) a.plan.sound
+    (ap (λ (m : SimState). length m.states.items) e ∙ as_many old.«module».now (length old.design.init) old.design.instances.items old.states.items k.fit) a.plan.sound
 
 module _ (old : SimState) (t : Instant) (p : FramePlan) (kept : IsKept old) (comes : ComesNext old t) (plan : IsPlanned (looked_at old t) t p) where
   as_wide : length (looked_at old t).looked ≡ length old.design.init

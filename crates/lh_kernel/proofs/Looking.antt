@@ -1,7 +1,6 @@
 -- The bits of an instant that were looked at.
-use Rattle.std.proofs.Common.{◌≡◌, ℕ, suc, ◌+◌, ◌<◌, List, [], ◌∷◌, Bool, length, Option, Some, None, Result, IfOk, OnErr, arith, refl, ap, sym, ◌∙◌, subst}
+use Rattle.std.proofs.Common.{◌≡◌, ℕ, ◌<◌, List, Bool, length, Option, Some, None, Result, IfOk, OnErr, arith, ap, sym, ◌∙◌, subst}
 use Rattle.lh_time.specs.declared.Instant.{Instant}
-use Rattle.lh_types.specs.History.{Claim, values_by}
 use Rattle.lh_queue.specs.Holds.{entries}
 use Rattle.lh_types.specs.Raised.{raised}
 use Rattle.lh_types.specs.declared.part.Range.{Range}
@@ -25,10 +24,8 @@ use Rattle.lh_kernel.specs.Ran.{AllRan, ActOfOne}
 use Rattle.lh_kernel.specs.Phases.{HasLooked, moment_in, awake_in, RisesWithin}
 use Rattle.lh_kernel.proofs.Awake.{awake_rises, awake_known}
 use Rattle.lh_kernel.specs.declared.machine.SimState.{SimState}
-
-pub length_values : (cs : List Claim) (t : Instant) (k : ℕ) (bits : List Bool) → length (values_by cs t k bits) ≡ length bits
-length_values cs t k [] = refl
-length_values cs t k (b ∷ bits) = ap suc (length_values cs t (k + 1) bits)
+use Rattle.lh_kernel.proofs.Places.{as_many}
+use Rattle.lh_meaning.proofs.ValuesLaw.{as_many as length_values}
 
 -- there are as many as the signals have
 pub looked_width : (x : SimState) (t : Instant) (touched : List ℕ) → HasLooked x t touched → length x.looked ≡ length x.design.init
@@ -37,20 +34,13 @@ looked_width x t touched h = ap length h.looked ∙ length_values (entries x.que
 pub looked_fit : (x : SimState) (t : Instant) (touched : List ℕ) → HasLooked x t touched → StatesFit x.«module».now (length x.looked) x.design.instances.items x.states.items
 looked_fit x t touched h = subst (λ n. StatesFit x.«module».now n x.design.instances.items x.states.items) (sym (looked_width x t touched h)) h.kept.fit
 
--- of as many instances as there are something is kept
-pub length_fit : (a : Arena) (width : ℕ) (is : List Instance) (ss : List InstState) → StatesFit a width is ss → length ss ≡ length is
-length_fit a width [] [] f = refl
-length_fit a width [] (s ∷ ss) f = absurd f
-length_fit a width (i ∷ is) [] f = absurd f
-length_fit a width (i ∷ is) (s ∷ ss) f = ap suc (length_fit a width is ss f.1)
-
 -- in the first frame all wake
 pub all_awake : (x : SimState) (t : Instant) (touched ks all : List ℕ) → HasLooked x t touched → x.last ≡ None → ks ≡ all →
     ((a : Arena) (now : List Bool) (u : Instant) (ss : List InstState) → length ss ≡ length x.design.instances.items →
     all ≡ awake_from 0 a (record { before = None; now = now; at = u }) x.design.instances.items ss) →
     ks ≡ awake_in x t
 all_awake x t touched ks all h e v f =
-    v ∙ f x.«module».now x.looked t x.states.items (length_fit x.«module».now (length x.looked) x.design.instances.items x.states.items (looked_fit x t touched h))
+    v ∙ f x.«module».now x.looked t x.states.items (as_many x.«module».now (length x.looked) x.design.instances.items x.states.items (looked_fit x t touched h))
     ∙ ap (λ (o : Option Instant). awake_in (record x { last = o }) t) (sym e)
 
 pub are_asleep : (x : SimState) (t : Instant) (touched : List ℕ) (ss : List InstState) (ps : List (List Range)) → HasLooked x t touched → ss ≡ x.states.items → ps ≡ x.probes.items →

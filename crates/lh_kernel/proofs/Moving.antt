@@ -23,6 +23,7 @@ use Rattle.lh_kernel.specs.declared.run.Activation.{Activation}
 use Rattle.lh_kernel.specs.Moves.{IsMove, IsMoveOf, EachMoves, AreMoves, MoveTheSame, OneMove, AreBetween, SensesFit, SensesAsBefore, MovesKnown}
 use Rattle.lh_kernel.proofs.Entering.{one_push}
 use Rattle.lh_kernel.proofs.Relations.{has_next}
+use Rattle.lh_kernel.proofs.Noting.{no_wake}
 
 -- those of the first numbers of a list that are not in the other
 abbrev pub LeftOver : (items those : List ℕ) → ℕ → (rest : List ℕ) → Type 0
@@ -95,15 +96,12 @@ same_push all ms m e = record {
 abbrev still : ℕ → Move
 still k = record { instance = k; came = []; gone = []; wake_came = None; wake_gone = None }
 
-none_some : (t : Instant) → None ≡ Some t → ⊥
-none_some t e = cc
-
 same_still : (all ms : List Move) (j : ℕ) → MoveTheSame all ms → MoveTheSame (all ++ still j ∷ []) ms
 same_still all ms j e = record {
   comes = λ s k. none_push (λ (n : Move). (n.instance ≡ k) × IsOneOf s n.came) all ms (still j) (λ h. h.1) (e.comes s k);
   goes = λ s k. none_push (λ (n : Move). (n.instance ≡ k) × IsOneOf s n.gone) all ms (still j) (λ h. h.1) (e.goes s k);
-  wake_comes = λ t k. none_push (λ (n : Move). (n.instance ≡ k) × (n.wake_came ≡ Some t)) all ms (still j) (λ h. none_some t h.1) (e.wake_comes t k);
-  wake_goes = λ t k. none_push (λ (n : Move). (n.instance ≡ k) × (n.wake_gone ≡ Some t)) all ms (still j) (λ h. none_some t h.1) (e.wake_goes t k);
+  wake_comes = λ t k. none_push (λ (n : Move). (n.instance ≡ k) × (n.wake_came ≡ Some t)) all ms (still j) (λ h. no_wake t h.1) (e.wake_comes t k);
+  wake_goes = λ t k. none_push (λ (n : Move). (n.instance ≡ k) × (n.wake_gone ≡ Some t)) all ms (still j) (λ h. no_wake t h.1) (e.wake_goes t k);
 }
 
 -- so it moves where it senses and wakes as before
@@ -117,8 +115,8 @@ still_moves signals probes k old new e =
       instance = refl;
       came = λ s. (λ h. absurd h, λ h. h.1 (back s h.0));
       gone = λ s. (λ h. absurd h, λ h. h.1 (on s h.0));
-      wake_came = λ t. (λ h. absurd (none_some t h), λ h. absurd (h.1 (sym e.wake ∙ h.0)));
-      wake_gone = λ t. (λ h. absurd (none_some t h), λ h. absurd (h.1 (e.wake ∙ h.0)));
+      wake_came = λ t. (λ h. absurd (no_wake t h), λ h. absurd (h.1 (sym e.wake ∙ h.0)));
+      wake_gone = λ t. (λ h. absurd (no_wake t h), λ h. absurd (h.1 (e.wake ∙ h.0)));
     }
 
 -- moves whose signals are known, and one more
@@ -247,9 +245,6 @@ part_same x y = (there, λ e. ap (λ (z : Range). nat_eq x.lo z.lo && nat_eq x.l
 
 pub parts_same : (xs ys : List Range) (r : Bool) → r ≡ pointwise (λ (x y : Range). nat_eq x.lo y.lo && nat_eq x.len y.len) xs ys → r ≡ true → xs ≡ ys
 parts_same xs ys r e = (slice_eq-Decides {E = λ (x y : Range). nat_eq x.lo y.lo && nat_eq x.len y.len} part_same xs ys r e).0
-
-pub true_false : true ≡ false → ⊥
-true_false e = cc
 
 -- the same under other names
 unless_by : (x p q u v : Option Instant) → p ≡ u → q ≡ v → ((t : Instant) → (x ≡ Some t) ↔ ((p ≡ Some t) × (q ≢ Some t))) → (t : Instant) → (x ≡ Some t) ↔ ((u ≡ Some t) × (v ≢ Some t))

@@ -1,5 +1,5 @@
 -- Wishes put one after the other.
-use Rattle.std.proofs.Common.{◌≡◌, ◌≢◌, ◌<◌, ◌+◌, ℕ, suc, slice_set, ap, ◌∙◌, length-append, List, [], ◌∷◌, ◌++◌, append_assoc, length, arith, Bool, true, false, if◌then◌else◌, Option, refl, sym, subst, get_or, drop, drop-cons, add-one, length-drop, ◌≤◌}
+use Rattle.std.proofs.Common.{◌≡◌, ◌≢◌, ◌<◌, ◌+◌, ℕ, suc, slice_set, ap, ◌∙◌, length-append, List, [], ◌∷◌, ◌++◌, append_assoc, length, arith, Bool, true, false, if◌then◌else◌, Option, refl, sym, subst, get_or, drop, drop-cons, add-one}
 use Rattle.std.proofs.lemmas.List.{append-nil}
 use Rattle.lh_time.specs.declared.Instant.{Instant}
 use Rattle.lh_types.specs.History.{Claim}
@@ -98,10 +98,6 @@ put_holds held (w ∷ ws) new all last p h e =
     subst (λ (cs : List Claim). HoldsFor new cs last) (append_assoc all (wish_entries w) (entries_put ws))
     (put_holds p.0 ws new (all ++ wish_entries w) last p.2 (p.1.holds all last h e.0) e.1)
 
-pub none_left : {A : Type 0} (xs : List A) → length xs ≡ 0 → xs ≡ []
-none_left [] e = refl
-none_left (x ∷ xs) e = absurd (omega (arith, e))
-
 -- how many wishes an instance made, and the rest
 pub length_by : (t : Instant) (k : ℕ) (ds : List (Instant × List (ℕ × Bool))) → length (wishes_by t k ds) ≡ length ds
 length_by t k [] = refl
@@ -125,6 +121,3 @@ count_on t xs i x count n more l e h m =
     let g : length (wishes_ran t (drop i xs)) ≡ length x.act.wishes + length (wishes_ran t (drop (i + 1) xs)) =
     ap (λ (ys : List Activation). length (wishes_ran t ys)) f ∙ length_ran t x (drop (i + 1) xs) in
     omega (arith, g, h, m)
-
-pub none_beyond : {A : Type 0} (xs : List A) (i : ℕ) → length xs ≤ i → drop i xs ≡ []
-none_beyond xs i l = none_left (drop i xs) (length-drop i xs ∙ omega arith)

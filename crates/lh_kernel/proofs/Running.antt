@@ -12,43 +12,17 @@ use Rattle.lh_unit.specs.Arena.{Arena}
 use Rattle.lh_unit.specs.Within.{Each}
 use Rattle.lh_unit.specs.World.{State}
 use Rattle.lh_unit.specs.Frames.{activated_count}
+use Rattle.lh_unit.proofs.ModuleLaws.{Each-push}
 use Rattle.lh_eval.specs.declared.instance.Instance.{Instance}
 use Rattle.lh_index.specs.Rising.{IsOneOf, IsRising, AreAbove}
 use Rattle.lh_states.specs.declared.state.InstState.{InstState}
-use Rattle.lh_states.specs.States.{StateIs, StateFits}
+use Rattle.lh_states.specs.States.{StateIs}
 use Rattle.lh_states.specs.Acts.{ActDone}
 use Rattle.lh_states.specs.Runs.{ActIs, ActIsSound}
 use Rattle.lh_kernel.specs.declared.run.Activation.{Activation}
-use Rattle.lh_kernel.specs.States.{StatesStand, StatesFit}
+use Rattle.lh_kernel.specs.States.{StatesStand}
 use Rattle.lh_kernel.specs.Ran.{done_by, DoesSo, AllRan, ActOfOne, outcomes_by, outcomes_ran}
-
-pub each-at : {X : Type 0} → (P : X → Type 0) (xs : List X) (k : ℕ) (x : X) → Each P xs → slice_get xs k ≡ Some x → P x
-each-at P [] k x h e = absurd (cc)
-each-at P (y ∷ xs) zero x h e = subst P (same_Some y x e) h.0
-each-at P (y ∷ xs) (suc k) x h e = each-at P xs k x h.1 e
-
-pub each-more : {X : Type 0} → (P : X → Type 0) (xs : List X) (x : X) → Each P xs → P x → Each P (xs ++ x ∷ [])
-each-more P [] x h p = (p, tt)
-each-more P (y ∷ xs) x h p = (h.0, each-more P xs x h.1 p)
-
-pub there : {X : Type 0} → (xs : List X) (k : ℕ) (x : X) → k < length xs → x ≡ get_or xs k x → slice_get xs k ≡ Some x
-there [] k x l e = absurd (omega arith)
-there (y ∷ xs) zero x l e = ap (λ z. Some z) (sym e)
-there (y ∷ xs) (suc k) x l e = there xs k x (omega arith) e
-
-pub fits-long : (a : Arena) (width : ℕ) (is : List Instance) (ss : List InstState) → StatesFit a width is ss → length ss ≡ length is
-fits-long a width [] [] h = refl
-fits-long a width [] (s ∷ ss) h = absurd h
-fits-long a width (i ∷ is) [] h = absurd h
-fits-long a width (i ∷ is) (s ∷ ss) h = ap (λ n. suc n) (fits-long a width is ss h.1)
-
-pub fits-at : (a : Arena) (width : ℕ) (is : List Instance) (ss : List InstState) (k : ℕ) (i : Instance) (s : InstState) → StatesFit a width is ss →
-    slice_get is k ≡ Some i → slice_get ss k ≡ Some s → StateFits a width i s
-fits-at a width [] [] k i s h e f = absurd (cc)
-fits-at a width [] (x ∷ ss) k i s h e f = absurd h
-fits-at a width (j ∷ is) [] k i s h e f = absurd h
-fits-at a width (j ∷ is) (x ∷ ss) zero i s h e f = subst (λ (y : Instance). StateFits a width y s) (same_Some j i e) (subst (StateFits a width j) (same_Some x s f) h.0)
-fits-at a width (j ∷ is) (x ∷ ss) (suc k) i s h e f = fits-at a width is ss k i s h.1 e f
+use Rattle.lh_wishes.proofs.RunLemmas.{get-at}
 
 -- what is kept of an instance stands for its state among these
 pub record StandsAmong (a : Arena) (ps : List State) (k : ℕ) (i : Instance) (s : InstState) : Type 0 where
@@ -138,7 +112,7 @@ on-err (Err e) P p = p
 -- ---- one turn
 
 pub in-place : {X : Type 0} → (xs ys : List X) (k : ℕ) (x : X) → ys ≡ xs → k < length xs → x ≡ get_or ys k x → slice_get xs k ≡ Some x
-in-place xs ys k x e l h = there xs k x l (h ∙ ap (λ zs. get_or zs k x) e)
+in-place xs ys k x e l h = get-at xs k x l (h ∙ ap (λ zs. get_or zs k x) e)
 
 pub known-at : {X : Type 0} → (ks : List ℕ) (j : ℕ) (xs : List X) → j < length ks → ((k : ℕ) → IsOneOf k ks → k < length xs) → get_or ks j 0 < length xs
 known-at ks j xs l h = h (get_or ks j 0) (has-at ks j 0 l)
@@ -172,7 +146,7 @@ pub turn-sound : (a : Arena) (width : ℕ) (t : Instant) (is : List Instance) (x
     zs ≡ xs ++ record { instance = k; act = x } ∷ [] → Each (ActOfOne a width t is) xs → Each (ActOfOne a width t is) zs
 turn-sound a width t is xs zs k i x e h z q =
     let y : Activation = record { instance = k; act = x } in
-    subst (Each (ActOfOne a width t is)) (sym z) (each-more (ActOfOne a width t is) xs y q (record { instance = i; is = e; sound = h }))
+    subst (Each (ActOfOne a width t is)) (sym z) (Each-push (ActOfOne a width t is) xs y q (record { instance = i; is = e; sound = h }))
 
 -- ---- the outcomes
 

@@ -12,7 +12,7 @@ use Rattle.lh_kernel.specs.Phases.{ComesNext, awake_in, looked_at, woken_in, Ris
 use Rattle.lh_kernel.specs.declared.machine.SimState.{SimState}
 use Rattle.lh_kernel.proofs.Framing.{awake_are_woken}
 
-raised_none : (n : ℕ) → n ≡ raised n 0
+pub raised_none : (n : ℕ) → n ≡ raised n 0
 raised_none n = omega arith
 
 -- no activation was made

@@ -6,6 +6,8 @@ use Rattle.std.specs.List.{list_any, range_with_len}
 use Rattle.std.specs.Ordering.{is_eq}
 use Rattle.std.proofs.lemmas.List.{take_all}
 use Rattle.std.proofs.lemmas.Cmp.{tied_itself}
+use Rattle.std.proofs.lemmas.Bool.{false≢true, or_cases}
+use Rattle.std.proofs.Math.Bool.{or-true}
 use Rattle.lh_time.specs.declared.Instant.{Instant}
 use Rattle.lh_time.proofs.OrderLemmas.{instant_cmp_total}
 use Rattle.lh_types.specs.declared.part.Range.{Range}
@@ -73,9 +75,6 @@ pub record RousedTo (states : List InstState) (probes : List (List Range)) (old 
   pub sound : (k : ℕ) → IsOneOf k after → IsOneOf k before ⊎ IsRoused states probes old now k
   pub all : (k : ℕ) → IsOneOf k (take i items) → IsRoused states probes old now k → IsOneOf k after
 
-false_true : false ≡ true → ⊥
-false_true e = cc
-
 module _ (states : List InstState) (probes : List (List Range)) (old now : List Bool) (items : List ℕ) where
   pub roused_none : (before : List ℕ) → RousedTo states probes old now items 0 before before
   roused_none before = record { keeps = λ k h. h; sound = λ k h. inl h; all = λ k h r. absurd h }
@@ -110,7 +109,7 @@ module _ (states : List InstState) (probes : List (List Range)) (old now : List 
       let g : Some rs ≡ Some w.probed = sym q ∙ ap (λ (j : ℕ). slice_get probes j) o ∙ w.is_probed in
       let u : s ≡ w.state = cc in
       let v : rs ≡ w.probed = cc in
-      false_true (sym d ∙ ap (λ (x : InstState). list_any (bit_differs old now) (bit_numbers (parts_sensed x rs))) u ∙
+      false≢true (sym d ∙ ap (λ (x : InstState). list_any (bit_differs old now) (bit_numbers (parts_sensed x rs))) u ∙
       ap (λ (x : List Range). list_any (bit_differs old now) (bit_numbers (parts_sensed w.state x))) v ∙ w.differs)
 
   pub roused_not : (i y : ℕ) (s : InstState) (rs : List Range) (before after : List ℕ) → i < length items → y ≡ get_or items i 0 → slice_get states y ≡ Some s → slice_get probes y ≡ Some rs →
@@ -211,20 +210,11 @@ woken_end signals states probes n old now items touched i due woken e l w =
     let P : List ℕ → Type 0 = λ xs. (j : ℕ) → IsOneOf j xs → StaysSame signals old now j ⊎ ((k : ℕ) → Senses n.index j k → IsRoused states probes old now k → IsOneOf k woken) in
     record { keeps = w.keeps; sound = w.sound; all = subst P s w.all }
 
--- what a `Bool` says
-or_right : (b : Bool) → b || true ≡ true
-or_right true = refl
-or_right false = refl
-
-or_cases : (b c : Bool) → b || c ≡ true → (b ≡ true) ⊎ (c ≡ true)
-or_cases true c e = inl refl
-or_cases false c e = inr e
-
 at_itself : (t : Instant) → is_at t t ≡ true
 at_itself t = ap is_eq (tied_itself instant_cmp_total t)
 
 at_some : (t : Instant) (o : Option Instant) → option_map_or (is_at t) o false ≡ true → o ≡ Some t
-at_some t None e = absurd (false_true e)
+at_some t None e = absurd (false≢true e)
 at_some t (Some u) e = ap (λ (x : Instant). Some x) (sym (at_one t u e))
 
 -- exactly those that wake
@@ -245,7 +235,7 @@ module _ (a : Arena) (d : Design) (states : List InstState) (probes : List (List
         is_kept = w.stands;
         awakes = ap (λ (o : Option Instant). list_any (bit_differs old now) (bit_numbers (parts_sensed w.state (probed_by a i.0))) || option_map_or (is_at t) o false) w.wakes
             ∙ ap (λ (b : Bool). list_any (bit_differs old now) (bit_numbers (parts_sensed w.state (probed_by a i.0))) || b) (at_itself t)
-            ∙ or_right (list_any (bit_differs old now) (bit_numbers (parts_sensed w.state (probed_by a i.0))));
+            ∙ or-true (list_any (bit_differs old now) (bit_numbers (parts_sensed w.state (probed_by a i.0))));
       }
 
   by_bits : (k : ℕ) → IsRoused states probes old now k → AwakeAt a later d.instances.items states k
@@ -268,7 +258,7 @@ module _ (a : Arena) (d : Design) (states : List InstState) (probes : List (List
       OthersStay d.signals.items touched old now → WokenTo d.signals.items states probes n old now touched (length touched) due woken → IsOneOf k woken
   roused_is k i s p q e others w = elim (has_or k woken) [
     | inl h ↦ h
-    | inr m ↦ absurd (false_true (sym (parts_stay d.signals.items (length d.init) (parts_sensed s (probed_by a i)) old now asleep.fill within (λ j g. stays m j g)) ∙ e))
+    | inr m ↦ absurd (false≢true (sym (parts_stay d.signals.items (length d.init) (parts_sensed s (probed_by a i)) old now asleep.fill within (λ j g. stays m j g)) ∙ e))
   ]
     where
       probed : slice_get probes k ≡ Some (probed_by a i)

@@ -1,10 +1,9 @@
 -- The wishes of a frame can be put.
-use Rattle.std.proofs.Common.{◌≡◌, ◌≢◌, ◌<◌, ℕ, List, [], ◌∷◌, ◌++◌, map, Bool, true, false, not, refl, ap, sym, ◌∙◌, subst, arith, inl, inr, append_assoc, if◌then◌else◌, Option, Some, None}
+use Rattle.std.proofs.Common.{◌≡◌, ◌≢◌, ◌<◌, ℕ, List, [], ◌∷◌, ◌++◌, map, Bool, true, false, refl, ap, sym, ◌∙◌, subst, arith, inl, inr, append_assoc, if◌then◌else◌, Option, Some, None}
 use Rattle.lh_time.specs.declared.Instant.{Instant}
 use Rattle.lh_time.specs.Order.{instant_lt, instant_le}
-use Rattle.lh_time.proofs.OrderLemmas.{instant_cmp_total, instant_lt-not_le, instant_le-lt}
-use Rattle.std.specs.Ordering.{is_lt}
-use Rattle.lh_history.proofs.Instants.{le_self, le_trans, late_not_le}
+use Rattle.lh_time.proofs.OrderLemmas.{instant_le-lt, instant_lt-trans}
+use Rattle.lh_history.proofs.Instants.{le_trans, late_not_le}
 use Rattle.lh_history.specs.Frames.{due_entries}
 use Rattle.lh_types.specs.History.{Claim, entries_of}
 use Rattle.std.proofs.lemmas.Bool.{both_ways}
@@ -17,22 +16,14 @@ use Rattle.lh_kernel.proofs.Putting.{entries_put}
 use Rattle.lh_kernel.proofs.Acts.{entries_ran}
 use Rattle.lh_index.specs.Rising.{AreAbove, IsRising}
 use Rattle.lh_kernel.specs.declared.run.Activation.{Activation}
-use Rattle.lh_history.proofs.Orders.{is_less}
 use Rattle.lh_unit.specs.Within.{Each}
+use Rattle.lh_unit.proofs.Lists.{Each-append}
 use Rattle.lh_eval.specs.Grouped.{is_filled, IsBefore, IsAbove, BitsRise, IsGrouped}
 use Rattle.lh_queue.specs.declared.wish.Wish.{Wish}
 use Rattle.lh_queue.specs.Queued.{QueuedWish, NoneCompetes, NamesOnce, IsUnnamed, BitsWithin, due_later}
 use Rattle.lh_queue.proofs.Keeping.{different_apart}
 use Rattle.lh_kernel.specs.Puts.{wishes_by, wishes_ran, AreApart, CanBePut}
-
-pub lt_trans : (a b c : Instant) → instant_lt a b ≡ true → instant_lt b c ≡ true → instant_lt a c ≡ true
-lt_trans a b c h k = ap is_lt (instant_cmp_total.trans a b c (is_less _ h) (is_less _ k))
-
-pub lt_self : (a : Instant) → instant_lt a a ≡ true → ⊥
-lt_self a h = clash (sym h ∙ instant_lt-not_le a a ∙ ap not (le_self a))
-  where
-    clash : true ≡ false → ⊥
-    clash z = cc
+use Rattle.lh_meaning.proofs.Instants.{lt_self}
 
 -- what is later is another one
 lt_other : (a b : Instant) → instant_lt a b ≡ true → b ≢ a
@@ -58,7 +49,7 @@ grouped_later t (d ∷ ds) b g = (b, later_rest t d.0 ds b g.2 g.3)
   where
     later_rest : (t u : Instant) (ds : List (Instant × List (ℕ × Bool))) → instant_lt t u ≡ true → IsBefore u ds → IsGrouped ds → Each (λ (d : Instant × List (ℕ × Bool)). instant_lt t d.0 ≡ true) ds
     later_rest t u [] l b g = tt
-    later_rest t u (d ∷ ds) l b g = let m : instant_lt t d.0 ≡ true = lt_trans t u d.0 l b in (m, later_rest t d.0 ds m g.2 g.3)
+    later_rest t u (d ∷ ds) l b g = let m : instant_lt t d.0 ≡ true = instant_lt-trans t u d.0 l b in (m, later_rest t d.0 ds m g.2 g.3)
 
 -- the wishes of an instance that are due later than one do not compete with it
 apart_later : (w : Wish) (t : Instant) (k : ℕ) (ds : List (Instant × List (ℕ × Bool))) → Each (λ (d : Instant × List (ℕ × Bool)). instant_lt w.due d.0 ≡ true) ds → AreApart w (wishes_by t k ds)
@@ -113,17 +104,13 @@ each_by : (P : Wish → Type 0) (width : ℕ) (t : Instant) (k : ℕ) (ds : List
 each_by P width t k [] f g w l = tt
 each_by P width t k (d ∷ ds) f g w l = (f d g.0 w.0 l.0, each_by P width t k ds f g.3 w.1 l.1)
 
-each_join : {X : Type 0} (P : X → Type 0) (xs ys : List X) → Each P xs → Each P ys → Each P (xs ++ ys)
-each_join P [] ys a b = b
-each_join P (x ∷ xs) ys a b = (a.0, each_join P xs ys a.1 b)
-
 -- a property of each wish that is made at `t`, names some bit and only bits of the signals, and is due later
 pub each_wish : (P : Wish → Type 0) (a : Arena) (width : ℕ) (t : Instant) (is : List Instance) (xs : List Activation) →
     ((k : ℕ) (d : Instant × List (ℕ × Bool)) → is_filled d.1 ≡ true → BitsWithin width d.1 → instant_lt t d.0 ≡ true → P (record { made = t; instance = k; due = d.0; bits = d.1 })) →
     Each (ActOfOne a width t is) xs → Each P (wishes_ran t xs)
 each_wish P a width t is [] f e = tt
 each_wish P a width t is (x ∷ xs) f e =
-    each_join P (wishes_by t x.instance x.act.wishes) (wishes_ran t xs)
+    Each-append P (wishes_by t x.instance x.act.wishes) (wishes_ran t xs)
     (each_by P width t x.instance x.act.wishes (f x.instance) e.0.sound.grouped e.0.sound.within e.0.sound.later) (each_wish P a width t is xs f e.1)
 
 pub filled_names : (ws : List (ℕ × Bool)) → is_filled ws ≡ true → ws ≢ []

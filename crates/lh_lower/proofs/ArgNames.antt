@@ -7,15 +7,15 @@ use Rattle.lh_unit.specs.Arena.{Arena, IsArena, args_at, unit_count, unit_text_a
 use Rattle.lh_unit.specs.Contents.{ArgText}
 use Rattle.lh_unit.specs.Naming.{arg_text}
 use Rattle.lh_unit.specs.Table.{ArgsWithin}
-use Rattle.lh_lower.proofs.Taking.{take-all}
-use Rattle.lh_copy.proofs.Rests.{arg-within as item-within}
+use Rattle.lh_unit.proofs.Placing.{args-item}
+use Rattle.lh_term.proofs.Swaps.{take_whole}
 
 -- the names of the first i arguments
 abbrev pub names_to : Arena → (u : ℕ) → List Arg → (i : ℕ) → List (List ℕ)
 names_to a u xs i = map (λ (x : Arg). value_name_at a u x.value.0) (take i xs)
 
 pub arg-within : (a : Arena) (u : ℕ) (xs : List Arg) (i : ℕ) (x : Arg) → IsArena a → u < unit_count a → xs ≡ args_at a u → i < length xs → x ≡ get_or xs i x → x.value.0 < value_count a u
-arg-within a u xs i x o h e l q = item-within (value_count a u) xs i x (subst (ArgsWithin (value_count a u)) (sym e) (o.tables u h).args_within) l q
+arg-within a u xs i x o h e l q = args-item (value_count a u) xs i x (subst (ArgsWithin (value_count a u)) (sym e) (o.tables u h).args_within) l q
 
 pub names-next : (a : Arena) (u : ℕ) (xs : List Arg) (i : ℕ) (x : Arg) → i < length xs → x ≡ get_or xs i x → names_to a u xs (i + 1) ≡ names_to a u xs i ++ value_name_at a u x.value.0 ∷ []
 names-next a u xs i x h e =
@@ -28,4 +28,4 @@ texts a u (x ∷ xs) = ap (λ (ns : List (List ℕ)). value_name_at a u x.value.
 
 pub names-all : (a : Arena) (u : ℕ) (xs : List Arg) (i : ℕ) → xs ≡ args_at a u → i ≡ length xs → names_to a u xs i ≡ map (λ (x : ArgText). x.name) (unit_text_at a u).args
 names-all a u xs i e l =
-    ap (names_to a u xs) l ∙ ap (map (λ (x : Arg). value_name_at a u x.value.0)) (take-all xs) ∙ ap (map (λ (x : Arg). value_name_at a u x.value.0)) e ∙ texts a u (args_at a u)
+    ap (names_to a u xs) l ∙ ap (map (λ (x : Arg). value_name_at a u x.value.0)) (take_whole xs) ∙ ap (map (λ (x : Arg). value_name_at a u x.value.0)) e ∙ texts a u (args_at a u)

@@ -8,7 +8,7 @@ use Rattle.lh_unit.specs.Within.{Each}
 use Rattle.lh_unit.proofs.Lists.{Each-item}
 use Rattle.lh_lowered.specs.Report.{RowText, row_text, row_line, report_text}
 use Rattle.lh_lowered.specs.declared.report.ReportRow.{ReportRow}
-use Rattle.lh_lower.proofs.Taking.{take-all}
+use Rattle.lh_term.proofs.Swaps.{take_whole}
 
 -- the lines of the first i rows
 abbrev pub text_to : Arena → List ReportRow → (i : ℕ) → List ℕ
@@ -23,7 +23,7 @@ text-next a rows i r h e =
     ∙ ap (λ (y : ReportRow). text_to a rows i ++ row_line (f y)) (sym e)
 
 pub text-all : (a : Arena) (rows : List ReportRow) (i : ℕ) → i ≡ length rows → text_to a rows i ≡ report_text (map (row_text a) rows)
-text-all a rows i e = ap (λ (n : ℕ). report_text (map (row_text a) (take n rows))) e ∙ ap (λ (xs : List ReportRow). report_text (map (row_text a) xs)) (take-all rows)
+text-all a rows i e = ap (λ (n : ℕ). report_text (map (row_text a) (take n rows))) e ∙ ap (λ (xs : List ReportRow). report_text (map (row_text a) xs)) (take_whole rows)
 
 pub row-within : (n : ℕ) (rows : List ReportRow) (i : ℕ) (r : ReportRow) → i < length rows → r ≡ get_or rows i r → Each (λ (x : ReportRow). x.unit.0 < n) rows → r.unit.0 < n
 row-within n rows i r h e w = Each-item (λ (x : ReportRow). x.unit.0 < n) rows i r w h e

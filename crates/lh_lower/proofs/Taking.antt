@@ -23,7 +23,7 @@ use Rattle.lh_lowered.specs.declared.report.Kind.{Kind}
 use Rattle.lh_lowered.specs.declared.report.Verdict.{Verdict}
 use Rattle.lh_lowered.specs.declared.report.Verdict.TheVariants as verdict
 use Rattle.lh_lowered.specs.Lowering as text
-use Rattle.lh_lowered.specs.Lowering.{lowered, lowered_item, item_row, outcome_in, report}
+use Rattle.lh_lowered.specs.Lowering.{lowered_item, item_row, outcome_in, report}
 use Rattle.lh_lowered.specs.Report.{RowText, row_text}
 use Rattle.lh_lowered.specs.declared.report.ReportRow.{ReportRow}
 use Rattle.lh_shape.specs.declared.reason.Reason.{Reason}
@@ -33,6 +33,7 @@ use Rattle.lh_lower.specs.declared.outcome.Outcome.{Outcome}
 use Rattle.lh_lower.specs.declared.outcome.Outcome.TheVariants as outcome
 use Rattle.lh_lower.specs.declared.lowering.Lowering.{Lowering}
 use Rattle.lh_lower.proofs.Lowerings.{within, begun, fresh, lowered-more, rows-more, as-kept, as-process, rows-push, within-push}
+use Rattle.lh_term.proofs.Swaps.{take_whole}
 
 -- the items so far, lowered, and their rows
 abbrev items-of : Arena → List Item → List ItemText
@@ -197,12 +198,8 @@ can-put a u k b h = record { lines = h.0; is = h.2.is; few = h.2.short; new_args
 
 -- ---- all of them
 
-pub take-all : {X : Type 0} → (xs : List X) → take (length xs) xs ≡ xs
-take-all [] = refl
-take-all (x ∷ xs) = ap (λ ys. x ∷ ys) (take-all xs)
-
 pub all-seen : (a : Arena) (i : ℕ) → i ≡ length a.items → take i a.items ≡ a.items
-all-seen a i e = ap (λ (n : ℕ). take n a.items) e ∙ take-all a.items
+all-seen a i e = ap (λ (n : ℕ). take n a.items) e ∙ take_whole a.items
 
 -- the next item
 split : (x : Item) (xs : List Item) (k : ℕ) → k < length xs → xs ≡ take k xs ++ get_or xs k x ∷ drop (suc k) xs

@@ -1,11 +1,12 @@
 -- The places of a region one after the other: those to which nothing leads are passed over.
-use Rattle.std.proofs.Common.{◌≡◌, ◌≤◌, ◌<◌, ◌⊎◌, inl, inr, ℕ, zero, suc, Bool, true, false, ◌&&◌, if◌then◌else◌, List, [], ◌∷◌, ◌++◌, map, Option, Some, None, refl, ap, sym, ◌∙◌, subst, arith, append-nil}
+use Rattle.std.proofs.Common.{◌≡◌, ◌≤◌, ◌<◌, ◌⊎◌, inl, inr, ℕ, zero, suc, Bool, true, false, if◌then◌else◌, List, [], ◌∷◌, ◌++◌, map, Option, Some, None, refl, ap, sym, ◌∙◌, subst, arith, append-nil}
 use Rattle.std.specs.Prelude.{nat_eq}
 use Rattle.std.specs.List.{flat_map}
 use Rattle.std.proofs.Math.Path.{fun_ext}
 use Rattle.std.proofs.lemmas.Bool.{cases_lt}
 use Rattle.std.proofs.lemmas.List.Elements.{filter-append}
 use Rattle.std.proofs.lemmas.Grind.{flat_map-append}
+use Rattle.std.proofs.Math.Bool.{and-false}
 use Rattle.lh_names.specs.Names.{same_name}
 use Rattle.lh_names.proofs.NameLists.{same_name-is}
 use Rattle.lh_rows.specs.Known.{Known, known_value, known_cell, known_part, Knowledge, with_known}
@@ -47,10 +48,6 @@ turns n m = flat_map (turn n) (numbers_below m)
 
 pub edges-more : (p : RegionPlace) (es : List RegionEdge) (e : RegionEdge) → edges_to p (es ++ e ∷ []) ≡ edges_to p es ++ edges_to p (e ∷ [])
 edges-more p es e = filter-append (λ (x : RegionEdge). is_place x.to p) es (e ∷ [])
-
-pub and-false : (b : Bool) → (b && false) ≡ false
-and-false true = refl
-and-false false = refl
 
 -- an edge to another turn, and to another block
 pub other-turn : (e : RegionEdge) (t b : ℕ) → nat_eq e.to.turns t ≡ false → edges_to (place t b) (e ∷ []) ≡ []

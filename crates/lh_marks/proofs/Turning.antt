@@ -1,9 +1,10 @@
 -- Turns that are right tell which values come from a `prb`.
-use Rattle.std.proofs.Common.{◌≡◌, ℕ, ◌+◌, ◌<◌, ◌≤◌, zero, suc, Bool, true, false, not, ◌||◌, ◌&&◌, nat_eq, nat_lt, nat_le, if◌then◌else◌, List, [], ◌∷◌, length, map, get_or, Option, Some, None, refl, ap, sym, ◌∙◌, subst, arith}
+use Rattle.std.proofs.Common.{◌≡◌, ℕ, ◌+◌, ◌<◌, ◌≤◌, zero, suc, Bool, true, false, not, ◌||◌, ◌&&◌, nat_eq, nat_lt, nat_le, if◌then◌else◌, List, [], ◌∷◌, length, map, get_or, Option, Some, None, refl, ap, sym, ◌∙◌, subst, arith, ltb-true, leb-true}
 use Rattle.std.specs.List.{list_any}
 use Rattle.std.specs.Option.{option_map, option_map_or}
 use Rattle.std.proofs.lemmas.Bool.Decides.{nat_tests}
 use Rattle.std.proofs.lemmas.Option.{slice_get-get_or, slice_get_within}
+use Rattle.std.proofs.lemmas.Bool.{or_right, and_parts, not-true}
 use Rattle.lh_unit.specs.Kinds as kinds
 use Rattle.lh_unit.specs.Naming.{Naming, value_text, inst_text}
 use Rattle.lh_unit.specs.Within.{Sizes, Each, ValueWithin, InstWithin}
@@ -28,14 +29,6 @@ use Rattle.lh_operands.proofs.UsesWithin.{uses-within}
 
 -- ---- truth
 
-or-right : (c d : Bool) → d ≡ true → (c || d) ≡ true
-or-right true d k = refl
-or-right false d k = k
-
-and-both : (c d : Bool) → (c && d) ≡ true → (c ≡ true) × (d ≡ true)
-and-both true d k = (refl, k)
-and-both false d k = absurd cc
-
 -- ---- tests of operands
 
 any-more : (T S : Use → Bool) (P : Use → Type 0) → ((x : Use) → P x → T x ≡ true → S x ≡ true) → (us : List Use) → Each P us → list_any T us ≡ true → list_any S us ≡ true
@@ -44,7 +37,7 @@ any-more T S P h (x ∷ us) e a = by (T x) refl (any-more T S P h us e.1)
   where
     by : (b : Bool) → T x ≡ b → (list_any T us ≡ true → list_any S us ≡ true) → (S x || list_any S us) ≡ true
     by true q r = ap (λ z. z || list_any S us) (h x e.0 q)
-    by false q r = or-right (S x) (list_any S us) (r (sym (ap (λ z. z || list_any T us) q) ∙ a))
+    by false q r = or_right (S x) (list_any S us) (r (sym (ap (λ z. z || list_any T us) q) ∙ a))
 
 -- what passes one test passes the other
 module _ (s : Sizes) (T S : ValueId → Bool) (h : (v : ValueId) → ValueWithin s v → T v ≡ true → S v ≡ true) where
@@ -126,7 +119,7 @@ module _ (f : Naming) (D : List ℕ → Bool) where
 -- the line that gives a value is led, where all lines are
 making-led : (n : ℕ) (turns : List ℕ) (ls : List Line) (v : ValueId) (i : Inst) → all_led n turns ls ≡ true → inst_making ls v.0 ≡ Some i → result_led n turns (Some v) i ≡ true
 making-led n turns [] v i h e = absurd cc
-making-led n turns (l ∷ ls) v i h e = by (is_result l.result v.0) refl e (making-led n turns ls v i (and-both (line_led n turns l) (all_led n turns ls) h).1)
+making-led n turns (l ∷ ls) v i h e = by (is_result l.result v.0) refl e (making-led n turns ls v i (and_parts (line_led n turns l) (all_led n turns ls) h).1)
   where
     here : (r : Option ValueId) → is_result r v.0 ≡ true → result_led n turns r l.inst ≡ true → result_led n turns (Some v) l.inst ≡ true
     here None t q = absurd cc
@@ -134,7 +127,7 @@ making-led n turns (l ∷ ls) v i h e = by (is_result l.result v.0) refl e (maki
 
     by : (c : Bool) → is_result l.result v.0 ≡ c → (if c then Some l.inst else inst_making ls v.0) ≡ Some i → (inst_making ls v.0 ≡ Some i → result_led n turns (Some v) i ≡ true)
         → result_led n turns (Some v) i ≡ true
-    by true q g r = subst (λ (x : Inst). result_led n turns (Some v) x ≡ true) (some_inj l.inst i g) (here l.result q (and-both (line_led n turns l) (all_led n turns ls) h).0)
+    by true q g r = subst (λ (x : Inst). result_led n turns (Some v) x ≡ true) (some_inj l.inst i g) (here l.result q (and_parts (line_led n turns l) (all_led n turns ls) h).0)
     by false q g r = r g
 
 -- a value that comes from something has a line
@@ -152,16 +145,6 @@ with_turns-at : (turns : List ℕ) (v : ℕ) → get_or (with_turns turns) v fal
 with_turns-at [] v = refl
 with_turns-at (t ∷ ts) zero = refl
 with_turns-at (t ∷ ts) (suc v) = with_turns-at ts v
-
-not-false : (b : Bool) → not b ≡ true → b ≡ false
-not-false true e = absurd cc
-not-false false e = refl
-
-lower-than : (a b : ℕ) → nat_lt a b ≡ true → a < b
-lower-than a b e = grind (arith, nat_tests)
-
-at-most : (a b : ℕ) → nat_le a b ≡ true → a ≤ b
-at-most a b e = grind (arith, nat_tests)
 
 not-zero : (a : ℕ) → nat_eq a 0 ≡ false → a ≤ 0 → ⊥
 not-zero a e h = grind (arith, nat_tests)
@@ -217,22 +200,22 @@ module _ (a : Arena) (u : ℕ) (o : IsArena a) (h : u < unit_count a) (turns : L
       × ((nat_le (turn_of turns v) (inst_count a u) && comes_by (is_before turns (turn_of turns v)) i) ≡ true)
   led-by v w e =
       let x = some-line (comes_by marked) (making v) (sym (marked-step v w) ∙ e) in
-      let q : nat_eq (turn_of turns v) 0 ≡ false = not-false (nat_eq (turn_of turns v) 0) (sym (has-turn v) ∙ e) in
+      let q : nat_eq (turn_of turns v) 0 ≡ false = not-true (nat_eq (turn_of turns v) 0) (sym (has-turn v) ∙ e) in
       let r : result_led (inst_count a u) turns (Some v) x.0 ≡ true = making-led (inst_count a u) turns (table_at a u).lines v x.0 led x.1 in
       (x.0, x.1, sym (ap (λ z. z || (nat_le (turn_of turns v) (inst_count a u) && comes_by (is_before turns (turn_of turns v)) x.0)) q) ∙ r)
 
   sound : (r : ℕ) (v : ValueId) → v.0 < value_count a u → marked v ≡ true → turn_of turns v ≤ r → within r v ≡ true
   sound zero v w e t =
-      let q : nat_eq (turn_of turns v) 0 ≡ false = not-false (nat_eq (turn_of turns v) 0) (sym (has-turn v) ∙ e) in
+      let q : nat_eq (turn_of turns v) 0 ≡ false = not-true (nat_eq (turn_of turns v) 0) (sym (has-turn v) ∙ e) in
       absurd (not-zero (turn_of turns v) q t)
   sound (suc r) v w e t =
       let x = led-by v w e in
-      let y = and-both (nat_le (turn_of turns v) (inst_count a u)) (comes_by (is_before turns (turn_of turns v)) x.0) x.2 in
+      let y = and_parts (nat_le (turn_of turns v) (inst_count a u)) (comes_by (is_before turns (turn_of turns v)) x.0) x.2 in
       within-step r v w ∙ ap (λ z. option_map_or (comes_by (within r)) z false) x.1
       ∙ comes-more (sizes a u) (is_before turns (turn_of turns v)) (within r)
       (λ z p q.
-      let b = and-both (not (nat_eq (turn_of turns z) 0)) (nat_lt (turn_of turns z) (turn_of turns v)) q in
-      let l : turn_of turns z < turn_of turns v = lower-than (turn_of turns z) (turn_of turns v) b.1 in
+      let b = and_parts (not (nat_eq (turn_of turns z) 0)) (nat_lt (turn_of turns z) (turn_of turns v)) q in
+      let l : turn_of turns z < turn_of turns v = ltb-true (turn_of turns z) (turn_of turns v) b.1 in
       sound r z p (has-turn z ∙ b.0) (omega (arith, l, t)))
       x.0 (placed v x.0 x.1) y.1
 
@@ -242,8 +225,8 @@ module _ (a : Arena) (u : ℕ) (o : IsArena a) (h : u < unit_count a) (turns : L
   same v w false e true q = sym e ∙ complete (inst_count a u + 1) v w q
   same v w true e false q =
       let x = led-by v w e in
-      let y = and-both (nat_le (turn_of turns v) (inst_count a u)) (comes_by (is_before turns (turn_of turns v)) x.0) x.2 in
-      let m : turn_of turns v ≤ inst_count a u = at-most (turn_of turns v) (inst_count a u) y.0 in
+      let y = and_parts (nat_le (turn_of turns v) (inst_count a u)) (comes_by (is_before turns (turn_of turns v)) x.0) x.2 in
+      let m : turn_of turns v ≤ inst_count a u = leb-true (turn_of turns v) (inst_count a u) y.0 in
       let l : turn_of turns v ≤ inst_count a u + 1 = omega (arith, m) in
       sym (sound (inst_count a u + 1) v w e l) ∙ q
 

@@ -15,7 +15,7 @@ power_above zero = omega arith
 power_above (suc n) = let e = twice n in let h = power_above n in omega (arith, e, h)
 
 -- a number of n bits is below 2 ^ n
-number_below : (n : ℕ) (bits : List Bool) → bits_number (take n bits) < 2 ^ n
+pub number_below : (n : ℕ) (bits : List Bool) → bits_number (take n bits) < 2 ^ n
 number_below zero [] = omega arith
 number_below zero (b ∷ bits) = omega arith
 number_below (suc n) [] = power_above (suc n)

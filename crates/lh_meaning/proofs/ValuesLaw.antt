@@ -51,7 +51,7 @@ pub bits_of_due : BitsOfDue
 unfolding bits_at
 bits_of_due h k init t o e = values_of_due (claims h) (claims k) t o e 0 init
 
-as_many : (all : List Claim) (t : Instant) (k : ℕ) (init : List Bool) → length (values_by all t k init) ≡ length init
+pub as_many : (all : List Claim) (t : Instant) (k : ℕ) (init : List Bool) → length (values_by all t k init) ≡ length init
 as_many all t k [] = refl
 as_many all t k (b ∷ more) = ap (λ n. suc n) (as_many all t (k + 1) more)
 

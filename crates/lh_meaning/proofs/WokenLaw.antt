@@ -8,6 +8,7 @@ use Rattle.std.proofs.lemmas.Option.{none-some, same_Some}
 use Rattle.lh_types.specs.Types.{IsData, bit_count}
 use Rattle.lh_types.specs.Bits.{value_bits, differing}
 use Rattle.lh_types.specs.Parts.{bits_within}
+use Rattle.lh_types.proofs.Lists.{Contains-nil}
 use Rattle.lh_bits.proofs.ValueBits.{value_bits-value_from_bits}
 use Rattle.lh_unit.specs.Contents.{ItemText}
 use Rattle.lh_unit.specs.Hierarchy.{Instance}
@@ -17,11 +18,8 @@ use Rattle.lh_unit.specs.Trace.{signal_value}
 use Rattle.lh_unit.specs.Frames.{woken_from, woken_at}
 use Rattle.lh_meaning.specs.Frames.{IsWoken, WokenAreListed, WokenRise, ToggledBits}
 
-contains-none : (j : ℕ) → Contains [] j → ⊥
-contains-none j c = omega (arith, c.1)
-
 contains-cases : (k : ℕ) (ks : List ℕ) (j : ℕ) → Contains (k ∷ ks) j → (k ≡ j) ⊎ Contains ks j
-contains-cases k ks j c = ⊎_elim (λ h. ⊎_elim (λ n. absurd (contains-none j n)) (λ e. inl e) (Contains-push_cases [] k j h)) (λ t. inr t) (Contains-append_cases (k ∷ []) ks j c)
+contains-cases k ks j c = ⊎_elim (λ h. ⊎_elim (λ n. absurd (Contains-nil j n)) (λ e. inl e) (Contains-push_cases [] k j h)) (λ t. inr t) (Contains-append_cases (k ∷ []) ks j c)
 
 contains-first : (k : ℕ) (ks : List ℕ) → Contains (k ∷ ks) k
 contains-first k ks = (zero, omega arith, refl)
@@ -69,8 +67,8 @@ module _ (items : List ItemText) (m : Moment) where
       record { place = suc w.place; number = omega (arith, w.number); instance = w.instance; state = w.state; is_there = w.is_there; stands_so = w.stands_so; wakes = w.wakes }
 
   listed : (k : ℕ) (is : List Instance) (ss : List State) (j : ℕ) → Contains (numbers k is ss) j → WokenAmong k is ss j
-  listed k [] ss j c = absurd (contains-none j c)
-  listed k (i ∷ is) [] j c = absurd (contains-none j c)
+  listed k [] ss j c = absurd (Contains-nil j c)
+  listed k (i ∷ is) [] j c = absurd (Contains-nil j c)
   listed k (i ∷ is) (s ∷ ss) j c = at (wakes_at i s) refl c (listed (k + 1) is ss j)
     where
       at : (b : Bool) → wakes_at i s ≡ b → Contains (if b then k ∷ numbers (k + 1) is ss else numbers (k + 1) is ss) j

@@ -1,7 +1,7 @@
 //! The operands of an instruction, and of which kind each must be.
 #![tactic(auto, using(crate::proofs::Lists::steps))]
 
-ghost use Rattle.std.specs.Prelude.{◌≡◌, ◌++◌, ◌∷◌, [], IfOk, OnOk};
+ghost use Rattle.std.specs.Prelude.{◌≡◌, ◌++◌, ◌∷◌, [], IfOk, IfSome, OnOk};
 ghost use Rattle.lh_types.specs.Kind.{type_of_kind};
 ghost use Rattle.lh_operands.specs.Uses as spec;
 ghost use Rattle.lh_operands.specs.Uses.{first_type, uses_of, used, all_used, values_used, maybe_used, edges_used, trigger_uses, triggers_uses};
@@ -116,29 +116,27 @@ impl UseList {
 pub fn uses(alloc: Global, inst: &Inst) -> Result<UseList, NoMemory>
     ensures { IfOk result (λ list. list ≡ uses_of inst.now) }
 {
-    match inst {
-        Inst::Pure { op, args } => operation_uses(alloc, *op, args.as_slice()),
-        _ => {
-            let mut list = UseList::new(alloc);
-            put_uses(&mut list, inst)?;
-            Ok(list)
+    if let Inst::Pure { op, args } = inst {
+        if let Some(list) = few_uses(alloc, *op, args.as_slice()) {
+            return Ok(list);
         }
     }
+    let mut list = UseList::new(alloc);
+    put_uses(&mut list, inst)?;
+    Ok(list)
 }
 
-/// The operands of an operation. Most have one or two, and most instructions are operations.
-fn operation_uses(alloc: Global, op: Op, args: &[Typed]) -> Result<UseList, NoMemory>
-    ensures { IfOk result (λ list. list ≡ all_used (spec.operation_need op args.now) args.now) }
+/// The operands of an operation that has one or two, as most have.
+fn few_uses(alloc: Global, op: Op, args: &[Typed]) -> Option<UseList>
+    ensures { IfSome result (λ list. list ≡ all_used (spec.operation_need op args.now) args.now) }
 {
-    let need = operation_need(op, args);
     match args {
-        [one] => Ok(UseList::one(alloc, used(need, one))),
-        [first, second] => Ok(UseList::two(alloc, used(need, first), used(need, second))),
-        _ => {
-            let mut list = UseList::new(alloc);
-            put_all(&mut list, need, args)?;
-            Ok(list)
+        [one] => Some(UseList::one(alloc, used(operation_need(op, args), one))),
+        [first, second] => {
+            let need = operation_need(op, args);
+            Some(UseList::two(alloc, used(need, first), used(need, second)))
         }
+        _ => None,
     }
 }
 

@@ -6,7 +6,7 @@ use Rattle.std.proofs.lemmas.List.{length-map, get_or-map, take-map, drop-map}
 use Rattle.lh_types.specs.Types.{TypeTree, TypeRow, int_type, time_type, array_type, tuple_type, no_types, more_types, row_of, bit_count}
 use Rattle.lh_types.specs.Values.{Datum, DatumRow, int_value, time_value, array_value, tuple_value, no_values, more_values, data_row}
 use Rattle.lh_types.specs.ValueOf.{datum_of}
-use Rattle.lh_types.specs.Fits.{FitsType, FitsRow, PartsFit, part_count}
+use Rattle.lh_types.specs.Fits.{FitsType, FitsRow, PartsFit}
 use Rattle.lh_types.specs.Parts.{Part, parts_of, part_by, part_if, part_beyond, field_part}
 use Rattle.lh_types.specs.Apply.{no_value, field_at, slice_at, with_field, with_slice}
 use Rattle.lh_types.specs.ApplyTypes.{FitsOp, PartHasType, Shifts}
@@ -14,9 +14,9 @@ use Rattle.lh_types.specs.declared.part.Step.TheVariants.{Field, Slice}
 use Rattle.lh_types.specs.declared.op.Op.{Op}
 use Rattle.lh_types.specs.declared.op.Op.TheVariants.{Eq, Neq, Shl, Shr, Extf, Exts, Insf, Inss, Repeat}
 use Rattle.lh_types.specs.declared.val.Val.{Val}
+use Rattle.lh_types.proofs.DatumRows.{parts_of-data_row, length-parts_of}
 use Rattle.lh_ops.specs.Operands.{width_of, number_of, parts_within}
 use Rattle.lh_ops.proofs.FitLemmas.{IntegerArgs, one_arg, two_args}
-use Rattle.lh_ops.proofs.RowLemmas.{parts_of-data_row}
 
 -- ---- how many arguments there are
 
@@ -75,10 +75,6 @@ module _ (xs : List Val) (v w : Val) (of a b : ℕ) (args : IntegerArgs (map dat
 
 -- ---- parts
 
-pub parts_count : (r : DatumRow) → length (parts_of r) ≡ part_count r
-parts_count no_values = refl
-parts_count (more_values v r) = omega (arith, parts_count r)
-
 -- what a step leads to, where it fits
 there : (b : Bool) (lo : ℕ) (t r : TypeTree) → option_map (λ p. p.of) (part_if b lo t) ≡ Some r → (b ≡ true) × (t ≡ r)
 there true lo t r e = (refl, cc)
@@ -120,12 +116,12 @@ element_fits (more_values v vs) t (suc k) d f h = element_fits vs t k d f.1 (ome
 pub field_within : (x : Datum) (t : TypeTree) (k : ℕ) (r : TypeTree) → FitsType x t → PartHasType t (Field k) r → k < length (parts_within x)
 field_within (int_value n a) (int_type m) k r f h = cc
 field_within (time_value d) time_type k r f h = cc
-field_within (array_value vs) (array_type n t) k r f h = let e = element_part n t k r h in omega (arith, parts_count vs, f.0, e.0)
+field_within (array_value vs) (array_type n t) k r f h = let e = element_part n t k r h in omega (arith, length-parts_of vs, f.0, e.0)
 field_within (tuple_value vs) (tuple_type ts) k r f h = (field_fits vs ts k r no_value f h).0
 field_within _ _ k r f h = absurd f
 
 pub slice_within : (vs : DatumRow) (t : TypeTree) (o n : ℕ) (r : TypeTree) → FitsType (array_value vs) t → PartHasType t (Slice o n) r → o + n ≤ length (parts_of vs)
-slice_within vs (array_type m t) o n r f h = let e = elements_part m t o n r h in omega (arith, parts_count vs, f.0, e.1)
+slice_within vs (array_type m t) o n r f h = let e = elements_part m t o n r h in omega (arith, length-parts_of vs, f.0, e.1)
 slice_within vs _ o n r f h = absurd f
 
 -- ---- one and two arguments

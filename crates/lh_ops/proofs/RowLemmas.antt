@@ -1,14 +1,9 @@
 -- Rows of values, and lists that are put together from copies.
-use Rattle.std.proofs.Common.{◌≡◌, ℕ, ◌+◌, ◌-◌, ◌<◌, List, [], ◌∷◌, ◌++◌, length, map, take, drop, set, refl, ap, ◌∙◌, arith, add-one}
+use Rattle.std.proofs.Common.{◌≡◌, ℕ, ◌+◌, ◌-◌, ◌<◌, List, [], ◌∷◌, ◌++◌, length, map, take, drop, set, refl, ◌∙◌, arith, add-one}
 use Rattle.std.proofs.lemmas.List.{set_split, take-map, drop-map, append_assoc, take_rest, length-map}
-use Rattle.lh_types.specs.Values.{Datum, data_row}
+use Rattle.lh_types.specs.Values.{Datum}
 use Rattle.lh_types.specs.ValueOf.{datum_of}
-use Rattle.lh_types.specs.Parts.{parts_of}
 use Rattle.lh_types.specs.declared.val.Val.{Val}
-
-pub parts_of-data_row : (ds : List Datum) → parts_of (data_row ds) ≡ ds
-parts_of-data_row [] = refl
-parts_of-data_row (d ∷ ds) = ap {B = List Datum} (λ r. d ∷ r) (parts_of-data_row ds)
 
 -- the first k, one more, and those after it
 pub one_replaced : (xs : List Val) (k : ℕ) (y z : Val) (front with_new all : List Datum) → k < length xs → front ≡ map datum_of (take k xs) → z ≡ y → with_new ≡ front ++ datum_of z ∷ []

@@ -2,10 +2,10 @@
 use Rattle.std.proofs.Common.{◌≡◌, ℕ, zero, suc, ◌+◌, ◌-◌, ◌*◌, ◌/◌, ◌%◌, ◌^◌, ◌≤◌, ◌<◌, min, List, [], ◌∷◌, ◌++◌, length, take, drop, set, replicate, Bool, true, false, cond, eqb, ℤ, pos, negsuc, neg_ℤ, ◌-ℤ◌, refl, sym, ap, ◌∙◌, subst, arith}
 use Rattle.std.proofs.lemmas.Nat.{pow_pos, pow-add, mod_below, and_le_l, or_lt, xor_lt, shr_below, mul-add-lt}
 use Rattle.std.proofs.lemmas.List.{length-take-le, length-drop, length-append, length-set, length-replicate}
-use Rattle.std.proofs.Math.Nat.{div-le_self, mod-le}
+use Rattle.std.proofs.Math.Nat.{div-le_self, mod-le, min-le_right}
 use Rattle.lh_types.specs.Types.{TypeTree, TypeRow, int_type, time_type, array_type, tuple_type, no_types, more_types, row_of, AreData, bit_count}
 use Rattle.lh_types.specs.Values.{Datum, DatumRow, int_value, time_value, array_value, tuple_value, no_values, more_values, data_row}
-use Rattle.lh_types.specs.Fits.{FitsType, FitsRow, PartsFit, part_count}
+use Rattle.lh_types.specs.Fits.{FitsType, FitsRow, PartsFit}
 use Rattle.lh_types.specs.Parts.{parts_of, part_by, with_part, field_part}
 use Rattle.lh_types.specs.ApplyInt.{integer_row, row_width, truth, divided, wrapped, moved_up, moved_down}
 use Rattle.lh_types.specs.Apply.{apply, bit_value, no_value, integer_result, shifted, selected, repeated, field_at, slice_at, with_field, with_slice}
@@ -15,11 +15,12 @@ use Rattle.lh_types.specs.declared.part.Step.TheVariants.{Field, Slice}
 use Rattle.lh_types.specs.declared.op.Op.{Op}
 use Rattle.lh_types.specs.declared.op.Op.TheVariants.{Not, Neg, Add, Sub, Umul, Smul, Udiv, Sdiv, Umod, Smod, Urem, Srem, And, Or, Xor, Eq, Neq, Slt, Sgt, Sle, Sge, Ult, Ugt, Ule, Uge, Shl, Shr, Mux, Extf, Exts, Insf, Inss, Array, Repeat, Tuple}
 use Rattle.lh_types.specs.declared.op.OpClass.{OpClass}
+use Rattle.lh_types.proofs.DatumRows.{data_row-parts_of, part_count-data_row, length-parts_of}
 use Rattle.lh_types.specs.declared.op.OpClass.TheVariants as class
 use Rattle.lh_ops.specs.Laws.{ResultsFit, OneResultType}
 use Rattle.lh_ops.proofs.FitLemmas.{int_fit, one_arg, two_args, three_args}
 use Rattle.lh_ops.proofs.ShiftLemmas.{scaled_mod, replaced_below}
-use Rattle.lh_ops.proofs.ArgLemmas.{parts_count, element_part, bits_part, elements_part, as_type, field_fits, element_fits, fits_as, beyond_of}
+use Rattle.lh_ops.proofs.ArgLemmas.{element_part, bits_part, elements_part, as_type, field_fits, element_fits, fits_as, beyond_of}
 
 -- ---- the integer rows
 
@@ -79,9 +80,6 @@ two_fit op vs n d f =
 
 -- ---- shifts
 
-cut_amount : (k n : ℕ) → min k n ≤ n
-cut_amount k n = omega arith
-
 -- a part of j bits above one of k bits
 two_parts : (x y j k n : ℕ) → x < 2 ^ j → y < 2 ^ k → j + k ≡ n → x * 2 ^ k + y < 2 ^ n
 two_parts x y j k n f g e = let p : 2 ^ n ≡ 2 ^ k * 2 ^ j = ap (λ m. 2 ^ m) (sym e) ∙ pow-add 2 j k ∙ mul_swap (2 ^ j) (2 ^ k) in rw p (mul-add-lt x (2 ^ k) y (2 ^ j) f g)
@@ -109,20 +107,12 @@ shifts_fit move vs n w below d f =
     let x = int_fit o.x n d.0 o.fits_x in
     let y = int_fit o.y n d.0 o.fits_y in
     let z = int_fit o.z w d.1.1.0 o.fits_z in
-    rw (o.is, x.is, y.is, z.is) (refl, below x.bits y.bits (min z.bits n) x.below y.below (cut_amount z.bits n))
+    rw (o.is, x.is, y.is, z.is) (refl, below x.bits y.bits (min z.bits n) x.below y.below (min-le_right z.bits n))
 
 -- ---- parts
 
-row_parts : (r : DatumRow) → data_row (parts_of r) ≡ r
-row_parts no_values = refl
-row_parts (more_values v r) = ap (more_values v) (row_parts r)
-
-count_row : (ds : List Datum) → part_count (data_row ds) ≡ length ds
-count_row [] = refl
-count_row (d ∷ ds) = omega (arith, count_row ds)
-
 parts_fit : (r : DatumRow) (t : TypeTree) → PartsFit r t → PartsFit (data_row (parts_of r)) t
-parts_fit r t f = rw (row_parts r) f
+parts_fit r t f = rw (data_row-parts_of r) f
 
 fit_take : (n : ℕ) (ds : List Datum) (t : TypeTree) → PartsFit (data_row ds) t → PartsFit (data_row (take n ds)) t
 fit_take zero ds t f = tt
@@ -159,13 +149,13 @@ field_set : (r : DatumRow) (ts : TypeRow) (k : ℕ) (p : TypeTree) (v : Datum) �
 field_set no_values no_types k p v f h g = tt
 field_set no_values (more_types t ts) k p v f h g = absurd f
 field_set (more_values x r) no_types k p v f h g = absurd f
-field_set (more_values x r) (more_types t ts) zero p v f h g = (as_type v p t g (sym cc), rw (row_parts r) f.1)
+field_set (more_values x r) (more_types t ts) zero p v f h g = (as_type v p t g (sym cc), rw (data_row-parts_of r) f.1)
 field_set (more_values x r) (more_types t ts) (suc k) p v f h g = (f.0, field_set r ts k p v f.1 (sym (beyond_of (bit_count t) (field_part ts k)) ∙ h) g)
 
 extf_fits : (v : Datum) (t : TypeTree) (k : ℕ) (r : TypeTree) → FitsType v t → PartHasType t (Field k) r → FitsType (part_by v (Field k)) r
 extf_fits (int_value n a) (int_type m) k r f h = cc
 extf_fits (time_value d) time_type k r f h = cc
-extf_fits (array_value vs) (array_type n t) k r f h = let e = element_part n t k r h in as_type _ t r (element_fits vs t k no_value f.1 (omega (arith, parts_count vs, f.0, e.0))) e.1
+extf_fits (array_value vs) (array_type n t) k r f h = let e = element_part n t k r h in as_type _ t r (element_fits vs t k no_value f.1 (omega (arith, length-parts_of vs, f.0, e.0))) e.1
 extf_fits (tuple_value vs) (tuple_type ts) k r f h = (field_fits vs ts k r no_value f h).1
 extf_fits _ _ k r f h = absurd f
 
@@ -173,10 +163,10 @@ exts_fits : (v : Datum) (t : TypeTree) (o n : ℕ) (r : TypeTree) → FitsType v
 exts_fits (int_value w a) (int_type m) o n r f h = let e = bits_part m o n r h in as_type (int_value n (a / 2 ^ o % 2 ^ n)) (int_type n) r (refl, mod_below (a / 2 ^ o) (2 ^ n) (pow_pos n)) e.2
 exts_fits (array_value vs) (array_type m t) o n r f h =
     let e = elements_part m t o n r h in
-    let l : length (parts_of vs) ≡ m = parts_count vs ∙ f.0 in
+    let l : length (parts_of vs) ≡ m = length-parts_of vs ∙ f.0 in
     let c : n ≤ length (drop o (parts_of vs)) = omega (arith, length-drop o (parts_of vs), l, e.1) in
     let d = fit_take n (drop o (parts_of vs)) t (fit_drop o (parts_of vs) t (parts_fit vs t f.1)) in
-    as_type (array_value (data_row (take n (drop o (parts_of vs))))) (array_type n t) r (count_row (take n (drop o (parts_of vs))) ∙ length-take-le n (drop o (parts_of vs)) c, d) e.2
+    as_type (array_value (data_row (take n (drop o (parts_of vs))))) (array_type n t) r (part_count-data_row (take n (drop o (parts_of vs))) ∙ length-take-le n (drop o (parts_of vs)) c, d) e.2
 exts_fits (time_value d) time_type o n r f h = cc
 exts_fits (tuple_value vs) (tuple_type ts) o n r f h = cc
 exts_fits _ _ o n r f h = absurd f
@@ -186,7 +176,7 @@ insf_fits (int_value n a) w (int_type m) p k f g h = cc
 insf_fits (time_value d) w time_type p k f g h = cc
 insf_fits (array_value vs) w (array_type n t) p k f g h =
     let e = element_part n t k p h in
-    (count_row (set (parts_of vs) k w) ∙ length-set (parts_of vs) k w ∙ parts_count vs ∙ f.0, fit_set (parts_of vs) k w t (parts_fit vs t f.1) (as_type w p t g (sym e.1)))
+    (part_count-data_row (set (parts_of vs) k w) ∙ length-set (parts_of vs) k w ∙ length-parts_of vs ∙ f.0, fit_set (parts_of vs) k w t (parts_fit vs t f.1) (as_type w p t g (sym e.1)))
 insf_fits (tuple_value vs) w (tuple_type ts) p k f g h = field_set vs ts k p w f h g
 insf_fits _ w _ p k f g h = absurd f
 
@@ -202,11 +192,11 @@ inss_fits (array_value vs) w (array_type m t) p o n f g h = let e = elements_par
   where
     new_elements : (w : Datum) → FitsType w (array_type n t) → o + n ≤ m → FitsType (with_part (array_value vs) (Slice o n) w) (array_type m t)
     new_elements (array_value ws) g e =
-        let l : length (parts_of vs) ≡ m = parts_count vs ∙ f.0 in
-        let k : length (parts_of ws) ≡ n = parts_count ws ∙ g.0 in
+        let l : length (parts_of vs) ≡ m = length-parts_of vs ∙ f.0 in
+        let k : length (parts_of ws) ≡ n = length-parts_of ws ∙ g.0 in
         let all = take o (parts_of vs) ++ parts_of ws ++ drop (o + n) (parts_of vs) in
         let c : length all ≡ m = simp (length-append, length-drop) (omega (arith, l, k, e, length-take-le o (parts_of vs) (omega arith))) in (
-          count_row all ∙ c,
+          part_count-data_row all ∙ c,
           fit_append (take o (parts_of vs) ++ parts_of ws) (drop (o + n) (parts_of vs)) t
               (fit_append (take o (parts_of vs)) (parts_of ws) t (fit_take o (parts_of vs) t (parts_fit vs t f.1)) (parts_fit ws t g.1)) (fit_drop (o + n) (parts_of vs) t (parts_fit vs t f.1)),
         )
@@ -221,7 +211,7 @@ last_within : (s l : ℕ) → 1 ≤ l → min s (l - 1) < l
 last_within s l h = omega arith
 
 mux_fits : (v s : Datum) (n w : ℕ) (t : TypeTree) → 1 ≤ n → FitsType v (array_type n t) → FitsType s (int_type w) → FitsType (selected (v ∷ s ∷ [])) t
-mux_fits (array_value vs) (int_value w a) n m t h f g = element_fits vs t _ no_value f.1 (last_within a (length (parts_of vs)) (omega (arith, parts_count vs, f.0)))
+mux_fits (array_value vs) (int_value w a) n m t h f g = element_fits vs t _ no_value f.1 (last_within a (length (parts_of vs)) (omega (arith, length-parts_of vs, f.0)))
 mux_fits (array_value vs) (time_value d) n m t h f g = absurd g
 mux_fits (array_value vs) (array_value ws) n m t h f g = absurd g
 mux_fits (array_value vs) (tuple_value ws) n m t h f g = absurd g
@@ -266,12 +256,12 @@ module _ (vs : List Datum) (ts : List TypeTree) (r : TypeTree) (d : AreData (row
   of_inss i n p e h = let o = two_args vs r p (fits_as vs ts _ f e) in rw o.is (inss_fits o.x o.y r p i n o.fits_x o.fits_y h)
 
   of_array : (n : ℕ) (t : TypeTree) → ts ≡ replicate n t → r ≡ array_type n t → FitsType (array_value (data_row vs)) r
-  of_array n t e q = let o = all_of_one vs n t (fits_as vs ts _ f e) in gives (array_value (data_row vs)) (array_type n t) (count_row vs ∙ o.0, o.1) q
+  of_array n t e q = let o = all_of_one vs n t (fits_as vs ts _ f e) in gives (array_value (data_row vs)) (array_type n t) (part_count-data_row vs ∙ o.0, o.1) q
 
   of_repeat : (n : ℕ) (t : TypeTree) → ts ≡ t ∷ [] → r ≡ array_type n t → FitsType (repeated n vs) r
   of_repeat n t e q =
       let o = one_arg vs t (fits_as vs ts _ f e) in
-      let c = count_row (replicate n o.x) ∙ length-replicate n o.x in
+      let c = part_count-data_row (replicate n o.x) ∙ length-replicate n o.x in
       rw o.is (gives (array_value (data_row (replicate n o.x))) (array_type n t) (c, fit_replicate n o.x t o.fits_x) q)
 
 pub results_fit_lem : ResultsFit

@@ -35,6 +35,7 @@ use Rattle.lh_rows.specs.Typed as rows
 use Rattle.lh_rows.proofs.Heads.{argument-of}
 use Rattle.lh_emission.specs.Reached.{Reached, argument_part, as_argument, stepped_by, further, reached}
 use Rattle.lh_emission.specs.Ways.{part_by, part_by_step, whole}
+use Rattle.lh_emission.proofs.Reaching.{further-is}
 use Rattle.lh_origin.specs.Origins.{step_text}
 
 -- ---- by ids
@@ -164,23 +165,6 @@ no-argument n i (a ∷ xs) h =
 same-argument : (n : List ℕ) (i : ℕ) (xs : List ArgText) → argument_part n i xs ≡ rows.argument_part n i xs
 same-argument n i [] = refl
 same-argument n i (a ∷ xs) = ap (λ z. if same_name a.name n then option_map (whole i) (carried a.ty) else z) (same-argument n (i + 1) xs)
-
--- what an instruction gives
-record Stepped (g : List ℕ → Option Reached) (i : Option InstText) (r : Reached) : Type 0 where
-  op : Op
-  operand : OperandText
-  from : Reached
-  is : i ≡ Some (pure_text op (operand ∷ []))
-  reaches : g operand.value ≡ Some from
-  steps : stepped_by op from ≡ Some r
-
-further-is : (g : List ℕ → Option Reached) (i : Option InstText) (r : Reached) → further g i ≡ Some r → Stepped g i r
-further-is g (Some (pure_text o (x ∷ []))) r h = at (g x.value) refl h
-  where
-    at : (z : Option Reached) → g x.value ≡ z → option_and_then (stepped_by o) z ≡ Some r → Stepped g (Some (pure_text o (x ∷ []))) r
-    at None q k = absurd (none-some r k)
-    at (Some y) q k = record { op = o; operand = x; from = y; is = refl; reaches = q; steps = k }
-further-is g _ r h = absurd (none-some r h)
 
 -- the operation of a step is one
 steps-by : (o : Op) (from r : Reached) → stepped_by o from ≡ Some r → (s : Step) × (step_of o ≡ Some s)

@@ -17,7 +17,7 @@ use Rattle.lh_unit.specs.Within.{Each}
 use Rattle.lh_names.specs.declared.name.UnitName.{UnitName}
 use Rattle.lh_unit.specs.declared.inst.ValueId.{ValueId}
 use Rattle.lh_unit.specs.declared.inst.Arg.{Arg}
-use Rattle.lh_unit.proofs.Lists.{Same, same, other, same_or, nat_eq-refl, nat_eq-is, nat_eq-other, not_true, Each-append, Each-left, Each-right}
+use Rattle.lh_unit.proofs.Lists.{Same, same, other, same_or, nat_eq-refl, nat_eq-is, nat_eq-other, not_true, Each-append, Each-left, Each-right, Each-zip, Each-of-map}
 use Rattle.lh_names.proofs.NameLists.{same_name-is, same_name-refl}
 use Rattle.lh_spelled.specs.Printable.{results_repeat}
 use Rattle.lh_eval.specs.Sound.{InstIsSound}
@@ -36,6 +36,8 @@ use Rattle.lh_parts.specs.declared.table.PartTable.{PartTable}
 use Rattle.lh_parts.specs.declared.step.PartStep.{PartStep as IdStep}
 use Rattle.lh_parts.specs.Steps.{step_in, if_result, with_result, step_giving, step_results, insts_in, whole_of, argument_from, argument_of, part_found, stepped, StepWithin, HasSteps, step_at, part_at, IsPartTable}
 use Rattle.lh_parts.specs.Resolving.{StepsLeadAlong}
+use Rattle.lh_parts.proofs.Resolved.{giving-within}
+use Rattle.lh_parts.proofs.Tables.{results-append}
 use Rattle.lh_emission.specs.Emitted.{PartStep}
 use Rattle.lh_emission.specs.Reached.{Reached, argument_part, as_argument, further, reached, steps_if, first_steps, steps_in}
 use Rattle.lh_emission.specs.Ways.{whole}
@@ -44,7 +46,6 @@ use Rattle.lh_origin.specs.declared.origin.Origin.{Origin}
 use Rattle.lh_origin.specs.declared.origin.RouteStep.{RouteStep}
 use Rattle.lh_origin.specs.Firsts.{is_the_part, first_result, key_of, kept_for, AreValues, step_texts, texts_along, IsRouteTo}
 use Rattle.lh_origin.specs.Origins.{step_text, route_text, AreStepsOf, IsOrigin}
-use Rattle.lh_origin.proofs.WaysBack.{giving-within}
 use Rattle.lh_origin.proofs.Keeping.{results-values, first-some}
 use Rattle.lh_origin.proofs.Named.{Way, whole_way, with_step, extended, way_by, way_found, way_part, way-part, seen, seen-none, as_reached, IsGood, giving-at, by_step, inst-given, line-reached, line-none, argument-alone}
 
@@ -118,14 +119,6 @@ module _ (f : Naming) (n : ℕ) (apart : (v w : ℕ) → v < n → w < n → f.v
 
 -- ---- lines
 
-each-both : {X : Type 0} (P Q R : X → Type 0) → ((x : X) → P x → Q x → R x) → (xs : List X) → Each P xs → Each Q xs → Each R xs
-each-both P Q R g [] h k = tt
-each-both P Q R g (x ∷ xs) h k = (g x h.0 k.0, each-both P Q R g xs h.1 k.1)
-
-each-unmap : {X Y : Type 0} (P : Y → Type 0) (g : X → Y) (xs : List X) → Each P (map g xs) → Each (λ (x : X). P (g x)) xs
-each-unmap P g [] h = tt
-each-unmap P g (x ∷ xs) h = (h.0, each-unmap P g xs h.1)
-
 -- a block of a flat text as one of a process
 abbrev as_block : FlatBlockText → BlockText
 as_block b = record { label = Some b.label; lines = with_merge b.merge b.lines }
@@ -145,7 +138,7 @@ module _ (f : Naming) (P : LineText → Type 0) where
   lines-each k (b ∷ bs) h =
       let own = with_merge (option_map (merge_text f) b.merge) (map (flat_line_text f) b.insts) in
       Each-append (λ (l : FlatInst). P (flat_line_text f l)) b.insts (insts_in bs)
-      (each-unmap P (flat_line_text f) b.insts (past-merge b.merge (map (flat_line_text f) b.insts) (Each-left P own (lines_from f (k + 1) bs) h)))
+      (Each-of-map P (flat_line_text f) b.insts (past-merge b.merge (map (flat_line_text f) b.insts) (Each-left P own (lines_from f (k + 1) bs) h)))
       (lines-each (k + 1) bs (Each-right P own (lines_from f (k + 1) bs) h))
 
 -- each line has what merges and instructions have
@@ -239,10 +232,6 @@ with-append None x xs ys = refl
 with-append (Some v) None xs ys = refl
 with-append (Some v) (Some s) xs ys = refl
 
-results-append : (xs ys : List FlatInst) → step_results (xs ++ ys) ≡ step_results xs ++ step_results ys
-results-append [] ys = refl
-results-append (l ∷ xs) ys = ap (with_result l.result (step_in l.inst)) (results-append xs ys) ∙ with-append l.result (step_in l.inst) (step_results xs) (step_results ys)
-
 or-map : (a b : Option (List PartStep)) → option_map texts (or_else a b) ≡ or_else (option_map texts a) (option_map texts b)
 or-map None b = refl
 or-map (Some x) b = refl
@@ -287,7 +276,7 @@ module _ (t : Flat) (f : Naming) (name : UnitName) (names : Names t f) (below : 
   good-lines =
       let formed = names.formed name in
       let new : results_repeat u.args [] (lines_of u.blocks) ≡ false = formed.new_results in
-      each-both (InstIsSound u) (IsFirst u.args (lines_of u.blocks)) (IsGood u) (λ l a b. (a, b)) (lines_of u.blocks) formed.lines
+      Each-zip (InstIsSound u) (IsFirst u.args (lines_of u.blocks)) (IsGood u) (λ l a b. (a, b)) (lines_of u.blocks) formed.lines
       (each-first u.args (lines_of u.blocks) [] (lines_of u.blocks) refl new)
 
   record IsGoodInst (l : FlatInst) : Type 0 where
@@ -299,15 +288,15 @@ module _ (t : Flat) (f : Naming) (name : UnitName) (names : Names t f) (below : 
   results-below [] h = tt
   results-below (b ∷ bs) h =
       Each-append (λ (l : FlatInst). ValuesBelow t.values (maybe_id l.result)) b.insts (insts_in bs)
-      (each-both (InstBelow t.values (length t.blocks)) (InstBelow t.values (length t.blocks)) (λ (l : FlatInst). ValuesBelow t.values (maybe_id l.result)) (λ l a c. a.result) b.insts h.0.insts
+      (Each-zip (InstBelow t.values (length t.blocks)) (InstBelow t.values (length t.blocks)) (λ (l : FlatInst). ValuesBelow t.values (maybe_id l.result)) (λ l a c. a.result) b.insts h.0.insts
       h.0.insts)
       (results-below bs h.1)
 
   good-insts : Each IsGoodInst insts
   good-insts =
-      each-both (λ (l : FlatInst). IsGood u (flat_line_text f l) × ValuesBelow t.values (maybe_id l.result)) (λ (l : FlatInst). StepWithin t.values l.result (step_in l.inst)) IsGoodInst
+      Each-zip (λ (l : FlatInst). IsGood u (flat_line_text f l) × ValuesBelow t.values (maybe_id l.result)) (λ (l : FlatInst). StepWithin t.values l.result (step_in l.inst)) IsGoodInst
       (λ l a b. record { text = a.0; result = a.1; step = b }) insts
-      (each-both (λ (l : FlatInst). IsGood u (flat_line_text f l)) (λ (l : FlatInst). ValuesBelow t.values (maybe_id l.result))
+      (Each-zip (λ (l : FlatInst). IsGood u (flat_line_text f l)) (λ (l : FlatInst). ValuesBelow t.values (maybe_id l.result))
       (λ (l : FlatInst). IsGood u (flat_line_text f l) × ValuesBelow t.values (maybe_id l.result)) (λ l a b. (a, b)) insts
       (lines-each f (IsGood u) 0 t.blocks good-lines) (results-below t.blocks below.blocks))
       has_steps.within
@@ -344,7 +333,7 @@ module _ (t : Flat) (f : Naming) (name : UnitName) (names : Names t f) (below : 
   no-other v l e i h k =
       let all : Each (GivesNone v) (lines_of u.blocks) =
       each-line f (GivesNone v) (λ m r j. refl) 0 t.blocks
-      (each-both IsGoodInst (λ (x : FlatInst). if_result v x.result (step_in x.inst) ≡ None) (λ (x : FlatInst). GivesNone v (flat_line_text f x)) (inst-gives_none v l) insts good-insts
+      (Each-zip IsGoodInst (λ (x : FlatInst). if_result v x.result (step_in x.inst) ≡ None) (λ (x : FlatInst). GivesNone v (flat_line_text f x)) (inst-gives_none v l) insts good-insts
       (giving-none v insts e)) in
       let g = giving-at (GivesNone v) (f.value_name v) (lines_of u.blocks) i all (sym (giving-lines (f.value_name v) u.blocks) ∙ h) in
       ap (λ x. further (reached k u) (Some x)) (sym g.inst) ∙ g.good g.result k

@@ -1,19 +1,17 @@
 -- Steps go back from a part to an argument, in fewer steps than there are values.
-use Rattle.std.proofs.Common.{◌≡◌, ℕ, zero, suc, ◌+◌, ◌-◌, ◌<◌, ◌≤◌, Bool, true, false, nat_eq, if◌then◌else◌, List, [], ◌∷◌, ◌++◌, length, Option, Some, None, refl, ap, sym, ◌∙◌, subst, arith, length-append}
+use Rattle.std.proofs.Common.{◌≡◌, ℕ, zero, suc, ◌+◌, ◌-◌, ◌<◌, ◌≤◌, Bool, true, false, if◌then◌else◌, List, [], ◌∷◌, ◌++◌, length, Option, Some, None, refl, ap, sym, ◌∙◌, subst, arith, length-append}
 use Rattle.std.specs.Option.{option_and_then, is_some, IsSome}
-use Rattle.std.proofs.lemmas.Option.{same_Some, none-some}
-use Rattle.lh_unit.specs.Typing.{or_else}
-use Rattle.lh_unit.specs.Within.{Each}
+use Rattle.std.proofs.lemmas.Option.{none-some}
 use Rattle.lh_unit.specs.declared.inst.ValueId.{ValueId}
 use Rattle.lh_unit.proofs.Lists.{Same, same, other, same_or}
 use Rattle.lh_term.specs.declared.part.Part.{Part}
-use Rattle.lh_flat.specs.declared.flat.FlatInst.{FlatInst}
 use Rattle.lh_flat.specs.declared.flat.Flat.{Flat}
 use Rattle.lh_parts.specs.declared.step.PartStep.{PartStep}
 use Rattle.lh_parts.specs.declared.table.PartTable.{PartTable}
-use Rattle.lh_parts.specs.Steps.{step_in, if_result, step_giving, insts_in, argument_of, stepped, part_by, part_found, StepWithin, HasSteps, step_at, part_at, IsPartTable}
+use Rattle.lh_parts.specs.Steps.{step_giving, insts_in, argument_of, stepped, part_by, part_found, HasSteps, step_at, part_at, IsPartTable}
 use Rattle.lh_parts.specs.Resolving.{StepsLeadAlong}
 use Rattle.lh_parts.proofs.Following.{StepsLeadAlong-push}
+use Rattle.lh_parts.proofs.Resolved.{giving-within}
 use Rattle.lh_origin.specs.Firsts.{AreValues, IsWayBack}
 
 -- ---- as many steps as values are enough
@@ -148,27 +146,6 @@ module _ (f : ℕ → Option PartStep) (a : ℕ → Option Part) where
         enough n v p l (ap (λ k. part_found k f a v) z ∙ more m n v p h)
 
 -- ---- the step of a flat text
-
-if-within : (n : ℕ) (r : Option ValueId) (x : Option PartStep) (v : ℕ) (s : PartStep) → StepWithin n r x → if_result v r x ≡ Some s → s.from.0 < n
-if-within n None x v s h e = absurd (none-some s e)
-if-within n (Some w) None v s h e = by (nat_eq w.0 v) e
-  where
-    by : (b : Bool) → (if b then None else None) ≡ Some s → s.from.0 < n
-    by true f = absurd (none-some s f)
-    by false f = absurd (none-some s f)
-if-within n (Some w) (Some y) v s h e = by (nat_eq w.0 v) e
-  where
-    by : (b : Bool) → (if b then Some y else None) ≡ Some s → s.from.0 < n
-    by true f = subst (λ (z : PartStep). z.from.0 < n) (same_Some y s f) h.1
-    by false f = absurd (none-some s f)
-
-pub giving-within : (n : ℕ) (ls : List FlatInst) (v : ℕ) (s : PartStep) → Each (λ (l : FlatInst). StepWithin n l.result (step_in l.inst)) ls → step_giving ls v ≡ Some s → s.from.0 < n
-giving-within n [] v s h e = absurd (none-some s e)
-giving-within n (l ∷ more) v s h e = by (step_giving more v) e (λ f. giving-within n more v s h.1 f)
-  where
-    by : (o : Option PartStep) → or_else o (if_result v l.result (step_in l.inst)) ≡ Some s → (o ≡ Some s → s.from.0 < n) → s.from.0 < n
-    by (Some y) f g = g f
-    by None f g = if-within n l.result (step_in l.inst) v s h.0 f
 
 -- ---- the way back from a value
 

@@ -1,7 +1,6 @@
 -- What a run does up to its status line, from what its steps leave.
 use Rattle.std.proofs.Common.{arith, ◌≡◌, ℕ, ◌≤◌, inl, inr, List, [], refl, sym, ap, subst, Bool, true, false, Option, Some, None, IfSome, Err}
 use Rattle.std.proofs.lemmas.List.{append-nil}
-use Rattle.lh_types.specs.Raised.{raised}
 use Rattle.lh_io.specs.Streams.{Appends}
 use Rattle.lh_io.specs.Whole.{TakesBytes}
 use Rattle.lh_unit.specs.Contents.{ItemText}
@@ -23,6 +22,7 @@ use Rattle.lh_outcome.specs.Steps.{IsLoaded, Loads, AreLeftBy, Carries, WritesSe
 use Rattle.lh_outcome.specs.declared.status.Status.{Status}
 use Rattle.lh_outcome.specs.declared.status.Status.TheVariants.{Usage, ReadFault, SourceTooLong, Refused, Top, OutputTooLong, WriteFault, Runaway, AssertFailed, Done, OutOfMemory}
 use Rattle.lh_outcome.proofs.Results.{HasOneResult-called, HasOneResult-tested}
+use Rattle.lh_kernel.proofs.Tallies.{raised_none}
 
 pub Appends_nothing : (was : Option (List ℕ)) → Appends was was []
 Appends_nothing None = tt
@@ -346,10 +346,6 @@ IsTestStatus-carried (Top why) h = absurd h
 IsTestStatus-carried OutputTooLong h = absurd h
 IsTestStatus-carried (Runaway i) h = absurd h
 IsTestStatus-carried AssertFailed h = absurd h
-
--- nothing was taken
-raised_none : (n : ℕ) → n ≡ raised n 0
-raised_none n = omega arith
 
 pub takes_none : (left : Option (List ℕ)) (taken : ℕ) → TakesBytes left left taken taken 0
 takes_none None taken = record { counted = raised_none taken; told = tt }

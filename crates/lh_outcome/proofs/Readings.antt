@@ -16,9 +16,6 @@ never_both : (text : List ℕ) (file : List ItemText) (line : ℕ) (kind : BadKi
 never_both text file line kind (inl (only, one)) reads bad = one.no_fault line kind bad
 never_both text file line kind (inr (l, k, one)) reads bad = one.no_items file reads
 
-pub Reads-not-FirstBad : (text : List ℕ) (file : List ItemText) (line : ℕ) (kind : BadKind) → Reads text file → FirstBad text line kind → ⊥
-Reads-not-FirstBad text file line kind = never_both text file line kind (reads-or_bad text)
-
 one_file : (text : List ℕ) (file again : List ItemText) → ReadsOrIsBad text → Reads text file → Reads text again → file ≡ again
 one_file text file again (inl (only, one)) reads reads' = one.only file reads ∙ sym (one.only again reads')
 one_file text file again (inr (line, kind, one)) reads reads' = absurd (one.no_items file reads)

@@ -21,7 +21,7 @@ use Rattle.lh_generator.specs.Generated.{generated}
 use Rattle.lh_chain.specs.Chain.{chain_file}
 use Rattle.lh_chain.specs.Laws.{GeneratedReads}
 use Rattle.lh_selftest.specs.Answer.{answer_of}
-use Rattle.lh_outcome.proofs.Readings.{FirstBad-or-Reads, Reads-not-FirstBad, Reads-unique, FirstBad-unique}
+use Rattle.lh_outcome.proofs.Readings.{FirstBad-or-Reads, Reads-unique, FirstBad-unique}
 use Rattle.lh_outcome.specs.Called.{Calls, IsMisuse}
 use Rattle.lh_outcome.specs.Simulated.{fault_of, status_by, mode_of, ResultOfRun}
 use Rattle.lh_outcome.specs.Result.{source_limit, HasFirstFault, IsRefusedFor, is_too_long, ResultOfLowering, ResultOfCommand, IsResult, usage, tested, source_too_long, refused, made}
@@ -30,6 +30,7 @@ use Rattle.lh_outcome.specs.declared.status.Refusal.{Refusal}
 use Rattle.lh_outcome.specs.declared.status.Refusal.TheVariants.{Syntax, UnitTooLarge, DuplicateName, Invalid}
 use Rattle.lh_outcome.specs.declared.status.Status.{Status}
 use Rattle.lh_outcome.specs.declared.status.Status.TheVariants.{Usage, SourceTooLong, Refused, Top, OutputTooLong, Done}
+use Rattle.lh_read.proofs.Texts.{reads-bad}
 
 -- the first fault of the bytes is what refuses them
 IsRefusedFor-at : (bytes : List ℕ) (line : ℕ) (kind : BadKind) → FirstBad bytes line kind → (why : Refusal) × IsRefusedFor bytes why
@@ -60,7 +61,7 @@ invalid-unique bytes u v i j m n f g =
     λ k. Invalid (e.0 k) (e.1 k) (number k)
 
 reads_badly : (bytes : List ℕ) (line : ℕ) (kind : BadKind) (unit : UnitName) (inst number : ℕ) → FirstBad bytes line kind → IsRefusedFor bytes (Invalid unit inst number) → ⊥
-reads_badly bytes line kind unit inst number bad f = Reads-not-FirstBad bytes f.0 line kind f.1 bad
+reads_badly bytes line kind unit inst number bad f = reads-bad bytes f.0 line kind f.1 bad
 
 IsRefusedFor-unique : (bytes : List ℕ) (v w : Refusal) → IsRefusedFor bytes v → IsRefusedFor bytes w → v ≡ w
 IsRefusedFor-unique bytes (Syntax m) (Syntax n) f g = ap Syntax (FirstBad-unique bytes m n syntax syntax f g).0
@@ -85,7 +86,7 @@ Reads-not-refused : (bytes : List ℕ) (file : List ItemText) (why : Refusal) �
 Reads-not-refused bytes file why reads sound bad = at (IsRefusedFor-bad bytes why bad)
   where
     at : IsBadBy bytes why → ⊥
-    at (inl f) = Reads-not-FirstBad bytes file f.0 f.1 reads f.2
+    at (inl f) = reads-bad bytes file f.0 f.1 reads f.2
     at (inr f) = f.2 (let P : List ItemText → Type 0 = λ x. IsFaultless x in subst P (Reads-unique bytes file f.0 reads f.1) sound)
 
 -- the status, the texts and the members of a result

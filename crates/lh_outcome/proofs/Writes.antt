@@ -75,7 +75,3 @@ pub Puts_same : (r : Result (Unit {0}) Failed) (u : Use) (text again : List ℕ)
 Puts_same r u text again same puts =
     let P : List ℕ → Type 0 = λ t. Puts r u t in
     subst P same puts
-
--- what rises twice rises
-pub rises_twice : (a b c : ℕ) → a ≤ b → b ≤ c → a ≤ c
-rises_twice a b c ab bc = omega arith

@@ -2,39 +2,17 @@
 use Rattle.std.proofs.Common.{◌≡◌, ℕ, zero, suc, ◌<◌, ◌⊎◌, inl, inr, Bool, true, false, ◌||◌, nat_eq, List, [], ◌∷◌, ◌++◌, length, get_or, set, Option, Some, None, refl, ap, sym, ◌∙◌, subst, arith, length-set, get_or-set_same, get_or-set_other}
 use Rattle.std.proofs.lemmas.List.{set-get_or, get_or_default}
 use Rattle.std.specs.Option.{option_and_then}
+use Rattle.std.proofs.lemmas.Bool.{or_cases, or_left as or_first, or_right as or_second}
 use Rattle.lh_unit.specs.Within.{Each}
 use Rattle.lh_unit.specs.declared.inst.ValueId.{ValueId}
-use Rattle.lh_unit.proofs.Lists.{Same, same, other, same_or, nat_eq-refl, nat_eq-other, nat_eq-is, or_true, or_false}
+use Rattle.lh_unit.proofs.Lists.{Same, same, other, same_or, nat_eq-refl, nat_eq-other, nat_eq-is, or_false}
 use Rattle.lh_term.specs.declared.part.Part.{Part}
 use Rattle.lh_parts.specs.declared.step.PartStep.{PartStep}
 use Rattle.lh_parts.specs.Steps.{stepped, part_by, part_found, IsFound, step_at, part_at}
 use Rattle.lh_parts.specs.Resolving.{part_by_step, settled, is_met, is_on, comes_from, InPlace, StepsFrom, CanStep, AreWithin, AreFound, Steppable, StepsLeadAlong, AreNew, GoesBack, IsSettled, StepsAreFollowed}
+use Rattle.lh_types.proofs.Tests.{or_false_left, or_false_right, not_both}
 
 -- ---- tests
-
-or_left : (a b : Bool) → (a || b) ≡ false → a ≡ false
-or_left false b e = refl
-or_left true b e = cc
-
-or_right : (a b : Bool) → (a || b) ≡ false → b ≡ false
-or_right false b e = e
-or_right true b e = cc
-
-either : (a b : Bool) → (a || b) ≡ true → (a ≡ true) ⊎ (b ≡ true)
-either true b e = inl refl
-either false b e = inr e
-
-or_first : (a b : Bool) → a ≡ true → (a || b) ≡ true
-or_first true b e = refl
-or_first false b e = cc
-
-or_second : (a b : Bool) → b ≡ true → (a || b) ≡ true
-or_second a true e = or_true a
-or_second a false e = cc
-
-not_both : (b : Bool) → b ≡ true → b ≡ false → ⊥
-not_both true p q = cc
-not_both false p q = cc
 
 apart : (a b : ℕ) → nat_eq a b ≡ false → b ≡ a → ⊥
 apart a b e h = not_both (nat_eq a b) (subst (λ (k : ℕ). nat_eq a k ≡ true) (sym h) (nat_eq-refl a)) e
@@ -51,7 +29,7 @@ each-map P Q (w ∷ more) f h = (f w (or_first (nat_eq w.0 w.0) (is_on more w.0)
 -- what holds of each holds of one that is there
 each-on : (P : ℕ → Type 0) (way : List ValueId) (u : ℕ) → Each (λ (w : ValueId). P w.0) way → is_on way u ≡ true → P u
 each-on P [] u h e = absurd (not_both false e refl)
-each-on P (w ∷ more) u h e = by (λ k. each-on P more u h.1 k) (either (nat_eq w.0 u) (is_on more u) e)
+each-on P (w ∷ more) u h e = by (λ k. each-on P more u h.1 k) (or_cases (nat_eq w.0 u) (is_on more u) e)
   where
     by : (is_on more u ≡ true → P u) → (nat_eq w.0 u ≡ true) ⊎ (is_on more u ≡ true) → P u
     by f (inl k) = subst P (nat_eq-is w.0 u k) h.0
@@ -62,7 +40,7 @@ on_itself w more = or_first (nat_eq w.0 w.0) (is_on more w.0) (nat_eq-refl w.0)
 
 each-off : (way : List ValueId) (u : ℕ) → is_on way u ≡ false → Each (λ (w : ValueId). w.0 ≡ u → ⊥) way
 each-off [] u e = tt
-each-off (w ∷ more) u e = ((λ h. apart u w.0 (other_way w.0 u (or_left (nat_eq w.0 u) (is_on more u) e)) h), each-off more u (or_right (nat_eq w.0 u) (is_on more u) e))
+each-off (w ∷ more) u e = ((λ h. apart u w.0 (other_way w.0 u (or_false_left (nat_eq w.0 u) (is_on more u) e)) h), each-off more u (or_false_right (nat_eq w.0 u) (is_on more u) e))
 
 is_on-push : (way : List ValueId) (x : ValueId) (u : ℕ) → is_on (way ++ x ∷ []) u ≡ (is_on way u || nat_eq x.0 u)
 is_on-push [] x u = or_false (nat_eq x.0 u)
@@ -81,8 +59,8 @@ AreNew-push : (met : List Bool) (way : List ValueId) (x : ValueId) → AreNew me
 AreNew-push met [] x h m o = (m, refl, tt)
 AreNew-push met (w ∷ more) x h m o = (
   h.0,
-  is_on-push more x w.0 ∙ ap (λ (b : Bool). b || nat_eq x.0 w.0) h.1 ∙ other_way w.0 x.0 (or_left (nat_eq w.0 x.0) (is_on more x.0) o),
-  AreNew-push met more x h.2 m (or_right (nat_eq w.0 x.0) (is_on more x.0) o),
+  is_on-push more x w.0 ∙ ap (λ (b : Bool). b || nat_eq x.0 w.0) h.1 ∙ other_way w.0 x.0 (or_false_left (nat_eq w.0 x.0) (is_on more x.0) o),
+  AreNew-push met more x h.2 m (or_false_right (nat_eq w.0 x.0) (is_on more x.0) o),
 )
 
 -- a way back that is not at its end
@@ -123,7 +101,7 @@ OnWay-next steps old new from way x n l w e =
     let off : (is_met old x.0 || is_on way x.0) ≡ false = sym (w.met x.0) ∙ i.3 in
     record {
       leads = subst (λ (k : ValueId). StepsLeadAlong steps from (way ++ x ∷ []) k.0) i.2 (StepsLeadAlong-push steps from way x i.0 w.leads i.1);
-      new_ones = AreNew-push old way x w.new_ones (or_left (is_met old x.0) (is_on way x.0) off) (or_right (is_met old x.0) (is_on way x.0) off);
+      new_ones = AreNew-push old way x w.new_ones (or_false_left (is_met old x.0) (is_on way x.0) off) (or_false_right (is_met old x.0) (is_on way x.0) off);
       met = λ v.
           met-set new x.0 v l
           ∙ ap (λ (b : Bool). b || nat_eq x.0 v) (w.met v)
@@ -261,7 +239,7 @@ source-first steps v w more x u s h k e =
 source : (steps : List (Option PartStep)) (v : ℕ) (way : List ValueId) (x u : ℕ) (s : PartStep) → StepsLeadAlong steps v way x → is_on way u ≡ true → step_at steps u ≡ Some s
     → (is_on way s.from.0 ≡ true) ⊎ (s.from.0 ≡ x)
 source steps v [] x u s h o e = absurd (not_both false o refl)
-source steps v (w ∷ more) x u s h o e = by (λ k. source steps h.1.0.from.0 more x u s h.1.2 k e) (either (nat_eq w.0 u) (is_on more u) o)
+source steps v (w ∷ more) x u s h o e = by (λ k. source steps h.1.0.from.0 more x u s h.1.2 k e) (or_cases (nat_eq w.0 u) (is_on more u) o)
   where
     later : (f : ℕ) → (is_on more f ≡ true) ⊎ (f ≡ x) → (is_on (w ∷ more) f ≡ true) ⊎ (f ≡ x)
     later f (inl k) = inl (or_second (nat_eq w.0 f) (is_on more f) k)
@@ -273,7 +251,7 @@ source steps v (w ∷ more) x u s h o e = by (λ k. source steps h.1.0.from.0 mo
 
 on-unmet : (met : List Bool) (way : List ValueId) (u : ℕ) → AreNew met way → is_on way u ≡ true → is_met met u ≡ false
 on-unmet met [] u h o = absurd (not_both false o refl)
-on-unmet met (w ∷ more) u h o = by (λ k. on-unmet met more u h.2 k) (either (nat_eq w.0 u) (is_on more u) o)
+on-unmet met (w ∷ more) u h o = by (λ k. on-unmet met more u h.2 k) (or_cases (nat_eq w.0 u) (is_on more u) o)
   where
     by : (is_on more u ≡ true → is_met met u ≡ false) → (nat_eq w.0 u ≡ true) ⊎ (is_on more u ≡ true) → is_met met u ≡ false
     by f (inl k) = subst (λ (i : ℕ). is_met met i ≡ false) (nat_eq-is w.0 u k) h.0
@@ -281,7 +259,7 @@ on-unmet met (w ∷ more) u h o = by (λ k. on-unmet met more u h.2 k) (either (
 
 on-step : (steps : List (Option PartStep)) (v : ℕ) (way : List ValueId) (x u : ℕ) → StepsLeadAlong steps v way x → is_on way u ≡ true → (s : PartStep) × (step_at steps u ≡ Some s)
 on-step steps v [] x u h o = absurd (not_both false o refl)
-on-step steps v (w ∷ more) x u h o = by (λ k. on-step steps h.1.0.from.0 more x u h.1.2 k) (either (nat_eq w.0 u) (is_on more u) o)
+on-step steps v (w ∷ more) x u h o = by (λ k. on-step steps h.1.0.from.0 more x u h.1.2 k) (or_cases (nat_eq w.0 u) (is_on more u) o)
   where
     by : (is_on more u ≡ true → (s : PartStep) × (step_at steps u ≡ Some s)) → (nat_eq w.0 u ≡ true) ⊎ (is_on more u ≡ true) → (s : PartStep) × (step_at steps u ≡ Some s)
     by f (inl k) = (h.1.0, subst (λ (i : ℕ). step_at steps i ≡ Some h.1.0) (sym h.0 ∙ nat_eq-is w.0 u k) h.1.1)
@@ -299,8 +277,8 @@ found-settled steps base ps (w ∷ more) l f = found-set steps base (settled ste
 settled-off : (steps : List (Option PartStep)) (ps : List (Option Part)) (way : List ValueId) (u : ℕ) → is_on way u ≡ false → part_at (settled steps ps way) u ≡ part_at ps u
 settled-off steps ps [] u o = refl
 settled-off steps ps (w ∷ more) u o =
-    get_or-set_other (settled steps ps more) w.0 u (part_by_step (settled steps ps more) (step_at steps w.0)) None (λ h. apart w.0 u (or_left (nat_eq w.0 u) (is_on more u) o) h)
-    ∙ settled-off steps ps more u (or_right (nat_eq w.0 u) (is_on more u) o)
+    get_or-set_other (settled steps ps more) w.0 u (part_by_step (settled steps ps more) (step_at steps w.0)) None (λ h. apart w.0 u (or_false_left (nat_eq w.0 u) (is_on more u) o) h)
+    ∙ settled-off steps ps more u (or_false_right (nat_eq w.0 u) (is_on more u) o)
 
 -- where each source has the same part, a step leads to the same one
 same-by : (ps qs : List (Option Part)) (o : Option PartStep) → ((s : PartStep) → o ≡ Some s → part_at ps s.from.0 ≡ part_at qs s.from.0) → part_by_step ps o ≡ part_by_step qs o
@@ -321,19 +299,19 @@ settled-each steps met ps v (w ∷ more) x h n l o =
     let in_rest : w.0 < length rest = subst (λ (k : ℕ). w.0 < k) (sym (length-settled steps ps more)) l.0 in
     let by_others = λ (u : ℕ) (on : is_on (w ∷ more) u ≡ true). same-by new rest (step_at steps u) (λ s e. not-w rest (part_by_step rest (step_at steps w.0)) s (source-after u s on e)) in (
       get_or-set_same rest w.0 (part_by_step rest (step_at steps w.0)) None in_rest ∙ sym (by_others w.0 (on_itself w more)),
-      more-each rest (settled-each steps met ps h.1.0.from.0 more x h.1.2 n.2 l.1 (or_right (nat_eq w.0 x) (is_on more x) o)) by_others,
+      more-each rest (settled-each steps met ps h.1.0.from.0 more x h.1.2 n.2 l.1 (or_false_right (nat_eq w.0 x) (is_on more x) o)) by_others,
     )
   where
     -- the source of each is after the first
     source-after : (u : ℕ) (s : PartStep) → is_on (w ∷ more) u ≡ true → step_at steps u ≡ Some s → (is_on more s.from.0 ≡ true) ⊎ (s.from.0 ≡ x)
-    source-after u s on e = elim (either (nat_eq w.0 u) (is_on more u) on) [
+    source-after u s on e = elim (or_cases (nat_eq w.0 u) (is_on more u) on) [
       | inl k ↦ source-first steps v w more x u s h (nat_eq-is w.0 u k) e
       | inr k ↦ source steps h.1.0.from.0 more x u s h.1.2 k e
     ]
 
     not-w : (rest : List (Option Part)) (p : Option Part) (s : PartStep) → (is_on more s.from.0 ≡ true) ⊎ (s.from.0 ≡ x) → part_at (set rest w.0 p) s.from.0 ≡ part_at rest s.from.0
     not-w rest p s (inl k) = get_or-set_other rest w.0 s.from.0 p None (λ e. not_both (is_on more s.from.0) k (subst (λ (i : ℕ). is_on more i ≡ false) (sym e) n.1))
-    not-w rest p s (inr k) = get_or-set_other rest w.0 s.from.0 p None (λ e. apart w.0 x (or_left (nat_eq w.0 x) (is_on more x) o) (sym k ∙ e))
+    not-w rest p s (inr k) = get_or-set_other rest w.0 s.from.0 p None (λ e. apart w.0 x (or_false_left (nat_eq w.0 x) (is_on more x) o) (sym k ∙ e))
 
     more-each : (rest : List (Option Part)) → Each (Has steps rest) more
         → ((u : ℕ) → is_on (w ∷ more) u ≡ true → part_by_step (set rest w.0 (part_by_step rest (step_at steps w.0))) (step_at steps u) ≡ part_by_step rest (step_at steps u))
@@ -401,7 +379,7 @@ stepped-after steps base ps ms ns v way b u s e m = by (is_on way b.back.end) re
   where
     -- what was met before
     before : is_on way u ≡ false → is_met ms u ≡ true
-    before o = elim (either (is_met ms u) (is_on way u) (sym (b.back.met u) ∙ m)) [ inl k ↦ k | inr k ↦ absurd (not_both (is_on way u) k o) ]
+    before o = elim (or_cases (is_met ms u) (is_on way u) (sym (b.back.met u) ∙ m)) [ inl k ↦ k | inr k ↦ absurd (not_both (is_on way u) k o) ]
 
     old : is_on way u ≡ false → part_at (settled steps ps way) u ≡ part_by_step (settled steps ps way) (Some s)
     old o =
@@ -431,11 +409,11 @@ follows steps ps ms ns v way l g base h =
       record {
         long = length-settled steps ps way ∙ h.long;
         long_met = g.long ∙ h.long_met;
-        closed = λ u s e m. closed-after u s e (either (is_met ms u) (is_on way u) (sym (g.met u) ∙ m));
+        closed = λ u s e m. closed-after u s e (or_cases (is_met ms u) (is_on way u) (sym (g.met u) ∙ m));
         stepped = stepped-after steps base ps ms ns v way b;
         unmet = λ u s e m.
             let off = sym (g.met u) ∙ m in
-            settled-off steps ps way u (or_right (is_met ms u) (is_on way u) off) ∙ h.unmet u s e (or_left (is_met ms u) (is_on way u) off);
+            settled-off steps ps way u (or_false_right (is_met ms u) (is_on way u) off) ∙ h.unmet u s e (or_false_left (is_met ms u) (is_on way u) off);
         others = λ u e. settled-off steps ps way u (met-off steps v ms ns way u g (inl e)) ∙ h.others u e;
         found = found-settled steps base ps way l h.found;
       },

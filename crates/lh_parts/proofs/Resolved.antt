@@ -8,11 +8,12 @@ use Rattle.lh_types.specs.declared.part.Range.{Range}
 use Rattle.lh_types.specs.declared.part.Step.{Step}
 use Rattle.lh_bits.proofs.LawProofs.{parts_are_within}
 use Rattle.lh_types.proofs.Limits.{bit_count-le}
+use Rattle.lh_types.proofs.Lists.{no_flag}
 use Rattle.lh_unit.specs.Typing.{or_else}
 use Rattle.lh_unit.specs.Effects.{step_of}
 use Rattle.lh_unit.specs.Within.{Each}
 use Rattle.lh_unit.specs.declared.inst.ValueId.{ValueId}
-use Rattle.lh_unit.proofs.Lists.{Same, same, other, same_or}
+use Rattle.lh_unit.proofs.Lists.{Same, same, other, same_or, or_else-none}
 use Rattle.lh_term.specs.declared.part.Part.{Part}
 use Rattle.lh_flat.specs.declared.flat.FlatInst.{FlatInst}
 use Rattle.lh_flat.specs.declared.flat.Flat.{Flat}
@@ -20,18 +21,13 @@ use Rattle.lh_parts.specs.declared.step.PartStep.{PartStep}
 use Rattle.lh_parts.specs.declared.table.PartTable.{PartTable}
 use Rattle.lh_parts.specs.Steps.{step_in, if_result, step_giving, step_results, insts_in, argument_of, range_by, part_within, stepped, part_by, part_found, IsFound, type_carried, StepWithin, HasSteps, step_at, part_at, IsPartTable}
 use Rattle.lh_parts.specs.Resolving.{with_steps, with_args, part_by_step, is_met, InPlace, StepsCarry, PartsCarry, CanStep, AreFound, AreSteps, Steppable, IsResolved, IsSettled, StepsAreFollowed}
-use Rattle.lh_parts.proofs.Tables.{or-none, at-none, length-steps, steps-with, length-args, args-with}
+use Rattle.lh_parts.proofs.Tables.{at-none, length-steps, steps-with, length-args, args-with}
 
 -- ---- the values so far
 
 pub record SoFar (steps : List (Option PartStep)) (base ps : List (Option Part)) (met : List Bool) (k : ℕ) : Type 0 where
   pub settled : IsSettled steps base ps met
   pub done : (v : ℕ) → v < k → (step_at steps v ≡ None) ⊎ (is_met met v ≡ true)
-
-at-false : (n v : ℕ) → get_or (replicate n false) v false ≡ false
-at-false zero v = refl
-at-false (suc n) zero = refl
-at-false (suc n) (suc v) = at-false n v
 
 -- an argument is found at once
 found-base : (steps : List (Option PartStep)) (base : List (Option Part)) → AreSteps steps base → AreFound steps base base
@@ -56,7 +52,7 @@ SoFar-none steps base n e i a = record {
 }
   where
     never : (v : ℕ) → is_met (replicate n false) v ≡ true → ⊥
-    never v m = let f : get_or (replicate n false) v false ≡ false = at-false n v in cc
+    never v m = let f : get_or (replicate n false) v false ≡ false = no_flag n v in cc
 
 pub SoFar-next : (steps : List (Option PartStep)) (base ps qs : List (Option Part)) (ms ns : List Bool) (k : ℕ) → StepsAreFollowed steps k ps qs ms ns → SoFar steps base ps ms k
     → SoFar steps base qs ns (k + 1)
@@ -163,7 +159,7 @@ CanStep-typed steps base t v s p e f =
 
 -- ---- the table of a flat text
 
-if-within : (n : ℕ) (r : Option ValueId) (x : Option PartStep) (v : ℕ) (s : PartStep) → StepWithin n r x → if_result v r x ≡ Some s → s.from.0 < n
+pub if-within : (n : ℕ) (r : Option ValueId) (x : Option PartStep) (v : ℕ) (s : PartStep) → StepWithin n r x → if_result v r x ≡ Some s → s.from.0 < n
 if-within n None x v s h e = cc
 if-within n (Some w) None v s h e = by (nat_eq w.0 v) e
   where
@@ -176,7 +172,7 @@ if-within n (Some w) (Some y) v s h e = by (nat_eq w.0 v) e
     by true f = let k : y ≡ s = cc in subst (λ (z : PartStep). z.from.0 < n) k h.1
     by false f = cc
 
-giving-within : (n : ℕ) (ls : List FlatInst) (v : ℕ) (s : PartStep) → Each (λ (l : FlatInst). StepWithin n l.result (step_in l.inst)) ls → step_giving ls v ≡ Some s → s.from.0 < n
+pub giving-within : (n : ℕ) (ls : List FlatInst) (v : ℕ) (s : PartStep) → Each (λ (l : FlatInst). StepWithin n l.result (step_in l.inst)) ls → step_giving ls v ≡ Some s → s.from.0 < n
 giving-within n [] v s h e = cc
 giving-within n (l ∷ more) v s h e = by (step_giving more v) e (λ f. giving-within n more v s h.1 f)
   where
@@ -197,14 +193,14 @@ made-step t steps base m v =
     ap (λ (x : List (Option PartStep)). step_at x v) m.given
     ∙ steps-with t.values (replicate t.values None) (insts_in t.blocks) v (length-replicate t.values None) m.text.within
     ∙ ap (or_else (step_giving (insts_in t.blocks) v)) (at-none t.values v)
-    ∙ or-none (step_giving (insts_in t.blocks) v)
+    ∙ or_else-none (step_giving (insts_in t.blocks) v)
 
 made-arg : (t : Flat) (steps : List (Option PartStep)) (base : List (Option Part)) → Made t steps base → (v : ℕ) → part_at base v ≡ argument_of t.args v
 made-arg t steps base m v =
     ap (λ (x : List (Option Part)). part_at x v) m.args
     ∙ args-with t.values (replicate t.values None) 0 t.args v (length-replicate t.values None) m.text.args
     ∙ ap (or_else (argument_of t.args v)) (at-none t.values v)
-    ∙ or-none (argument_of t.args v)
+    ∙ or_else-none (argument_of t.args v)
 
 pub made-long : (t : Flat) (steps : List (Option PartStep)) (base : List (Option Part)) → Made t steps base → length steps ≡ t.values
 made-long t steps base m = ap length m.given ∙ length-steps (replicate t.values None) (insts_in t.blocks) ∙ length-replicate t.values None

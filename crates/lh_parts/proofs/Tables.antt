@@ -19,10 +19,6 @@ or-assoc : {A : Type 0} (a b c : Option A) → or_else a (or_else b c) ≡ or_el
 or-assoc (Some x) b c = refl
 or-assoc None b c = refl
 
-pub or-none : {A : Type 0} (a : Option A) → or_else a None ≡ a
-or-none (Some x) = refl
-or-none None = refl
-
 if-none : {A : Type 0} (b : Bool) (o : Option A) → o ≡ or_else (if b then None else None) o
 if-none true o = refl
 if-none false o = refl

@@ -1,5 +1,5 @@
 -- What is told stays told as terms are made, as selectors are kept and as values are merged.
-use Rattle.std.proofs.Common.{◌≡◌, ℕ, suc, ◌-◌, ◌≤◌, Bool, true, false, ◌||◌, ◌&&◌, nat_eq, if◌then◌else◌, List, [], ◌∷◌, length, map, take, drop, get_or, Option, Some, None, Result, Ok, Err, slice_get, refl, ap, sym, ◌∙◌, subst, arith}
+use Rattle.std.proofs.Common.{◌≡◌, ℕ, suc, ◌-◌, ◌≤◌, Bool, true, false, ◌||◌, nat_eq, List, [], ◌∷◌, length, map, take, drop, get_or, Option, Some, None, Result, Ok, Err, slice_get, refl, ap, sym, ◌∙◌, subst, arith}
 use Rattle.std.specs.HashMap.{get}
 use Rattle.std.specs.List.{list_all}
 use Rattle.std.specs.Result.{OnOk}
@@ -7,10 +7,9 @@ use Rattle.std.proofs.lemmas.List.{take_all}
 use Rattle.std.specs.Option.{is_some, option_and_then, option_map_or}
 use Rattle.lh_unit.specs.Within.{Each}
 use Rattle.lh_unit.proofs.Lists.{Same, same, other, same_or, nat_eq-refl, nat_eq-other, nat_eq-is}
-use Rattle.lh_term.specs.Tree.{Tree, choice_of}
+use Rattle.lh_term.specs.Tree.{Tree}
 use Rattle.lh_term.specs.Types.{IsTyped, type_of}
-use Rattle.lh_term.specs.SameTree.{same_tree, same_tree-refl}
-use Rattle.lh_term.specs.Make.{is_bit, make_choice, make_not}
+use Rattle.lh_term.specs.Make.{make_choice}
 use Rattle.lh_term.specs.Arena.{trees, tree_at, trees_at, IsIn, StandsForTree, Grows}
 use Rattle.lh_term.specs.declared.term.TermId.{TermId}
 use Rattle.lh_term.specs.declared.term.Node.{Node}
@@ -21,6 +20,7 @@ use Rattle.lh_rows.specs.Joins.{RegionEdge, selector}
 use Rattle.lh_joins.specs.declared.edge.Edge.{Edge}
 use Rattle.lh_rows.specs.Typed.{IsCondition}
 use Rattle.lh_rows.proofs.Merging.{selector-condition}
+use Rattle.lh_rows.proofs.Joining.{choice-same}
 use Rattle.lh_joins.specs.Joins.{IsConditionAt, AreConditions, edge_on, edges_on, after_first, AreMade, chosen_by, CanMerge}
 use Rattle.lh_joins.proofs.Conditions.{conditions-grown, edges-grown, stands-condition}
 use Rattle.lh_joins.proofs.Selecting.{made-grown}
@@ -248,19 +248,10 @@ merge-same ms ps qs rs v at t s w = with-same qs rs v at t w ∙ selected-same m
 
 -- ---- values that are the same
 
-same-choice : (c x : Tree) → make_choice c x x ≡ x
-same-choice c x = by (is_bit 0 c) (is_bit 1 c) (same_tree x x) (same_tree-refl x)
-  where
-    by : (a b s : Bool) → s ≡ true → (if a then x else if b then x else if s then x else if is_bit 0 x && is_bit 1 x then c else if is_bit 1 x && is_bit 0 x then make_not c else choice_of c x x) ≡ x
-    by true b s e = refl
-    by false true s e = refl
-    by false false true e = refl
-    by false false false e = absurd cc
-
 pub same-chosen : (ss : List Tree) (x : Tree) (xs : List Tree) → Each (λ (y : Tree). y ≡ x) xs → chosen_by ss x xs ≡ x
 same-chosen [] x xs h = refl
 same-chosen (s ∷ ss) x [] h = refl
-same-chosen (s ∷ ss) x (y ∷ ys) h = ap (λ (z : Tree). chosen_by ss z ys) (ap (make_choice s x) h.0 ∙ same-choice s x) ∙ same-chosen ss x ys h.1
+same-chosen (s ∷ ss) x (y ∷ ys) h = ap (λ (z : Tree). chosen_by ss z ys) (ap (make_choice s x) h.0 ∙ choice-same s x) ∙ same-chosen ss x ys h.1
 
 same-trees : (ns : List Node) (t : TermId) (ts : List TermId) → list_all (λ (u : TermId). nat_eq t.0 u.0) ts ≡ true → Each (λ (y : Tree). y ≡ tree_at (trees ns) t) (trees_at ns ts)
 same-trees ns t [] e = tt

@@ -26,6 +26,7 @@ use Rattle.lh_unit.specs.declared.inst.InstId.{InstId}
 use Rattle.lh_unit.specs.declared.inst.ValueId.{ValueId}
 use Rattle.lh_unit.specs.declared.inst.Typed.{Typed}
 use Rattle.lh_unit.specs.declared.inst.Inst.{Inst}
+use Rattle.lh_unit.proofs.Lists.{Each-of-map}
 use Rattle.lh_unit.specs.declared.inst.Inst.TheVariants as inst
 use Rattle.lh_formed.specs.Operands.{RowIs}
 use Rattle.lh_eval.specs.Holding.{Holds, datum_in, slot_at}
@@ -33,11 +34,11 @@ use Rattle.lh_eval.proofs.ValuesFit.{datum-held}
 use Rattle.lh_eval.proofs.GivesFit.{part-held}
 use Rattle.lh_eval.proofs.Holding.{holds-nothing}
 use Rattle.lh_eval.proofs.BeginSteps.{entity-lines, entity-insts}
-use Rattle.lh_formed.proofs.EachItem.{each-of-map}
 use Rattle.lh_sound.specs.Ranges.{RangesFit, arg_types, signal_types, type_if_signal, InstanceFits}
 use Rattle.lh_sound.specs.Units.{IsPort, HasPorts, SigWritesData, WritesData, UnitIsSound}
 use Rattle.lh_sound.proofs.Begins.{nothing-fits}
 use Rattle.lh_sound.proofs.FitLaws.{unit-is-sound, begins-fit}
+use Rattle.lh_sound.proofs.FindingElab.{parts-of-none}
 use Rattle.lh_plan.specs.declared.statics.Base.{Base}
 use Rattle.lh_plan.specs.declared.statics.Base.TheVariants as base
 use Rattle.lh_plan.specs.declared.statics.Statics.{Statics}
@@ -94,17 +95,12 @@ signals-narrow : (ls : List LineText) → Each WritesData ls → Each (λ (t : T
 signals-narrow [] e = tt
 signals-narrow (l ∷ ls) e = signal-narrow l.result l.inst (signal_types ls) e.0 (signals-narrow ls e.1)
 
--- an entity begins without parts
-names-none : (e : Env) (ns : List (Option (List ℕ))) → with_parts e ns [] ≡ e
-names-none e [] = refl
-names-none e (n ∷ ns) = refl
-
 args-none : (xs : List ArgText) → with_args nothing_held xs [] ≡ nothing_held
 args-none [] = refl
 args-none (x ∷ xs) = refl
 
 pub parts-none : (u : UnitText) → parts_of u [] [] ≡ nothing_held
-parts-none u = names-none (with_args nothing_held u.args []) (signal_names (lines_of u.blocks)) ∙ args-none u.args
+parts-none u = parts-of-none (with_args nothing_held u.args []) (signal_names (lines_of u.blocks)) ∙ args-none u.args
 
 -- the types of signals
 type-if : (e : Env) (r : Option (List ℕ)) (i : InstText) (ss : List SignalText) (ts : List TypeTree) → map (λ (s : SignalText). s.ty) ss ≡ ts
@@ -157,7 +153,7 @@ module _ (a : Arena) (u : ℕ) (o : IsArena a) (h : u < unit_count a) where
     pub each-inst : (P : LineText → Type 0) (is : List InstId) → is ≡ block_insts_at a u 0 → Each P (lines_of (unit_text_at a u).blocks)
         → Each (λ (i : InstId). P (inst_line_text (naming a u) (table_at a u) i)) is
     each-inst P is i w = subst (Each (λ (x : InstId). P (inst_line_text (naming a u) (table_at a u) x))) (sym i)
-        (each-of-map P (inst_line_text (naming a u) (table_at a u)) (block_insts_at a u 0) (subst (Each P) lines w))
+        (Each-of-map P (inst_line_text (naming a u) (table_at a u)) (block_insts_at a u 0) (subst (Each P) lines w))
 
     -- what elaboration reads of an entity
     pub entity-signals : (is : List InstId) → is ≡ block_insts_at a u 0 → signals_of (static_held (unit_text_at a u) [] []) (map (inst_line_text (naming a u) (table_at a u)) is)

@@ -1,5 +1,5 @@
 -- Texts written one after another.
-use Rattle.std.proofs.Common.{◌≡◌, ℕ, ◌+◌, ◌<◌, zero, suc, List, [], ◌∷◌, ◌++◌, length, get_or, drop, map, refl, ap, sym, ◌∙◌, subst, append_assoc, add-one, drop-cons, arith}
+use Rattle.std.proofs.Common.{◌≡◌, ℕ, ◌+◌, List, [], ◌∷◌, ◌++◌, map, refl, ap, sym, ◌∙◌, append_assoc}
 use Rattle.std.proofs.lemmas.List.{append-nil}
 use Rattle.lh_types.specs.Types.{TypeTree, row_of}
 use Rattle.lh_unit.specs.Marks.{comma}
@@ -19,10 +19,6 @@ behind_step out new all part rest whole w n a =
     ∙ ap (λ l. out ++ (44 ∷ 32 ∷ l)) (sym (render-append part rest))
     ∙ ap (λ l. out ++ render l) (sym w)
     ∙ a
-
--- one text behind another
-pub two : (old mid new a b : List ℕ) → mid ≡ old ++ a → new ≡ mid ++ b → new ≡ old ++ (a ++ b)
-two old mid new a b e f = f ∙ ap (λ l. l ++ b) e ∙ append_assoc old a b
 
 -- one more line
 pub line_step : (out new all : List ℕ) (part rest whole : List (List Piece)) → whole ≡ part ++ rest → new ≡ out ++ text_of part → out ++ text_of whole ≡ all → new ++ text_of rest ≡ all

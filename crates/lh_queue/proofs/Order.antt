@@ -5,8 +5,7 @@ use Rattle.std.specs.declared.cmp.Ordering.TheVariants.{Less, Equal, Greater}
 use Rattle.std.specs.Ordering.{is_lt, ordering_reverse}
 use Rattle.std.specs.Cmp.{IsTotalOrder}
 use Rattle.std.proofs.lemmas.Cmp.{then_total, on_total, nat_cmp_total}
-use Rattle.lh_time.proofs.OrderLemmas.{instant_cmp_total}
-use Rattle.lh_history.proofs.Orders.{is_less}
+use Rattle.lh_time.proofs.OrderLemmas.{instant_cmp_total, is_less}
 use Rattle.lh_queue.specs.declared.wish.Wish.{Wish}
 use Rattle.lh_queue.specs.Queued.{QueuedWish, wish_cmp, is_before, IsBeforeAll, AreInOrder, NoneHas, KeysDiffer, NoneCompetes, NamesOnce, EachNamesOnce, with_held}
 use Rattle.lh_queue.specs.Places.{AllBefore}

@@ -1,10 +1,11 @@
 -- A value that is what a `prb` of an argument gives, or that compares two such ones, by ids: where it stands in the signals.
-use Rattle.std.proofs.Common.{◌≡◌, ℕ, zero, suc, ◌+◌, ◌<◌, ◌≤◌, inl, inr, List, [], ◌∷◌, length, get_or, set, replicate, map, take, drop, Bool, true, false, ◌&&◌, nat_eq, if◌then◌else◌, ◌||◌, Option, Some, None, IsSome, refl, ap, sym, ◌∙◌, subst, arith}
+use Rattle.std.proofs.Common.{◌≡◌, ℕ, zero, suc, ◌+◌, ◌<◌, ◌≤◌, inl, inr, List, [], ◌∷◌, length, get_or, set, replicate, map, take, drop, Bool, true, false, ◌&&◌, nat_eq, if◌then◌else◌, ◌||◌, Option, Some, None, IsSome, refl, ap, sym, ◌∙◌, subst, arith, eq-eqb}
 use Rattle.std.specs.Prelude.{slice_get}
 use Rattle.std.specs.Option.{option_map, option_and_then, IfSome}
 use Rattle.std.proofs.lemmas.Bool.{cases_eq}
 use Rattle.std.proofs.lemmas.List.{append-nil, length-set, length-replicate, get_or-set_same, get_or-set_other}
 use Rattle.std.proofs.lemmas.Option.{same_Some, none-some, slice_get_within}
+use Rattle.std.proofs.Math.Bool.{or-true}
 use Rattle.lh_types.specs.Types.{TypeTree, int_type}
 use Rattle.lh_types.specs.Values.{int_value}
 use Rattle.lh_types.specs.Bits.{bits_number}
@@ -33,7 +34,7 @@ use Rattle.lh_unit.specs.declared.inst.Typed.{Typed}
 use Rattle.lh_unit.specs.declared.inst.Arg.{Arg}
 use Rattle.lh_unit.specs.declared.table.Line.{Line}
 use Rattle.lh_unit.specs.ById.{is_sig}
-use Rattle.lh_unit.proofs.Lists.{nat_eq-refl}
+use Rattle.lh_unit.proofs.Giving.{same-argument}
 use Rattle.lh_names.proofs.NameLists.{same_name-refl}
 use Rattle.lh_eval.specs.Holding.{Holds, slot_at}
 use Rattle.lh_eval.proofs.BeginSteps.{entity-blocks, entity-lines, entity-insts, begun}
@@ -65,10 +66,6 @@ pub int-of-part : (now : List Bool) (r : Range) (w n : ℕ) → r.len ≡ w → 
 int-of-part now r w n long is =
     ap (λ k. Some (datum_held (int_value w (bits_number (take w (bits_within r.lo k now)))))) long ∙ ap (λ bs. Some (datum_held (int_value w (bits_number bs))))
     (take-again w (drop r.lo now)) ∙ ap (λ k. Some (datum_held (int_value w k))) (sym is)
-
-or-true : (b : Bool) → (b || true) ≡ true
-or-true true = refl
-or-true false = refl
 
 -- an argument is defined
 arg-defined : (f : Naming) (args : List Arg) (k : ℕ) (v : ValueId) → option_map (λ (a : Arg). a.value) (slice_get args k) ≡ Some v
@@ -138,9 +135,6 @@ signals-keep t (i ∷ more) rs slots v e h = one-kept (is_sig (line_at t i.0).in
 fresh-long : (n : ℕ) → length (replicate {A = Option Held} n None) ≡ n
 fresh-long n = length-replicate n None
 
-same-number : (j i : ℕ) → value_def.Arg j ≡ value_def.Arg i → j ≡ i
-same-number j i e = cc
-
 no-instruction : (i : ℕ) (x : InstId) → value_def.Arg i ≡ value_def.Inst x → ⊥
 no-instruction i x e = absurd cc
 
@@ -168,9 +162,6 @@ are-compared a u now e xs c d l r b two left right same = record {
   same = same;
 }
 
-nat_eq-self : (n m : ℕ) → n ≡ m → nat_eq n m ≡ true
-nat_eq-self n m e = subst (λ (k : ℕ). nat_eq n k ≡ true) e (nat_eq-refl n)
-
 -- the same of the parts that they are
 pub are-same-at : (a : Arena) (u : ℕ) (args : List Range) (xs : List Typed) (c d : Typed) (l r : Range) → length xs ≡ 2
     → IsIntAt (unit_text_at a u) args (value_text (naming a u) (get_or xs 0 c).value) l
@@ -179,7 +170,7 @@ pub are-same-at : (a : Arena) (u : ℕ) (args : List Range) (xs : List Typed) (c
 are-same-at a u args xs c d l r two left right long = λ now e p q h.
     are-compared a u now e xs c d (l.len, number_at now l) (r.len, number_at now r) (nat_eq (number_at now l) (number_at now r)) two (left now e p h)
     (right now e q h)
-    (sym (ap (λ (b : Bool). b && nat_eq (number_at now l) (number_at now r)) (nat_eq-self l.len r.len long)))
+    (sym (ap (λ (b : Bool). b && nat_eq (number_at now l) (number_at now r)) (eq-eqb l.len r.len long)))
 
 -- an integer of one bit, as a truth value
 pub bit-at : (u : UnitText) (args : List Range) (n : List ℕ) (r : Range) → r.len ≡ 1 → IsIntAt u args n r → IsBitAt u args n r.lo
@@ -233,7 +224,7 @@ module _ (a : Arena) (u : ℕ) (o : IsArena a) (h : u < unit_count a) (k : kind_
       let once = (o.tables u h).defined_once v.0 in
       let long : v.0 < length fresh = omega (arith, within, fresh-long (value_count a u)) in
       let same : (j : ℕ) → j < length t.args → option_map (λ (x : Arg). x.value) (slice_get t.args j) ≡ Some v → j ≡ i =
-      λ j in' e. same-number j i (once (value_def.Arg j) (value_def.Arg i) (in', e) arg) in
+      λ j in' e. same-argument j i (once (value_def.Arg j) (value_def.Arg i) (in', e) arg) in
       let held : Holds a u (signals_given t (block_insts_at a u 0) sigs (args_given t.args args fresh)) (parts_of here args sigs) =
       begun a u o h k args sigs _ refl in
       let kept : get_or (signals_given t (block_insts_at a u 0) sigs (args_given t.args args fresh)) v.0 None ≡ get_or (args_given t.args args fresh) v.0 None =

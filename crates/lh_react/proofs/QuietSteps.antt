@@ -1,13 +1,14 @@
 -- What a pass knows of the probes of arguments and of what compares them, and triggers that do not fire.
-use Rattle.std.proofs.Common.{◌≡◌, ◌⊎◌, inl, inr, ℕ, List, [], ◌∷◌, ◌++◌, map, Bool, true, false, not, ◌&&◌, nat_eq, if◌then◌else◌, unwrap_or, Option, Some, None, IsSome, refl, ap, sym, ◌∙◌, subst}
+use Rattle.std.proofs.Common.{◌≡◌, ◌⊎◌, inl, inr, ℕ, List, [], ◌∷◌, ◌++◌, map, Bool, true, false, ◌&&◌, nat_eq, if◌then◌else◌, unwrap_or, Option, Some, None, IsSome, refl, ap, sym, ◌∙◌, subst}
 use Rattle.std.specs.Option.{option_and_then, option_map}
 use Rattle.std.proofs.lemmas.Option.{same_Some}
 use Rattle.lh_time.specs.declared.Instant.{Instant}
 use Rattle.lh_types.specs.Values.{Datum, int_value}
-use Rattle.lh_types.specs.Apply.{apply, bit_value}
+use Rattle.lh_types.specs.Apply.{apply}
 use Rattle.lh_types.specs.declared.op.Op.{Op}
 use Rattle.lh_types.specs.declared.op.Op.TheVariants.{Eq}
 use Rattle.lh_types.specs.declared.part.Range.{Range}
+use Rattle.lh_types.proofs.Tests.{not_both}
 use Rattle.lh_unit.specs.Contents.{OperandText, TriggerText, InstText, const_text, pure_text, prb_text, drv_text, reg_text, ArgText, UnitText, args_define}
 use Rattle.lh_names.specs.Names.{same_name}
 use Rattle.lh_unit.specs.Typing.{line_giving, carried, or_else}
@@ -19,9 +20,7 @@ use Rattle.lh_names.proofs.NameLists.{same_name-is}
 use Rattle.lh_sound.proofs.NamedOnce.{IsFirst}
 use Rattle.lh_sound.proofs.FitLaws.{triggers-hold}
 use Rattle.lh_react.specs.Quiet.{test_of, BeginsBy, IsProbe, IsProbedBit, IsProbedInt, IsComparedBit, IsKnownBit, KnowsProbes, KnowsCompared, KnowsProbedBits, IsShut, HoldsBack}
-
-true_no_false : (b : Bool) → b ≡ true → b ≡ false → ⊥
-true_no_false b t f = absurd (let gone : true ≡ false = sym t ∙ f in cc)
+use Rattle.lh_eval.proofs.ValuesFit.{test-truth}
 
 not-there : (o : Option Bool) → o ≡ None → IsSome o → ⊥
 not-there None e s = absurd cc
@@ -30,11 +29,6 @@ not-there (Some b) e s = absurd cc
 no-datum : (o : Option Datum) → o ≡ None → IsSome o → ⊥
 no-datum None e s = absurd cc
 no-datum (Some d) e s = absurd cc
-
--- the truth value of whether two integers are equal
-test-truth : (b : Bool) → as_test (bit_value b) ≡ Some b
-test-truth true = refl
-test-truth false = refl
 
 test-same : (v k w l : ℕ) → as_test (apply Eq (int_value v k ∷ int_value w l ∷ [])) ≡ Some (nat_eq v w && nat_eq k l)
 unfolding apply
@@ -50,7 +44,7 @@ module _ (u : UnitText) (now : List Bool) (begun : Env) where
     where
       by : (b : Bool) → same_name m v ≡ b → b ≡ false
       by false q = refl
-      by true q = absurd (true_no_false (args_define v u.args) arg (ap (λ x. args_define x u.args) (sym (same_name-is m v q)) ∙ other))
+      by true q = absurd (not_both (args_define v u.args) arg (ap (λ x. args_define x u.args) (sym (same_name-is m v q)) ∙ other))
 
   result-known : (e : Env) (m : List ℕ) (h : Held) (i : InstText) (n : List ℕ) (s : OperandText) → line_giving m (lines_of u.blocks) ≡ Some i
       → ((x : OperandText) → i ≡ prb_text x → Some h ≡ probed now e x) → IsProbe u n s

@@ -5,7 +5,8 @@ use Rattle.std.proofs.Math.Seq.{take-suc}
 use Rattle.std.proofs.lemmas.List.{map-append, take-append-drop}
 use Rattle.std.proofs.Math.Bool.{or-true}
 use Rattle.lh_types.specs.Types.{TypeTree}
-use Rattle.lh_unit.specs.Contents.{ArgText, UnitText, ItemText, unit_text, new_unit, last_unit, change_last, with_arg, with_result, defines_value, blocks_define}
+use Rattle.lh_types.proofs.Tests.{some_once}
+use Rattle.lh_unit.specs.Contents.{ArgText, UnitText, ItemText, unit_text, new_unit, last_unit, change_last, with_arg, with_result, defines_value}
 use Rattle.lh_unit.specs.Spells.{TypedName}
 use Rattle.lh_unit.specs.Arena.{Arena, Grows, OfOpen, IsOpen, contents, unit_count}
 use Rattle.lh_unit.specs.Builders.{HasContents, AddsArg, SetsResult}
@@ -21,7 +22,7 @@ use Rattle.lh_read.specs.declared.faults.LineFault.TheVariants as line
 use Rattle.lh_read.specs.FaultOf.{fault_of}
 use Rattle.lh_read.specs.Building.{arg_of, UnitBegunOrFault, AddsArgs, Heads, with_args, args_again}
 use Rattle.lh_read.proofs.LastUnit.{last_unit-is, last_unit-has, change_last-twice, change_last-none, with_args-none, with_args-push, with_args-both, args_again-push, args_again-both, args_again-repeat}
-use Rattle.lh_unit.proofs.ContentsLemmas.{last_unit-push, change_last-push}
+use Rattle.lh_unit.proofs.ContentsLemmas.{last_unit-push, change_last-push, new_unit-blocks, new_unit-args}
 use Rattle.lh_unit.proofs.ModuleLaws.{last_unit-change_last}
 
 -- the arguments so far are added
@@ -71,9 +72,6 @@ At-next old now new u done a w h s =
           (args_again-push done a t.0 ∙ ap (λ b. b || defines_value a.name (with_args done t.0)) t.3 ∙ t.2);
     }
 
-same_last : (o : Option UnitText) (x y : UnitText) → o ≡ Some x → o ≡ Some y → x ≡ y
-same_last o x y p q = cc
-
 -- an argument that is refused
 pub At-again : (old now : Arena) (u : UnitId) (done : List ArgText) (a : ArgText) (more : List ArgText) → At old now u done → OfOpen now (λ t. defines_value a.name t ≡ true)
     → OfOpen old (λ t. args_again t ((done ++ a ∷ []) ++ more) ≡ true)
@@ -114,7 +112,7 @@ adds-both (Ok _) old mid new u xs ys a b =
     let t = last_unit-is (last_unit (contents old)) a.0 in
     let v = last_unit-is (last_unit (contents mid)) b.0 in
     let e : last_unit (contents mid) ≡ Some (with_args xs t.0) = ap last_unit a.1 ∙ last_unit-change_last (with_args xs) (contents old) t.0 t.1 in
-    let same : v.0 ≡ with_args xs t.0 = same_last (last_unit (contents mid)) v.0 (with_args xs t.0) v.1 e in (
+    let same : v.0 ≡ with_args xs t.0 = some_once (last_unit (contents mid)) v.0 (with_args xs t.0) v.1 e in (
       last_unit-has (λ x. args_again x (xs ++ ys) ≡ false) (last_unit (contents old)) t.0 t.1
           (args_again-both xs ys t.0 ∙ ap (λ b. b || args_again (with_args xs t.0) ys) t.2 ∙ ap (λ x. args_again x ys) (sym same) ∙ v.2),
       b.1 ∙ ap (change_last (with_args ys)) a.1 ∙ change_last-twice (with_args xs) (with_args ys) (with_args (xs ++ ys)) (contents old) t.0 t.1 (with_args-both xs ys t.0),
@@ -125,7 +123,7 @@ adds-both (Err line.DuplicateName) old mid new u xs ys a b =
     let t = last_unit-is (last_unit (contents old)) a.0 in
     let v = last_unit-is (last_unit (contents mid)) b in
     let e : last_unit (contents mid) ≡ Some (with_args xs t.0) = ap last_unit a.1 ∙ last_unit-change_last (with_args xs) (contents old) t.0 t.1 in
-    let same : v.0 ≡ with_args xs t.0 = same_last (last_unit (contents mid)) v.0 (with_args xs t.0) v.1 e in
+    let same : v.0 ≡ with_args xs t.0 = some_once (last_unit (contents mid)) v.0 (with_args xs t.0) v.1 e in
     last_unit-has (λ x. args_again x (xs ++ ys) ≡ true) (last_unit (contents old)) t.0 t.1
     (args_again-both xs ys t.0 ∙ ap (λ b. args_again t.0 xs || b) (ap (λ x. args_again x ys) (sym same) ∙ v.2) ∙ or-true (args_again t.0 xs))
 adds-both (Err line.OutOfMemory) old mid new u xs ys a b = tt
@@ -148,7 +146,7 @@ adds-begun old new u xs a =
 
 -- the unit that was just begun
 begun_unit : (items : List ItemText) (x t : UnitText) → last_unit (items ++ unit_text x ∷ []) ≡ Some t → t ≡ x
-begun_unit items x t e = same_last (last_unit (items ++ unit_text x ∷ [])) t x e (last_unit-push items x)
+begun_unit items x t e = some_once (last_unit (items ++ unit_text x ∷ [])) t x e (last_unit-push items x)
 
 pub begun-open : (u : UnitId) (old new : Arena) (n : UnitName) (k : UnitKind) → UnitBegunOrFault (Ok u) old new n k → OfOpen new (λ _. ⊤)
 begun-open u old new n k b = last_unit-has (λ _. ⊤) (last_unit (contents new)) (new_unit n k) (ap last_unit b.1 ∙ last_unit-push (contents old) (new_unit n k)) tt
@@ -159,19 +157,8 @@ of_begun u old mid n k P b h =
     let t = last_unit-is (last_unit (contents mid)) h in
     subst P (begun_unit (contents old) (new_unit n k) t.0 (ap last_unit (sym b.1) ∙ t.1)) t.2
 
--- in a unit that was just begun only the arguments define values
-no_blocks : (n : UnitName) (k : UnitKind) (m : List ℕ) → blocks_define m (new_unit n k).blocks ≡ false
-no_blocks n kind.Func m = refl
-no_blocks n kind.Proc m = refl
-no_blocks n kind.Entity m = refl
-
-no_args : (n : UnitName) (k : UnitKind) → (new_unit n k).args ≡ []
-no_args n kind.Func = refl
-no_args n kind.Proc = refl
-no_args n kind.Entity = refl
-
 repeats : (n : UnitName) (k : UnitKind) (args : List ArgText) → args_again (new_unit n k) args ≡ args_repeat [] args
-repeats n k args = args_again-repeat args (new_unit n k) (no_blocks n k) ∙ ap (λ seen. args_repeat seen args) (no_args n k)
+repeats n k args = args_again-repeat args (new_unit n k) (new_unit-blocks n k) ∙ ap (λ seen. args_repeat seen args) (new_unit-args n k)
 
 headed : (n : UnitName) (k : UnitKind) (args : List ArgText) → with_args args (new_unit n k) ≡ headed_unit k n args None
 headed n kind.Func args = refl

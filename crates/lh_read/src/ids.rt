@@ -35,9 +35,10 @@ pub fn unit_id(alloc: Global, m: &mut Module, name: &UnitNameText) -> Result<Uni
     m.unit_named(&name)
 }
 
-/// The entry of a value of this name in a unit.
+/// The entry of a value of this name in a unit, which is at hand from then on.
 fn entered(
     alloc: Global,
+    known: &mut Known,
     m: &mut Module,
     unit: UnitId,
     name: &NameText,
@@ -49,8 +50,11 @@ fn entered(
     if m.values(unit) == u32::MAX {
         return Err(NoMemory);
     }
+    let place = usize::from(digest(name));
     let name = name.to_name(alloc)?;
-    m.enter_value(unit, name)
+    let value = m.enter_value(unit, name)?;
+    known.values[place] = value.0;
+    Ok(value)
 }
 
 /// The value of this name in a unit. What the lines before have named is mostly at hand.
@@ -64,14 +68,28 @@ pub fn value_id(
     requires { unit.0 < unit_count m.old }
     ensures { IfOk result (λ v. ValuePlaced m.old m.new unit v name.now) }
 {
-    let place = digest(name);
-    let recent = ValueId(known.values[place]);
+    let recent = ValueId(known.values[usize::from(digest(name))]);
     if is_named(m, unit, recent, name) {
         return Ok(recent);
     }
-    let value = entered(alloc, m, unit, name)?;
-    known.values[place] = value.0;
-    Ok(value)
+    entered(alloc, known, m, unit, name)
+}
+
+/// The value that a line names as its result, if it names one. Such a name is mostly new.
+pub fn result_id(
+    alloc: Global,
+    known: &mut Known,
+    m: &mut Module,
+    unit: UnitId,
+    name: &Option<NameText>,
+) -> Result<Option<ValueId>, NoMemory>
+    requires { unit.0 < unit_count m.old }
+    ensures { IfOk result (λ v. MaybePlaced m.old m.new unit v name.now) }
+{
+    match name {
+        Some(name) => Ok(Some(entered(alloc, known, m, unit, name)?)),
+        None => Ok(None),
+    }
 }
 
 /// The label of this name in a unit.
@@ -125,7 +143,7 @@ fn lent_operand(
     Ok(Typed { value, ty })
 }
 
-/// The same of an operand that is not needed any more.
+/// The operand, which is let go.
 pub fn operand(
     alloc: Global,
     known: &mut Known,

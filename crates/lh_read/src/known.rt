@@ -8,16 +8,13 @@ use lh_unit::inst::{UnitId, ValueId};
 use lh_unit::module::Module;
 use std::alloc::Global;
 
-/// How many values are kept: a prime, so that the digests of the names of a unit mostly have places of their own.
-pub const RECENT: usize = 251;
-
 /// What the lines before have said.
 #[derive(Drop)]
 pub struct Known {
     /// The types that they have written.
     pub types: SharedTypes,
     /// By digests of names, ids of values that they named. Any id may stand there: its name is compared with the one that is asked for.
-    pub values: [u32; RECENT],
+    pub values: [u32; 256],
 }
 
 impl Known {
@@ -25,20 +22,18 @@ impl Known {
     pub fn new(alloc: Global) -> Known {
         Known {
             types: SharedTypes::new(alloc),
-            values: [0; RECENT],
+            values: [0; 256],
         }
     }
 }
 
-/// A digest of a name, below the number of values that are kept.
-pub fn digest(name: &NameText) -> usize
-    ensures { result < 251 }
-{
-    let mut sum: u32 = 0;
+/// A digest of a name: its place among the values that are kept.
+pub fn digest(name: &NameText) -> u8 {
+    let mut sum: u8 = 0;
     for byte in name.as_bytes() {
-        sum = sum.wrapping_mul(31).wrapping_add(u32::from(*byte));
+        sum = sum.wrapping_mul(31).wrapping_add(*byte);
     }
-    sum as usize % RECENT
+    sum
 }
 
 /// Whether a value of a unit has this name.

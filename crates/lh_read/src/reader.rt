@@ -9,7 +9,7 @@ ghost use Rattle.lh_read.specs.Building.{Steps};
 ghost use Rattle.lh_read.specs.InOrder.{state_of, IsInOrder};
 
 use crate::faults::LineFault;
-use crate::ids::{label_id, maybe_id};
+use crate::ids::{label_id, result_id};
 use crate::insts::instruction;
 use crate::known::Known;
 use crate::places::LinePlace;
@@ -217,7 +217,7 @@ impl Reader {
             drop(inst);
             return Err(LineFault::Syntax);
         };
-        let Ok(value) = maybe_id(alloc, &mut self.known, &mut self.module, unit, name) else {
+        let Ok(value) = result_id(alloc, &mut self.known, &mut self.module, unit, name) else {
             drop(inst);
             return Err(LineFault::OutOfMemory);
         };

@@ -1,5 +1,5 @@
 -- A place begins: what is told there is what its edges join.
-use Rattle.std.proofs.Common.{◌≡◌, ◌≢◌, ℕ, zero, suc, ◌<◌, Bool, true, false, nat_eq, nat_lt, if◌then◌else◌, List, [], ◌∷◌, ◌++◌, length, map, Option, Some, None, slice_get, refl, ap, sym, ◌∙◌, subst, arith}
+use Rattle.std.proofs.Common.{◌≡◌, ◌≢◌, ℕ, zero, suc, ◌<◌, Bool, true, false, nat_eq, nat_lt, if◌then◌else◌, List, [], ◌∷◌, ◌++◌, length, map, Option, Some, None, slice_get, refl, ap, sym, ◌∙◌, subst, arith, ltb-true, lt-ltb}
 use Rattle.std.specs.Option.{is_some, option_and_then, option_map, option_map_or}
 use Rattle.std.proofs.lemmas.Bool.{cond-true, cond-false}
 use Rattle.std.proofs.lemmas.Option.{slice_get_within}
@@ -17,7 +17,6 @@ use Rattle.lh_term.specs.Arena.{StandsForTree}
 use Rattle.lh_term.specs.declared.part.Part.{Part}
 use Rattle.lh_term.specs.declared.term.TermId.{TermId}
 use Rattle.lh_term.specs.declared.term.Node.{Node}
-use Rattle.lh_term.proofs.Arenas.{lt_of, of_lt}
 use Rattle.lh_rows.specs.Known.{Known, known_value, known_cell, known_part, Knowledge, as_value, as_cell, value_known, cell_known, part_known}
 use Rattle.lh_rows.specs.Joins.{RegionEdge, selector, merged, on_each, merged_by, first_one, joined}
 use Rattle.lh_rows.specs.Typed.{IsCondition}
@@ -177,13 +176,13 @@ module _ (s : Story) (k : Knowledge) where
   told-new i v e = cond-true (nat_eq i s.places) (told_by s k v) (s.told i v) (subst (λ (j : ℕ). nat_eq i j ≡ true) e (nat_eq-refl i))
 
   pub told-within : (v : ℕ) → v < s.values → told_by s k v ≡ term_known k (s.naming.value_name v)
-  told-within v l = cond-true (nat_lt v s.values) (term_known k (s.naming.value_name v)) None (of_lt v s.values l)
+  told-within v l = cond-true (nat_lt v s.values) (term_known k (s.naming.value_name v)) None (lt-ltb v s.values l)
 
   pub told-some : (v : ℕ) (x : Tree) → told_by s k v ≡ Some x → (v < s.values) × (term_known k (s.naming.value_name v) ≡ Some x)
   told-some v x e = by (nat_lt v s.values) refl e
     where
       by : (b : Bool) → nat_lt v s.values ≡ b → (if b then term_known k (s.naming.value_name v) else None) ≡ Some x → (v < s.values) × (term_known k (s.naming.value_name v) ≡ Some x)
-      by true h g = (lt_of v s.values h, g)
+      by true h g = (ltb-true v s.values h, g)
       by false h g = absurd cc
 
   told-sources : (v : ℕ) (es : List Edge) → Each (IsBelow s.places) (map source_of es) → map (λ (e : Edge). told_now e.from v) es ≡ map (λ (e : Edge). s.told e.from v) es

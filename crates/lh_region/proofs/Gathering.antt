@@ -1,5 +1,5 @@
 -- Several values are asked for one after the other.
-use Rattle.std.proofs.Common.{◌≡◌, ℕ, zero, suc, ◌<◌, true, List, [], ◌∷◌, ◌++◌, length, map, get_or, Option, Some, refl, ap, sym, ◌∙◌, subst, arith}
+use Rattle.std.proofs.Common.{◌≡◌, ℕ, zero, suc, ◌<◌, true, List, [], ◌∷◌, ◌++◌, length, map, get_or, Option, Some, refl, ap, sym, ◌∙◌, subst, arith, lt-ltb}
 use Rattle.std.specs.Option.{is_some}
 use Rattle.lh_types.specs.declared.op.Op.{Op}
 use Rattle.lh_unit.specs.Within.{Each}
@@ -10,7 +10,6 @@ use Rattle.lh_term.specs.Make.{make_operation}
 use Rattle.lh_term.specs.Arena.{trees_at, AreIn, StandsForTree, Grows}
 use Rattle.lh_term.specs.declared.term.TermId.{TermId}
 use Rattle.lh_term.specs.declared.term.Node.{Node}
-use Rattle.lh_term.proofs.Arenas.{of_lt}
 use Rattle.lh_term.proofs.Swaps.{grows_on}
 use Rattle.lh_joins.specs.Joins.{AreMade}
 use Rattle.lh_joins.proofs.Conditions.{grows-none}
@@ -120,7 +119,7 @@ made-below : (ns : List Node) (ts : List TermId) (xs : List Tree) → AreMade ns
 made-below ns [] [] m = refl
 made-below ns [] (x ∷ xs) m = absurd m
 made-below ns (t ∷ ts) [] m = absurd m
-made-below ns (t ∷ ts) (x ∷ xs) m = rw (of_lt t.0 (length ns) m.0.is_in) (made-below ns ts xs m.1)
+made-below ns (t ∷ ts) (x ∷ xs) m = rw (lt-ltb t.0 (length ns) m.0.is_in) (made-below ns ts xs m.1)
 
 module _ (ns ms : List Node) (ps : List PlaceState) (i : ℕ) (o : Op) (xs : List Typed) (ts : List TermId) (c : IsOperation ns ps i o xs) (m : AreTold ns ps ms (asks_at i xs) ts) where
   operands-made : AreMade ms ts c.operands

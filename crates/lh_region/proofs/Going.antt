@@ -1,7 +1,6 @@
 -- One more edge leads on from a place: the edges ahead by ids and those of the definition.
-use Rattle.std.proofs.Common.{◌≡◌, ◌≢◌, ℕ, ◌+◌, ◌<◌, ◌≤◌, Bool, true, false, ◌&&◌, nat_eq, nat_le, if◌then◌else◌, List, [], ◌∷◌, ◌++◌, ap, sym, ◌∙◌, subst, arith}
-use Rattle.std.proofs.lemmas.Bool.Decides.{nat_tests}
-use Rattle.std.proofs.lemmas.Bool.{cond-true, cond-false}
+use Rattle.std.proofs.Common.{◌≡◌, ◌≢◌, ℕ, ◌+◌, ◌<◌, ◌≤◌, Bool, true, false, ◌&&◌, nat_eq, if◌then◌else◌, List, [], ◌∷◌, ◌++◌, ap, sym, ◌∙◌, subst, arith, le-leb}
+use Rattle.std.proofs.lemmas.Bool.{cond-true, cond-false, lt-leb}
 use Rattle.std.proofs.Math.Nat.{ne_of_lt}
 use Rattle.lh_unit.proofs.Lists.{Same, same, other, same_or, nat_eq-refl, nat_eq-other}
 use Rattle.lh_term.specs.Tree.{Tree}
@@ -122,17 +121,11 @@ module _ (ns : List Node) (s : Story) (turns block a : ℕ) (old new : Ahead) (x
 
 -- ---- where the definition goes
 
-le-not : (a b : ℕ) → b < a → nat_le a b ≡ false
-le-not a b l = grind (arith, nat_tests)
-
-le-is : (a b : ℕ) → a ≤ b → nat_le a b ≡ true
-le-is a b l = grind (arith, nat_tests)
-
 next-here : (p : RegionPlace) (t b a : ℕ) → p ≡ place_of t b → b < a → next_place p a ≡ place_of t a
-next-here p t b a e l = ap (λ (q : RegionPlace). next_place q a) e ∙ ap (λ (k : Bool). place_of (if k then t + 1 else t) a) (le-not a b l)
+next-here p t b a e l = ap (λ (q : RegionPlace). next_place q a) e ∙ ap (λ (k : Bool). place_of (if k then t + 1 else t) a) (lt-leb a b l)
 
 next-turn : (p : RegionPlace) (t b a : ℕ) → p ≡ place_of t b → a ≤ b → next_place p a ≡ place_of (t + 1) a
-next-turn p t b a e l = ap (λ (q : RegionPlace). next_place q a) e ∙ ap (λ (k : Bool). place_of (if k then t + 1 else t) a) (le-is a b l)
+next-turn p t b a e l = ap (λ (q : RegionPlace). next_place q a) e ∙ ap (λ (k : Bool). place_of (if k then t + 1 else t) a) (le-leb a b l)
 
 goes-on : (g : Region) (h : Here) (c : Tree) (m : Midst) (b : ℕ) → (g.ends_at_head && nat_eq b g.head) ≡ false
     → (goes g h c m b).edges ≡ m.edges ++ record { to = next_place h.place b; from = h.label; cond = c; known = m.known } ∷ []

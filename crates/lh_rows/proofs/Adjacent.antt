@@ -8,10 +8,11 @@ use Rattle.std.specs.BTreeMap.{insert_entry}
 use Rattle.std.proofs.lemmas.Bool.Decides.{nat_tests}
 use Rattle.lh_time.specs.declared.Instant.{Instant}
 use Rattle.lh_time.specs.Order.{instant_cmp}
+use Rattle.lh_time.proofs.OrderLemmas.{nat_less, nat_same}
 use Rattle.lh_types.specs.Bits.{value_bits}
 use Rattle.lh_types.specs.Fits.{FitsType}
 use Rattle.lh_types.specs.Wish as wishes
-use Rattle.lh_types.specs.Wish.{Wish, DueBit, due_bit_cmp, with_bit, with_bits}
+use Rattle.lh_types.specs.Wish.{Wish, DueBit, due_bit_cmp, with_bits}
 use Rattle.lh_bits.proofs.ValueBits.{length-value_bits}
 use Rattle.lh_term.specs.Mean.{mean}
 use Rattle.lh_term.specs.declared.part.Part.{Part}
@@ -23,14 +24,8 @@ use Rattle.lh_rows.proofs.Merging.{or-one, beyond-condition, beyond-one, choose,
 
 -- ---- one key twice, and two keys
 
-nat-self : (n : ℕ) → nat_cmp n n ≡ Equal
-nat-self n = grind (arith, nat_tests)
-
 nat-above : (a b : ℕ) → a < b → nat_cmp b a ≡ Greater
 nat-above a b h = grind (arith, nat_tests)
-
-nat-below : (a b : ℕ) → a < b → nat_cmp a b ≡ Less
-nat-below a b h = grind (arith, nat_tests)
 
 -- a greater bit is above what a lower one is not below
 nat-over : (a b c : ℕ) → a < b → nat_cmp a c ≡ Equal → nat_cmp b c ≡ Greater
@@ -40,19 +35,19 @@ nat-beyond : (a b c : ℕ) → a < b → nat_cmp a c ≡ Greater → nat_cmp b c
 nat-beyond a b c h e = grind (arith, nat_tests)
 
 instant-self : (t : Instant) → instant_cmp t t ≡ Equal
-instant-self t = rw (nat-self t.fs, nat-self t.delta, nat-self t.eps) refl
+instant-self t = rw (nat_same t.fs, nat_same t.delta, nat_same t.eps) refl
 
 abbrev key : Instant → ℕ → DueBit
 key t i = record { due = t; bit = i }
 
 key-self : (t : Instant) (i : ℕ) → due_bit_cmp (key t i) (key t i) ≡ Equal
-key-self t i = rw (instant-self t, nat-self i) refl
+key-self t i = rw (instant-self t, nat_same i) refl
 
 key-above : (t : Instant) (i j : ℕ) → i < j → due_bit_cmp (key t j) (key t i) ≡ Greater
 key-above t i j h = rw (instant-self t, nat-above i j h) refl
 
 key-below : (t : Instant) (i j : ℕ) → i < j → due_bit_cmp (key t i) (key t j) ≡ Less
-key-below t i j h = rw (instant-self t, nat-below i j h) refl
+key-below t i j h = rw (instant-self t, nat_less i j h) refl
 
 key-over : (t : Instant) (i j : ℕ) (k : DueBit) → i < j → due_bit_cmp (key t i) k ≡ Equal → due_bit_cmp (key t j) k ≡ Greater
 key-over t i j k h e = by (instant_cmp t k.due) e

@@ -10,7 +10,6 @@ use Rattle.lh_time.specs.Due.{due_of}
 use Rattle.lh_types.specs.Types.{TypeTree, time_type, void_type, int_type, array_type, tuple_type, pointer_type, signal_type}
 use Rattle.lh_types.specs.Values.{Datum}
 use Rattle.lh_types.specs.Fits.{FitsType}
-use Rattle.lh_types.specs.Apply.{bit_value}
 use Rattle.lh_types.specs.Wish.{Wish}
 use Rattle.lh_types.specs.declared.op.Op.TheVariants.{Not}
 use Rattle.lh_types.specs.declared.part.Range.{Range}
@@ -58,6 +57,7 @@ use Rattle.lh_rows.proofs.Executing as Executing
 use Rattle.lh_rows.proofs.Living as Living
 use Rattle.lh_rows.proofs.Leaving as Leaving
 use Rattle.lh_rows.proofs.Executing.{delay-of-time}
+use Rattle.lh_eval.proofs.ValuesFit.{test-truth}
 
 -- an operand of the kind of signals is a signal
 pub signal-of : (u : UnitText) (m : List ℕ) → HasTypeOfKind u (used signal_needed m) → (t : TypeTree) × IsOf u (signal_type t) m
@@ -71,10 +71,6 @@ signal-of u m k = by k.0 k.1 k.2 k.3 k.4
     by time_type c v q w = absurd (false≢true (ap (kind_takes signal_needed) (same_Some a_time c q) ∙ w))
     by (pointer_type t) c v q w = absurd (false≢true (ap (kind_takes signal_needed) (same_Some a_pointer c q) ∙ w))
     by void_type c v q w = absurd (none-some c q)
-
-test-bit : (b : Bool) → as_test (bit_value b) ≡ Some b
-test-bit true = refl
-test-bit false = refl
 
 module _ (u : UnitText) (g : Region) (r : RegionOf u g) (i : ℕ) (b : FlatBlockText) (bat : BlockAt g.blocks i b) (h : Here) (hl : h.label ≡ b.label) (hc : IsCondition h.cond)
     (s : Scene) (args : List Range) (past now : Valuation) (p : IsFitting past) (n : IsFitting now) (probe : (x : Part) → mean past now (g.probe x) ≡ reads args s.now x)
@@ -181,7 +177,7 @@ module _ (u : UnitText) (g : Region) (r : RegionOf u g) (i : ℕ) (b : FlatBlock
         → step s (point e (l ∷ after) w o) ≡ machine.jumps here (option_and_then (machine.entered u e b.label) (machine.chosen (Some d) first second))
     branch-goes c first second q row t kn ct d f =
         let tested : test_at e c ≡ Some d = ap (option_and_then as_test) (datum-shown u v (range_in args) m.known e sh c bit t row kn) ∙ ap as_test (mean-bit past now p n t ct)
-        ∙ test-bit (true-here t) ∙ ap Some f in
+        ∙ test-truth (true-here t) ∙ ap Some f in
         step-is (branch_text c first second) q ∙ ap (λ y. machine.jumps here (option_and_then (machine.entered u e b.label) (machine.chosen y first second))) tested
 
     branch-second : (first second : List ℕ) (t : Tree) → IsCondition t → Into first → Into second → true-here t ≡ true

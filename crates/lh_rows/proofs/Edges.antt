@@ -14,11 +14,11 @@ use Rattle.lh_unit.specs.Activation.{edge_from}
 use Rattle.lh_unit.specs.Places.{is_terminator, leads_to, last_leads_to, has_edge}
 use Rattle.lh_unit.specs.Typing.{value_type, is_value_type, result_type}
 use Rattle.lh_unit.specs.Within.{Each}
+use Rattle.lh_unit.proofs.Lists.{Each-zip}
 use Rattle.lh_unit.specs.declared.inst.UnitKind.TheVariants as kind
 use Rattle.lh_names.proofs.NameLists.{same_name-is, same_name-refl}
 use Rattle.lh_formed.specs.Defined.{IsThere, IsThereOnEdge, OperandsThere}
 use Rattle.lh_formed.specs.Operands.{IsOf, RowIs}
-use Rattle.lh_formed.proofs.Bools.{each_both}
 use Rattle.lh_formed.proofs.AtPlaces.{place-at}
 use Rattle.lh_formed.proofs.There.{there-after, last-leads}
 use Rattle.lh_inlined.specs.Formed.{IsFormed, IsOne, PhiFormed}
@@ -89,7 +89,7 @@ module _ (u : UnitText) (f : IsFormed u) (i : ℕ) (from : List ℕ) (text : Blo
           by : (m : ℕ) (d : Bool) (i : InstText) → PhiFormed u (place-at m d b seen x more) i → OperandsThere kind.Proc u (place-at m d b seen x more) i → RowIs u i → PhiKnown e i
           by m d (phi_text ty es) p o row =
               let one = block-at (λ (y : BlockText). has_edge y (label_or b.label) ≡ true → (e : EdgeText) × IsOne es e × (e.block ≡ label_or y.label)) u.blocks i text p.named at edge in
-              let both = each_both (IsThereOnEdge u (label_or b.label)) (λ (y : EdgeText). IsOf u ty y.value) (Good ty) (λ y a c. (a, c)) es o row.1 in
+              let both = Each-zip (IsThereOnEdge u (label_or b.label)) (λ (y : EdgeText). IsOf u ty y.value) (Good ty) (λ y a c. (a, c)) es o row.1 in
               let y = edge-found (Good ty) from es both one.0 one.1 (one.2 ∙ ap label_or label) in
               let at-end : IsThere u text text.lines y.0.value = y.1.0 text (ap (λ n. block_of n u.blocks) y.2 ∙ named) edge in
               let v = value-known u k typed y.0.value ty y.1.1 row.0 (end-known y.0.value ty y.1.1 (value-no-void ty row.0) at-end) in

@@ -11,7 +11,7 @@ use Rattle.lh_types.specs.Types.{TypeTree, time_type, signal_type, pointer_type,
 use Rattle.lh_types.specs.Values.{Datum, int_value, time_value, array_value, tuple_value}
 use Rattle.lh_types.specs.Fits.{FitsType}
 use Rattle.lh_types.specs.Bits.{value_bits, value_from_bits}
-use Rattle.lh_types.specs.Apply.{apply, bit_value}
+use Rattle.lh_types.specs.Apply.{apply}
 use Rattle.lh_types.specs.Wish as wishes
 use Rattle.lh_types.specs.Wish.{Wish}
 use Rattle.lh_types.specs.declared.op.Op.{Op}
@@ -38,6 +38,7 @@ use Rattle.lh_formed.proofs.PartsLaw.{parts_have_ranges}
 use Rattle.lh_formed.proofs.AtPlaces.{place-at}
 use Rattle.lh_eval.specs.Sound.{IsWrittenRight}
 use Rattle.lh_eval.proofs.PartsRead.{of-values, of-signal}
+use Rattle.lh_eval.proofs.ValuesFit.{test-truth}
 use Rattle.lh_inlined.specs.Formed.{IsWithoutCalls}
 use Rattle.lh_flat.specs.Flat.{FlatBlockText}
 use Rattle.lh_term.specs.Tree.{Tree, constant, tree_row, operation_on}
@@ -79,10 +80,6 @@ zero-not-one past now c z = by c z
     by (constant (array_value vs)) e = refl
     by (constant (tuple_value vs)) e = refl
     by _ e = absurd (false≢true e)
-
-test-bit : (b : Bool) → as_test (bit_value b) ≡ Some b
-test-bit true = refl
-test-bit false = refl
 
 pub delay-of-time : (d : Datum) → FitsType d time_type → (x : Delay) × (as_delay d ≡ Some x)
 delay-of-time (time_value x) f = (x, refl)
@@ -281,7 +278,7 @@ module _ (u : UnitText) (g : Region) (r : RegionOf u g) (i : ℕ) (b : FlatBlock
         condition d (inr a) =
             let c = datum-shown u v (range_in args) m.known e sh a.0 bit a.1 a.5 a.3 in
             let t : true-here d.when ≡ true-here a.1 = ap true-here a.6 ∙ and-one past now p n h.cond a.1 hc a.4 ∙ ap (λ x. x && true-here a.1) reached in
-            ap (effects.condition_at e) a.2 ∙ ap (option_and_then as_test) c ∙ ap as_test (mean-bit past now p n a.1 a.4) ∙ test-bit (true-here a.1) ∙ ap Some (sym t)
+            ap (effects.condition_at e) a.2 ∙ ap (option_and_then as_test) c ∙ ap as_test (mean-bit past now p n a.1 a.4) ∙ test-truth (true-here a.1) ∙ ap Some (sym t)
 
         by : (x : Drive) → step s (point e (l ∷ after) w o) ≡ goes (point e after (with_row past now args s.at w x) o) → (z : Bool) → is_zero x.cond ≡ z
             → Executed l after e w o m (if z then m else record m { rows = record m.rows { drives = m.rows.drives ++ x ∷ [] } })
@@ -322,7 +319,7 @@ module _ (u : UnitText) (g : Region) (r : RegionOf u g) (i : ℕ) (b : FlatBlock
         by (x ∷ []) a k go =
             let c = Taking.bit-known u g r i b bat h hl hc before l after site m typed there x.value a.0 k.0 in
             let d = datum-shown u v (range_in args) m.known e sh x.value bit c.0 a.0 c.1 in
-            let told : machine.asserted e (x ∷ []) ≡ Some (true-here c.0) = ap (option_and_then as_test) d ∙ ap as_test (mean-bit past now p n c.0 c.2) ∙ test-bit (true-here c.0) in
+            let told : machine.asserted e (x ∷ []) ≡ Some (true-here c.0) = ap (option_and_then as_test) d ∙ ap as_test (mean-bit past now p n c.0 c.2) ∙ test-truth (true-here c.0) in
             let ts : values_known m.known (x ∷ []) ≡ Some (c.0 ∷ []) = ap (λ z. front z (Some [])) c.1 in
             subst (λ z. Executed l after e w o m (asserts m z)) (sym ts) (record {
               held = e;

@@ -3,7 +3,7 @@ use Rattle.std.proofs.Common.{◌≡◌, ◌⊎◌, inl, inr, ⊎_elim, ℕ, ◌
 use Rattle.std.specs.Bool.{if◌then◌else◌}
 use Rattle.std.specs.Prelude.{slice_get}
 use Rattle.std.specs.Option.{option_and_then, option_map}
-use Rattle.std.proofs.lemmas.Bool.{false≢true}
+use Rattle.std.proofs.lemmas.Bool.{false≢true, or_parts}
 use Rattle.std.proofs.lemmas.Option.{same_Some, none-some}
 use Rattle.lh_types.specs.Types.{TypeTree, signal_type, IsData}
 use Rattle.lh_types.specs.Values.{Datum}
@@ -21,6 +21,7 @@ use Rattle.lh_sound.specs.Units.{HasItsType, IsPort}
 use Rattle.lh_formed.proofs.EachItem.{each-split}
 use Rattle.lh_formed.proofs.AtPlaces.{place-at}
 use Rattle.lh_inlined.specs.Formed.{IsFormed, PhiFormed}
+use Rattle.lh_inlined.proofs.Tidying.{seen-once}
 use Rattle.lh_flat.specs.Flat.{FlatBlockText, MergeText, FlatText, with_merge}
 use Rattle.lh_term.specs.Tree.{constant}
 use Rattle.lh_term.specs.declared.part.Part.{Part}
@@ -92,11 +93,7 @@ constants-known k (l ∷ ls) n h d = by (is_result_name n l.result) refl d (cons
 
 -- ---- the arguments
 
-pub or-false : (a b : Bool) → (a || b) ≡ false → (a ≡ false) × (b ≡ false)
-or-false true b e = absurd (false≢true (sym e))
-or-false false b e = (refl, e)
-
-define-append : (n : List ℕ) (xs ys : List ArgText) → args_define n xs ≡ true → args_define n (xs ++ ys) ≡ true
+pub define-append : (n : List ℕ) (xs ys : List ArgText) → args_define n xs ≡ true → args_define n (xs ++ ys) ≡ true
 define-append n [] ys h = absurd (false≢true h)
 define-append n (a ∷ xs) ys h = by (same_name a.name n) h (define-append n xs ys)
   where
@@ -112,24 +109,13 @@ define-last n (x ∷ xs) a h = by (same_name x.name n) (define-last n xs a h)
     by true g = refl
     by false g = g
 
--- no later argument has a name that was seen
-pub seen-apart : (n : List ℕ) (seen xs : List ArgText) → args_repeat seen xs ≡ false → args_define n seen ≡ true → args_define n xs ≡ false
-seen-apart n seen [] h d = refl
-seen-apart n seen (a ∷ xs) h d =
-    let z = or-false (args_define a.name seen) (args_repeat (seen ++ a ∷ []) xs) h in
-    by (same_name a.name n) refl z.0 (seen-apart n (seen ++ a ∷ []) xs z.1 (define-append n seen (a ∷ []) d))
-  where
-    by : (b : Bool) → same_name a.name n ≡ b → args_define a.name seen ≡ false → args_define n xs ≡ false → (b || args_define n xs) ≡ false
-    by true q z go = absurd (false≢true (sym z ∙ ap (λ m. args_define m seen) (same_name-is a.name n q) ∙ d))
-    by false q z go = go
-
 pub arguments-case : (seen : List ArgText) (k : Knowledge) (i : ℕ) (xs : List ArgText) (n : List ℕ) (x : Known) → args_repeat seen xs ≡ false → with_arguments k i xs n ≡ Some x
     → (k n ≡ Some x) ⊎ ((p : Part) × (x ≡ known_part p) × (argument_part n i xs ≡ Some p))
 arguments-case seen k i [] n x h q = inl q
 arguments-case seen k i (a ∷ xs) n x h q =
-    by (or-false (args_define a.name seen) (args_repeat (seen ++ a ∷ []) xs) h)
+    by (or_parts (args_define a.name seen) (args_repeat (seen ++ a ∷ []) xs) h)
     (arguments-case (seen ++ a ∷ []) (with_given k (Some a.name) (option_map (λ t. known_part (whole_argument i t)) (carried a.ty))) (i + 1) xs n x
-    (or-false (args_define a.name seen) (args_repeat (seen ++ a ∷ []) xs) h).1 q)
+    (or_parts (args_define a.name seen) (args_repeat (seen ++ a ∷ []) xs) h).1 q)
   where
     first : (o : Option TypeTree) → carried a.ty ≡ o → (b : Bool) → same_name a.name n ≡ b → with_given k (Some a.name) (option_map (λ t. known_part (whole_argument i t)) o) n ≡ Some x
         → (k n ≡ Some x) ⊎ ((p : Part) × (x ≡ known_part p) × ((if b then option_map (whole_argument i) (carried a.ty) else argument_part n (i + 1) xs) ≡ Some p))
@@ -144,7 +130,7 @@ arguments-case seen k i (a ∷ xs) n x h q =
     later : (p : Part) → args_repeat (seen ++ a ∷ []) xs ≡ false → argument_part n (i + 1) xs ≡ Some p → (b : Bool) → same_name a.name n ≡ b
         → (if b then option_map (whole_argument i) (carried a.ty) else argument_part n (i + 1) xs) ≡ Some p
     later p r g false e = g
-    later p r g true e = absurd (false≢true (sym (seen-apart n (seen ++ a ∷ []) xs r (define-last n seen a e)) ∙ part-argument n (i + 1) xs p g))
+    later p r g true e = absurd (false≢true (sym (seen-once n (seen ++ a ∷ []) xs r (define-last n seen a e)) ∙ part-argument n (i + 1) xs p g))
 
     by : (args_define a.name seen ≡ false) × (args_repeat (seen ++ a ∷ []) xs ≡ false) → (with_given k (Some a.name) (option_map (λ t. known_part (whole_argument i t)) (carried a.ty)) n ≡ Some x)
         ⊎ ((p : Part) × (x ≡ known_part p) × (argument_part n (i + 1) xs ≡ Some p))

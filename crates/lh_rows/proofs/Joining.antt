@@ -97,7 +97,7 @@ module _ (past now : Valuation) (p : IsFitting past) (n : IsFitting now) where
 AllAre : Tree → List Tree → Type 0
 AllAre x ts = Each (λ (t : Tree). t ≡ x) ts
 
-choice-same : (c x : Tree) → make_choice c x x ≡ x
+pub choice-same : (c x : Tree) → make_choice c x x ≡ x
 choice-same c x = by (is_bit 0 c) (is_bit 1 c) (same_tree x x) (same_tree-refl x)
   where
     by : (a b d : Bool) → d ≡ true → (if a then x else if b then x else if d then x else if is_bit 0 x && is_bit 1 x then c else if is_bit 1 x && is_bit 0 x then make_not c else choice_of c x x) ≡ x

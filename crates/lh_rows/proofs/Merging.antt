@@ -4,6 +4,7 @@ use Rattle.std.specs.Bool.{if◌then◌else◌}
 use Rattle.std.specs.List.{list_any}
 use Rattle.std.proofs.lemmas.Bool.{false≢true}
 use Rattle.std.proofs.lemmas.Option.{same_Some, none-some}
+use Rattle.std.proofs.Math.Bool.{or-false, or_assoc}
 use Rattle.lh_types.specs.Types.{TypeTree, int_type, IsData}
 use Rattle.lh_types.specs.Values.{Datum}
 use Rattle.lh_types.specs.Apply.{apply, bit_value}
@@ -88,20 +89,12 @@ or_any-condition c (e ∷ es) i h = or_any-condition (make_operation Or (c ∷ e
 pub any-condition : (es : List RegionEdge) → EachCondition es → IsCondition (any_taken es)
 any-condition es h = or_any-condition (bit_of false) es (bit-condition false) h
 
-or_assoc : (a b c : Bool) → (a || b) || c ≡ a || (b || c)
-or_assoc true b c = refl
-or_assoc false b c = refl
-
-or_false : (a : Bool) → a || false ≡ a
-or_false true = refl
-or_false false = refl
-
 module _ (past now : Valuation) (p : IsFitting past) (n : IsFitting now) where
   abbrev pub taken : RegionEdge → Bool
   taken e = one past now p n e.cond
 
   or_any-one : (c : Tree) (es : List RegionEdge) → IsCondition c → EachCondition es → one past now p n (or_any c es) ≡ one past now p n c || list_any taken es
-  or_any-one c [] i h = sym (or_false (one past now p n c))
+  or_any-one c [] i h = sym (or-false (one past now p n c))
   or_any-one c (e ∷ es) i h =
       or_any-one (make_operation Or (c ∷ e.cond ∷ [])) es (or-condition c e.cond i h.0) h.1
       ∙ ap (λ b. b || list_any taken es) (or-one past now p n c e.cond i h.0)
@@ -125,7 +118,7 @@ module _ (past now : Valuation) (p : IsFitting past) (n : IsFitting now) where
 
 -- ---- selectors
 
-bits-of : (t : Tree) → IsCondition t → AllBits (conjuncts_of t)
+pub bits-of : (t : Tree) → IsCondition t → AllBits (conjuncts_of t)
 bits-of t c = conjuncts_are_bits t c.typed c.type
 
 start-bit : IntTerm (bit_of true) 1

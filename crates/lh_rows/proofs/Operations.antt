@@ -9,7 +9,7 @@ use Rattle.lh_types.specs.Values.{Datum, int_value, time_value, array_value, tup
 use Rattle.lh_types.specs.Fits.{FitsType, FitsRow}
 use Rattle.lh_types.specs.ApplyTypes.{RowType}
 use Rattle.lh_types.specs.Parts as Parts
-use Rattle.lh_types.specs.Parts.{range_of, part_range, step_part}
+use Rattle.lh_types.specs.Parts.{step_part}
 use Rattle.lh_types.specs.Classes.{class_of}
 use Rattle.lh_types.specs.declared.op.Op.{Op}
 use Rattle.lh_types.specs.declared.op.Op.TheVariants as op
@@ -29,6 +29,7 @@ use Rattle.lh_eval.specs.Fitting.{IsValueType, FitsHeld, Fits}
 use Rattle.lh_eval.specs.Sound.{HasOperands}
 use Rattle.lh_eval.proofs.ValuesFit.{fits-line}
 use Rattle.lh_eval.proofs.PartsRead.{of-signal, no-step, no-signal}
+use Rattle.lh_eval.proofs.GivesFit.{value-type}
 use Rattle.lh_sound.proofs.Finding.{some-of, operated-there}
 use Rattle.lh_term.specs.Tree.{Tree, tree_row, operation_on}
 use Rattle.lh_term.specs.Types as terms
@@ -124,7 +125,7 @@ term-type t h = by (type_of t) (value_typed t h)
 pointed-is : (x y : TypeTree) → pointer_type x ≡ pointer_type y → x ≡ y
 pointed-is x y e = cc
 
-carried-is : (x y : TypeTree) → signal_type x ≡ signal_type y → x ≡ y
+pub carried-is : (x y : TypeTree) → signal_type x ≡ signal_type y → x ≡ y
 carried-is x y e = cc
 
 module _ (u : UnitText) (k : Knowledge) (h : KnowsTyped u k) where
@@ -173,13 +174,8 @@ shows k n = option_map (held_as shown placed) (k n)
 shows-shows : (u : UnitText) (k : Knowledge) → KnownIsHeld u shown placed k (shows k)
 shows-shows u k n x t q v = ap (option_map (held_as shown placed)) q
 
-data-value : (t : TypeTree) → IsData t → IsValueType t
-data-value time_type d = tt
-data-value (int_type n) d = d
-data-value t d = d
-
 either-value : (t : TypeTree) → terms.IsValueType t → IsValueType t
-either-value t (inl d) = data-value t d
+either-value t (inl d) = value-type t d
 either-value t (inr q) = subst IsValueType (sym q) tt
 
 shows-fit : (u : UnitText) (k : Knowledge) → KnowsTyped u k → Fits u 65536 (shows k)

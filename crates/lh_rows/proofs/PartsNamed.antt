@@ -27,7 +27,7 @@ part-argument n i (a ∷ xs) p q = by (same_name a.name n) q (part-argument n (i
 same-args : (o o' : Op) (x x' : OperandText) → Some (pure_text o (x ∷ [])) ≡ Some (pure_text o' (x' ∷ [])) → (o ≡ o') × (x ≡ x')
 same-args o o' x x' e = (cc, cc)
 
-part-is : (p q : Part) → Some (known_part p) ≡ Some (known_part q) → p ≡ q
+pub part-is : (p q : Part) → Some (known_part p) ≡ Some (known_part q) → p ≡ q
 part-is p q e = cc
 
 pub one-part : (u : UnitText) (n : List ℕ) (p q : Part) → IsPartOf u n p → IsPartOf u n q → p ≡ q

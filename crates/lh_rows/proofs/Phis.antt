@@ -1,13 +1,11 @@
 -- Before the lines of a block what is known is typed, what is there is known, and it is held where the block is entered by the edge that is taken.
-use Rattle.std.proofs.Common.{◌≡◌, inl, inr, ℕ, List, [], ◌∷◌, Bool, true, false, Option, Some, None, IsSome, is_some, refl, ap, sym, ◌∙◌, subst}
-use Rattle.std.specs.Bool.{if◌then◌else◌}
+use Rattle.std.proofs.Common.{◌≡◌, inl, inr, ℕ, List, [], ◌∷◌, true, Option, Some, None, IsSome, is_some, refl, ap, sym, ◌∙◌, subst}
 use Rattle.std.specs.Option.{option_and_then, option_map}
 use Rattle.std.proofs.lemmas.Option.{same_Some, none-some}
 use Rattle.lh_types.specs.Types.{TypeTree}
 use Rattle.lh_types.specs.Values.{Datum}
 use Rattle.lh_types.specs.declared.part.Range.{Range}
 use Rattle.lh_unit.specs.Contents.{EdgeText, InstText, const_text, phi_text, LineText, BlockText, UnitText, is_result_name}
-use Rattle.lh_names.specs.Names.{same_name}
 use Rattle.lh_unit.specs.Hierarchy.{lines_of}
 use Rattle.lh_unit.specs.Typing.{value_type, result_type, inst_giving}
 use Rattle.lh_sound.proofs.NamedOnce.{IsFirst, giving-lines}
@@ -15,6 +13,7 @@ use Rattle.lh_unit.specs.Held.{datum_held, cell_held, part_held, Env, datum_at, 
 use Rattle.lh_unit.specs.Activation.{edge_from, result_put, phi_taken, phis_taken}
 use Rattle.lh_unit.specs.Within.{Each}
 use Rattle.lh_formed.specs.Operands.{IsOf, RowIs}
+use Rattle.lh_formed.proofs.EachItem.{edge-is}
 use Rattle.lh_eval.specs.Sound.{InstIsSound}
 use Rattle.lh_sound.proofs.Finding.{some-of}
 use Rattle.lh_term.specs.Tree.{Tree}
@@ -37,15 +36,6 @@ datum-is a b e = cc
 
 cell-is : (a b : Datum) → Some (cell_held a) ≡ Some (cell_held b) → a ≡ b
 cell-is a b e = cc
-
--- an operand that an edge names is one of those that are written
-named-type : (u : UnitText) (ty : TypeTree) (from : List ℕ) (es : List EdgeText) (n : List ℕ) → Each (λ (e : EdgeText). IsOf u ty e.value) es → edge_from from es ≡ Some n → IsOf u ty n
-named-type u ty from [] n h q = absurd (none-some n q)
-named-type u ty from (e ∷ es) n h q = by (same_name e.block from) q (named-type u ty from es n h.1)
-  where
-    by : (b : Bool) → (if b then Some e.value else edge_from from es) ≡ Some n → (edge_from from es ≡ Some n → IsOf u ty n) → IsOf u ty n
-    by true g go = subst (IsOf u ty) (same_Some e.value n g) h.0
-    by false g go = go g
 
 -- the operand of a `phi` on an edge, and its term
 record PhiOperand (es : List EdgeText) (e : RegionEdge) (t : Tree) : Type 0 where
@@ -195,11 +185,11 @@ module _ (u : UnitText) (b : BlockText) (e0 : RegionEdge) (more : List RegionEdg
           let m = phi-term ty operands h' in
           let z = h' x a in
           let w = phi-operand operands x z.0 z.1 in
-          let o : IsOf u ty w.name = named-type u ty x.from operands w.name row.1 w.is in
+          let o : IsOf u ty w.name = edge-is u ty x.from operands w.name row.1 w.is in
           let value-of : (e : RegionEdge) → Among e es → taken past now p n e ≡ true → (v : Tree) → phi_on operands e ≡ Some v
           → option_and_then (datum_at held) (edge_from from operands) ≡ Some (mean past now v) = λ e c g v k'.
           let y = phi-operand operands e v k' in
-          let oy : IsOf u ty y.name = named-type u ty e.from operands y.name row.1 y.is in
+          let oy : IsOf u ty y.name = edge-is u ty e.from operands y.name row.1 y.is in
           ap (option_and_then (datum_at held)) (ap (λ f. edge_from f operands) (sym (h e c g).0) ∙ y.is) ∙ datum-shown u (mean past now) r e.known held (h e c g).1 y.name ty v oy y.known in
           let there = value-of x a t z.0 z.1 in
           let same : mean past now m.0 ≡ mean past now z.0 = merged-by-means past now p n (phi_on operands) es x a t (join-conditions u b e0 more j) ty (λ e c v k'. subst (IsOfType ty)

@@ -11,7 +11,7 @@ use Rattle.lh_unit.specs.Named.{block_of}
 use Rattle.lh_unit.specs.Held.{Env}
 use Rattle.lh_unit.specs.Within.{Each}
 use Rattle.lh_unit.specs.Activation as machine
-use Rattle.lh_unit.specs.Activation.{Scene, Stand, ProcessState, Activated, activate, control_at, start_point, run, phis_taken, entered}
+use Rattle.lh_unit.specs.Activation.{Scene, ProcessState, Activated, activate, control_at, start_point, run, phis_taken, entered}
 use Rattle.lh_inlined.specs.Formed.{IsFormed}
 use Rattle.lh_flat.specs.Flat.{FlatBlockText, FlatText, with_merge, flat_unit}
 use Rattle.lh_term.specs.Tree.{Tree, past_of, now_of}
@@ -44,10 +44,10 @@ use Rattle.lh_rows.proofs.Walk.{stood, headed}
 use Rattle.lh_rows.proofs.Activations as Activations
 use Rattle.lh_rows.proofs.Activations.{more-steps}
 
-past-typed : (p : Part) → IsData p.ty → IsOfType p.ty (past_of p)
+pub past-typed : (p : Part) → IsData p.ty → IsOfType p.ty (past_of p)
 past-typed p d = record { typed = d; type = refl }
 
-now-typed : (p : Part) → IsData p.ty → IsOfType p.ty (now_of p)
+pub now-typed : (p : Part) → IsData p.ty → IsOfType p.ty (now_of p)
 now-typed p d = record { typed = d; type = refl }
 
 -- a way that waits for a block

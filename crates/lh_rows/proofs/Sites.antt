@@ -12,11 +12,11 @@ use Rattle.lh_unit.specs.Places.{InstPlaceText, places_in, places_from, places, 
 use Rattle.lh_unit.specs.Typing.{value_type, result_type}
 use Rattle.lh_unit.specs.WellFormed.{labels_named}
 use Rattle.lh_unit.specs.Within.{Each}
+use Rattle.lh_unit.proofs.Lists.{Each-zip}
 use Rattle.lh_unit.specs.declared.inst.UnitKind.TheVariants as kind
 use Rattle.lh_formed.specs.Defined.{OperandsThere}
 use Rattle.lh_formed.specs.KindsOf.{HasTypeOfKind}
 use Rattle.lh_formed.specs.Shape.{EndsOnce}
-use Rattle.lh_formed.proofs.Bools.{each_both}
 use Rattle.lh_eval.specs.Sound.{InstIsSound}
 use Rattle.lh_formed.proofs.EachItem.{each-split}
 use Rattle.lh_formed.proofs.AtPlaces.{place-at, in-block}
@@ -123,7 +123,7 @@ LineGood u l = InstIsSound u l × IsFirst u.args (lines_of u.blocks) l
 pub good-lines : (u : UnitText) → IsFormed u → (i : ℕ) (b : BlockText) → slice_get u.blocks i ≡ Some b → Each (LineGood u) b.lines
 good-lines u f i b q =
     let new : results_repeat u.args [] (lines_of u.blocks) ≡ false = f.new_results in
-    each_both (InstIsSound u) (IsFirst u.args (lines_of u.blocks)) (LineGood u) (λ x a c. (a, c)) b.lines (block-lines (InstIsSound u) u.blocks i b f.lines q)
+    Each-zip (InstIsSound u) (IsFirst u.args (lines_of u.blocks)) (LineGood u) (λ x a c. (a, c)) b.lines (block-lines (InstIsSound u) u.blocks i b f.lines q)
     (block-lines (IsFirst u.args (lines_of u.blocks)) u.blocks i b (each-first u.args (lines_of u.blocks) [] (lines_of u.blocks) refl new) q)
 
 -- ---- what is there

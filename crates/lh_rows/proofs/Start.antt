@@ -4,7 +4,7 @@ use Rattle.std.specs.Bool.{if◌then◌else◌}
 use Rattle.std.specs.Prelude.{slice_get}
 use Rattle.std.specs.List.{list_any}
 use Rattle.std.specs.Option.{option_map, option_map_or}
-use Rattle.std.proofs.lemmas.Bool.{false≢true}
+use Rattle.std.proofs.lemmas.Bool.{false≢true, or_parts}
 use Rattle.std.proofs.lemmas.Bool.Decides.{nat_tests}
 use Rattle.std.proofs.lemmas.Option.{same_Some, none-some}
 use Rattle.lh_types.specs.Types.{TypeTree, signal_type, bit_count}
@@ -30,6 +30,7 @@ use Rattle.lh_sound.specs.Ranges.{RangesFit, arg_types}
 use Rattle.lh_sound.specs.Units.{IsPort}
 use Rattle.lh_sound.proofs.FindingStatic.{result-is}
 use Rattle.lh_inlined.specs.Formed.{IsFormed}
+use Rattle.lh_inlined.proofs.Tidying.{seen-once}
 use Rattle.lh_flat.specs.Flat.{FlatBlockText, FlatText, with_merge, flat_unit}
 use Rattle.lh_term.specs.Tree.{Tree, constant}
 use Rattle.lh_term.specs.Make.{bit_of}
@@ -53,9 +54,9 @@ use Rattle.lh_formed.specs.Operands.{IsOf}
 use Rattle.lh_formed.proofs.There.{last-leads}
 use Rattle.lh_sound.proofs.NamedOnce.{giving-lines}
 use Rattle.lh_rows.proofs.Labels.{block-text, block-labelled}
-use Rattle.lh_rows.proofs.Heads.{or-false, seen-apart, define-last, ConstantOf, constants-case, constants-stay, constants-known, arguments-case, arguments-known, argument-of, head-behind, entry-plain, NoPhis, no-phis, no-phis-known}
+use Rattle.lh_rows.proofs.Heads.{define-last, ConstantOf, constants-case, constants-stay, constants-known, arguments-case, arguments-known, argument-of, head-behind, entry-plain, NoPhis, no-phis, no-phis-known}
 
-const-same : (d d' : Datum) → const_text d ≡ const_text d' → d ≡ d'
+pub const-same : (d d' : Datum) → const_text d ≡ const_text d' → d ≡ d'
 const-same d d' e = cc
 
 -- a number that a label has is that of a block
@@ -96,7 +97,7 @@ pub args-held : (seen : List ArgText) (e : Env) (i : ℕ) (xs : List ArgText) (r
 args-held seen e i [] rs all w n p new fit ports at q = absurd (none-some p q)
 args-held seen e i (a ∷ xs) [] all w n p new fit ports at q = absurd fit
 args-held seen e i (a ∷ xs) (r ∷ rs) all w n p new fit ports at q =
-    let z = or-false (args_define a.name seen) (args_repeat (seen ++ a ∷ []) xs) new in
+    let z = or_parts (args_define a.name seen) (args_repeat (seen ++ a ∷ []) xs) new in
     by (same_name a.name n) refl q z.1 (args-held (seen ++ a ∷ []) (with_held e a.name (part_held r)) (i + 1) xs rs all w n p z.1 fit.2 ports.1 (λ j. at (suc j) ∙ ap (slice_get all) (later i j)))
   where
     later : (i j : ℕ) → i + suc j ≡ (i + 1) + j
@@ -113,7 +114,7 @@ args-held seen e i (a ∷ xs) (r ∷ rs) all w n p new fit ports at q =
         let t = ports.0.0 in
         let c : carried a.ty ≡ Some t = ap carried ports.0.1 in
         let same : whole_argument i t ≡ p = same_Some (whole_argument i t) p (sym (ap (option_map (whole_argument i)) c) ∙ f) in
-        let apart : args_define n xs ≡ false = seen-apart n (seen ++ a ∷ []) xs u (define-last n seen a m) in
+        let apart : args_define n xs ≡ false = seen-once n (seen ++ a ∷ []) xs u (define-last n seen a m) in
         let here : slice_get all i ≡ Some r = ap (slice_get all) (zero-more i) ∙ sym (at 0) in
         let low : r.lo ≡ lowest_bit all i + 0 = (zero-more r.lo ∙ ap (λ x. x + 0) (sym (ap (λ o. option_map_or (λ (y : Range). y.lo) o 0) here))) in
         let len : r.len ≡ bit_count t = fit.0 ∙ ap bit_count ports.0.1 in

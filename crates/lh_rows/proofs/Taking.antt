@@ -52,6 +52,8 @@ use Rattle.lh_rows.proofs.Merging.{one, and-condition, and-one}
 use Rattle.lh_rows.proofs.Operations.{term-type, value-known, cell-known, part-known, HasType, operands-typed, operation-typed, operation-known, PartStep}
 use Rattle.lh_rows.proofs.Knowing.{constant-typed, GivenTyped, known-typed, given-typed, known-stays, given-stays, given-known, there-past}
 use Rattle.lh_rows.proofs.Steps.{More, no-more, one-more, RegionOf, Under, EdgeRight, EndRight, DriveRight}
+use Rattle.lh_rows.proofs.Edges.{value-no-void}
+use Rattle.lh_rows.proofs.Start.{const-same}
 
 -- ---- conditions
 
@@ -70,12 +72,6 @@ pub step-first : (o : Op) (s : Step) (os : List OperandText) → step_of o ≡ S
 step-first (op.Extf k) s os q = refl
 step-first (op.Exts at len) s os q = refl
 step-first o s os q = absurd (none-some s q)
-
-const-same : (d d' : Datum) → const_text d ≡ const_text d' → d ≡ d'
-const-same d d' e = cc
-
-no-void : (t : TypeTree) → is_value_type t ≡ true → t ≡ void_type → ⊥
-no-void t v e = let q : is_value_type void_type ≡ true = sym (ap is_value_type e) ∙ v in false≢true q
 
 -- ---- operands
 
@@ -291,7 +287,7 @@ module _ (u : UnitText) (g : Region) (r : RegionOf u g) (i : ℕ) (b : FlatBlock
     pub var-known : (a : OperandText) → RowIs u (var_text a) → Operands (var_text a) → (t : TypeTree) × (v : Tree) × (a.ty ≡ Some t) × (value_known m.known a.value ≡ Some v) × IsOfType t v
         × IsOf u t a.value × (is_value_type t ≡ true)
     var-known a row k =
-        let v = value-known u m.known typed a.value row.0 row.2.1 row.1 (named-known a.value row.0 row.2.1 (no-void row.0 row.1) k.0) in
+        let v = value-known u m.known typed a.value row.0 row.2.1 row.1 (named-known a.value row.0 row.2.1 (value-no-void row.0 row.1) k.0) in
         (row.0, v.0, row.2.0, v.1, v.2, row.2.1, row.1)
 
     pub var-took : (a : OperandText) → l.inst ≡ var_text a → RowIs u (var_text a) → Operands (var_text a) → Took before l m (takes g h (var_text a) l.result m)
@@ -342,7 +338,7 @@ module _ (u : UnitText) (g : Region) (r : RegionOf u g) (i : ℕ) (b : FlatBlock
     st-known to value row k =
         let c = cell-known u m.known typed to.value row.0 row.1.1 (named-known to.value (pointer_type row.0) row.1.1 (λ z. cc) k.0) in
         let i : is_value_type row.0 ≡ true = ap is_value_type (sym c.2.type) ∙ term-type c.0 c.2.typed in
-        let v = value-known u m.known typed value row.0 row.2 i (named-known value row.0 row.2 (no-void row.0 i) k.1.0) in
+        let v = value-known u m.known typed value row.0 row.2 i (named-known value row.0 row.2 (value-no-void row.0 i) k.1.0) in
         (row.0, c.0, v.0, c.1, v.1, v.2, row.1.1, row.2)
 
     pub same-took : (m1 : Midst) → m1.known ≡ m.known → ((t : TypeTree) → (t ≡ void_type → ⊥) → result_type l.inst ≡ Some t → ⊥) → More (EdgeRight u g h) m.edges m1.edges

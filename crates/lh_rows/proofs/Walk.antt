@@ -2,7 +2,7 @@
 use Rattle.std.proofs.Common.{◌≡◌, ◌⊎◌, inl, inr, ⊎_elim, ℕ, ◌+◌, ◌≤◌, suc, List, [], ◌∷◌, ◌++◌, length, Bool, true, false, Option, Some, None, refl, ap, sym, ◌∙◌, subst, append_assoc, arith}
 use Rattle.std.specs.Prelude.{slice_get}
 use Rattle.std.proofs.lemmas.Bool.{false≢true}
-use Rattle.std.proofs.lemmas.Option.{same_Some}
+use Rattle.std.proofs.lemmas.Option.{same_Some, slice_get_within}
 use Rattle.lh_time.specs.declared.Instant.{Instant}
 use Rattle.lh_types.specs.Wish.{Wish}
 use Rattle.lh_types.specs.declared.part.Range.{Range}
@@ -16,7 +16,6 @@ use Rattle.lh_term.specs.Tree.{Tree}
 use Rattle.lh_term.specs.Mean.{Valuation, IsFitting, mean}
 use Rattle.lh_term.specs.Make.{bit_of}
 use Rattle.lh_term.specs.declared.part.Part.{Part}
-use Rattle.lh_term.proofs.Arenas.{get_within}
 use Rattle.lh_rows.specs.Known.{Knowledge}
 use Rattle.lh_rows.specs.Rows.{Drive, enters_head, RegionEnd, Rows}
 use Rattle.lh_rows.specs.Joins.{RegionPlace, RegionEdge, any_taken, known_at}
@@ -421,7 +420,7 @@ module _ (u : UnitText) (g : Region) (r : RegionOf u g) (s : Scene) (args : List
 
       further : (k : ℕ) (d : FlatBlockText) → BlockAt g.blocks k d → (next_place q k).turns ≤ max_turns → Among (next_place q k) ps
       further k d bat turns = later-behind before q ps sorted (next_place q k)
-          (subst (Among (next_place q k)) (sym all) (place-among (length g.blocks) (next_place q k) turns (get_within g.blocks k d bat.at))) (next-later q (next_place q k) refl)
+          (subst (Among (next_place q k)) (sym all) (place-among (length g.blocks) (next_place q k) turns (slice_get_within g.blocks k d bat.at))) (next-later q (next_place q k) refl)
 
       skipped : (c1 : Course) → Passed c c1 → Among a.place ps → ((b : Live ps c1) (w : Wish) (o : List Bool) → Result (live_point ps c1 b w o) c1 c') → Result (live_point (q ∷ ps) c a w o) c c'
       skipped c1 x k go = result-after (live_point (q ∷ ps) c a w o) c c1 c' x (go (live-after q ps c c1 x a k) w o)
@@ -474,4 +473,4 @@ module _ (u : UnitText) (g : Region) (r : RegionOf u g) (s : Scene) (args : List
       let ps = all_places (length g.blocks) in
       let ran = treat ps q blk bat (bit_of true) (bit-condition true) e0 more j no_course refl (λ y z t k. z) (λ y z t. z) from before held a ph w o in
       ran-result ps q blk bat (bit_of true) (bit-condition true) e0 more j no_course x.course c' x.done f1 x.there
-      (λ k d at turns. place-among (length g.blocks) (next_place q k) turns (get_within g.blocks k d at.at)) (walk [] ps refl x.course c' f1 x.there) held w o ran
+      (λ k d at turns. place-among (length g.blocks) (next_place q k) turns (slice_get_within g.blocks k d at.at)) (walk [] ps refl x.course c' f1 x.there) held w o ran

@@ -18,6 +18,7 @@ use Rattle.lh_rows.specs.Regions.{lines_at, head_of, known_first, edge_into, edg
 use Rattle.lh_rows.specs.Adjacent.{drive_merged}
 use Rattle.lh_rows.specs.Typed.{IsOfType}
 use Rattle.lh_rows.proofs.Courses.{stops-not}
+use Rattle.lh_rows.proofs.Second.{past-typed, now-typed}
 use Rattle.lh_shape.specs.Merging.{are_alike, merged_from, merged_drives}
 use Rattle.lh_shape.specs.Reasons.{parts_waited, second_drives}
 use Rattle.lh_shape.specs.Shapes.{ShapeText, comb, edge, once, left, edge_row, shape_of_text}
@@ -68,12 +69,6 @@ merged-fine [] h = tt
 merged-fine (d ∷ ds) h = from-fine d ds h.0 h.1
 
 -- ---- regions
-
-past-typed : (p : Part) → IsData p.ty → IsOfType p.ty (past_of p)
-past-typed p d = record { typed = d; type = refl }
-
-now-typed : (p : Part) → IsData p.ty → IsOfType p.ty (now_of p)
-now-typed p d = record { typed = d; type = refl }
 
 at-fine : (bs : List FlatBlockText) (k : ℕ) → Each BlockFine bs → Each LineFine (lines_at bs k)
 at-fine [] k h = tt

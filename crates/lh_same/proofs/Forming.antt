@@ -13,6 +13,7 @@ use Rattle.lh_unit.specs.Within.{Each}
 use Rattle.lh_unit.proofs.Within.{Each-more}
 use Rattle.lh_spelled.specs.Printable.{IsPrintable, IsPrintableItem}
 use Rattle.lh_spelled.specs.Laws.{IsSpelledAlone, units_repeat, SpelledApart, SpelledTogether, PrintableIsSpelled, SpelledIsPrintable}
+use Rattle.lh_spelled.proofs.Units.{defines_unit-append}
 use Rattle.lh_alike.specs.Formed.{FlatTextsAreFormed}
 use Rattle.lh_emission.specs.Laws.{CombIsRight, EdgeIsRight, OnceIsRight}
 use Rattle.lh_lowered.specs.Lowering.{Outcome, becomes, stays, outcome_in, in_place, lowered_as, lowered_item, lowered}
@@ -32,15 +33,10 @@ or-three : (a b c d : Bool) → d ≡ (b || c) → (a || d) ≡ ((a || b) || c)
 or-three true b c d e = refl
 or-three false b c d e = e
 
-defines-both : (n : UnitName) (xs ys : List ItemText) → defines_unit n (xs ++ ys) ≡ (defines_unit n xs || defines_unit n ys)
-defines-both n [] ys = refl
-defines-both n (declare_text d ∷ xs) ys = defines-both n xs ys
-defines-both n (unit_text u ∷ xs) ys = or-three (same_unit_name u.name n) (defines_unit n xs) (defines_unit n ys) (defines_unit n (xs ++ ys)) (defines-both n xs ys)
-
 one-more : (n : UnitName) (seen seen' : List ItemText) (i j : ItemText) → defines_unit n seen ≡ defines_unit n seen' → defines_unit n (i ∷ []) ≡ defines_unit n (j ∷ [])
     → defines_unit n (seen ++ i ∷ []) ≡ defines_unit n (seen' ++ j ∷ [])
 one-more n seen seen' i j e f =
-    defines-both n seen (i ∷ []) ∙ ap (λ b. b || defines_unit n (i ∷ [])) e ∙ ap (λ b. defines_unit n seen' || b) f ∙ sym (defines-both n seen' (j ∷ []))
+    defines_unit-append n seen (i ∷ []) ∙ ap (λ b. b || defines_unit n (i ∷ [])) e ∙ ap (λ b. defines_unit n seen' || b) f ∙ sym (defines_unit-append n seen' (j ∷ []))
 
 module _ (items : List ItemText) where
   repeat-same : (seen seen' more : List ItemText) → Each IsPrintableItem more → ((n : UnitName) → defines_unit n seen ≡ defines_unit n seen')

@@ -1,5 +1,5 @@
 -- The units of a module by their places, and what is emitted for a process.
-use Rattle.std.proofs.Common.{◌≡◌, ℕ, suc, ◌<◌, List, [], ◌∷◌, Option, Some, None, slice_get, refl, ap}
+use Rattle.std.proofs.Common.{◌≡◌, ℕ, ◌<◌, List, Option, Some, None, slice_get, refl, ap}
 use Rattle.lh_unit.specs.declared.inst.Item.{Item}
 use Rattle.lh_unit.specs.declared.inst.Item.TheVariants as item
 use Rattle.lh_unit.specs.declared.inst.UnitKind.{UnitKind}
@@ -8,6 +8,7 @@ use Rattle.lh_unit.specs.Arena.{Arena, IsArena, unit_count}
 use Rattle.lh_unit.specs.Contents.{UnitText, ItemText}
 use Rattle.lh_unit.specs.Naming.{kind_text}
 use Rattle.lh_unit.specs.Within.{Each}
+use Rattle.lh_unit.proofs.Lists.{Each-from}
 use Rattle.lh_flat.specs.Flat.{FlatText, Flattened, refused, flattened, flat_of, flat_unit}
 use Rattle.lh_shape.specs.Shapes.{ShapeText, comb, edge, once, left, shape_of_text}
 use Rattle.lh_emission.specs.Entities.{Emission, too_large, emits, comb_emission, edge_emission, once_emission}
@@ -19,17 +20,13 @@ use Rattle.lh_stand.specs.Stands.{IsEmittedFor}
 
 -- ---- units by their places
 
-each-item : {X : Type 0} (P : X → Type 0) (xs : List X) → ((i : ℕ) (x : X) → slice_get xs i ≡ Some x → P x) → Each P xs
-each-item P [] h = tt
-each-item P (x ∷ xs) h = (h 0 x refl, each-item P xs (λ i y e. h (suc i) y e))
-
 -- the unit of an item is there
 abbrev pub ItemPlaced : Arena → Item → Type 0
 ItemPlaced a (item.Unit u) = u.0 < unit_count a
 ItemPlaced a (item.Declare d) = Unit {0}
 
 pub items-placed : (a : Arena) → IsArena a → Each (ItemPlaced a) a.items
-items-placed a o = each-item (ItemPlaced a) a.items by
+items-placed a o = Each-from (ItemPlaced a) a.items by
   where
     by : (i : ℕ) (x : Item) → slice_get a.items i ≡ Some x → ItemPlaced a x
     by i (item.Unit u) e = o.items_within i u e

@@ -1,5 +1,5 @@
 -- Times that can be written: what an operation gives of values has no others than the values.
-use Rattle.std.proofs.Common.{◌≡◌, inl, inr, ℕ, zero, suc, ◌<◌, ◌+◌, ◌^◌, List, [], ◌∷◌, ◌++◌, take, drop, replicate, Option, Some, None, arith}
+use Rattle.std.proofs.Common.{ℕ, zero, suc, ◌+◌, List, [], ◌∷◌, ◌++◌, take, drop, replicate, Option, Some, None}
 use Rattle.std.specs.Prelude.{slice_set, slice_index_or}
 use Rattle.lh_types.specs.Values.{Datum, DatumRow, int_value, time_value, array_value, tuple_value, no_values, more_values, data_row}
 use Rattle.lh_types.specs.Parts.{parts_of, part_by, with_part}
@@ -12,10 +12,10 @@ use Rattle.lh_types.specs.declared.op.Op.TheVariants.{Eq, Neq, Shl, Shr, Mux, Ex
 use Rattle.lh_unit.specs.Contents.{InstText, const_text, LineText}
 use Rattle.lh_unit.specs.Lexemes.{Lexeme}
 use Rattle.lh_unit.specs.SpellsInst.{SpellsInst, SpellsLine}
-use Rattle.lh_unit.specs.SpellsNumbers.{SpellsSteps}
 use Rattle.lh_unit.specs.Within.{Each}
 use Rattle.lh_unit.proofs.Lists.{Each-append}
 use Rattle.lh_emission.specs.Printed.{IsWritable}
+use Rattle.lh_spelled.proofs.Numbers.{steps-below}
 
 -- ---- the times in a value
 
@@ -145,10 +145,6 @@ apply-written Tuple vs h = row-written vs h
 apply-written o vs h = integer-written o vs
 
 -- ---- what is spelled
-
-steps-below : (letter n : ℕ) (ts more : List Lexeme) → SpellsSteps letter n ts more → n < 2 ^ 31
-steps-below letter n ts more (inl h) = let e : n ≡ 0 = h.0 in omega (arith, e)
-steps-below letter n ts more (inr h) = h.3
 
 -- the constants of an instruction can be written
 abbrev pub InstFine : InstText → Type 0

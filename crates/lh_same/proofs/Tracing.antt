@@ -1,5 +1,5 @@
 -- The lowered module has the same trace: item by item its units are the module's, or may stand for them.
-use Rattle.std.proofs.Common.{◌≡◌, ◌⊎◌, inl, inr, ℕ, ◌<◌, ◌≤◌, ◌+◌, List, [], ◌∷◌, map, length, Some, refl, arith}
+use Rattle.std.proofs.Common.{◌≡◌, ◌⊎◌, inl, inr, ℕ, ◌<◌, List, [], ◌∷◌, map, Some, refl, le_trans}
 use Rattle.lh_unit.specs.declared.inst.Item.{Item}
 use Rattle.lh_unit.specs.declared.inst.Item.TheVariants as item
 use Rattle.lh_unit.specs.declared.inst.UnitKind.{UnitKind}
@@ -10,8 +10,6 @@ use Rattle.lh_unit.specs.Trace.{max_instructions}
 use Rattle.lh_unit.specs.Within.{Each}
 use Rattle.lh_unit.specs.World.{Rules, rules_of}
 use Rattle.lh_meaning.specs.Replacing.{MayStand, AllStand, units_defined, ReplacedSameTrace}
-use Rattle.lh_rows.specs.Laws.{max_steps}
-use Rattle.lh_rows.specs.Regions.{lines_at}
 use Rattle.lh_lowered.specs.Lowering.{Outcome, becomes, stays, outcome_in, in_place, lowered_as, lowered_item, lowered}
 use Rattle.lh_lowered.specs.declared.report.Kind.{Kind}
 use Rattle.lh_stand.specs.Stands.{IsFlattened, LoweredStands, MaxIsEnough}
@@ -55,8 +53,5 @@ module _ (stands : LoweredStands) (replaced : ReplacedSameTrace) where
   pub same-trace : MaxIsEnough → LoweredSameTrace
   same-trace most a s = same-trace-within a max_instructions s (λ u t f. most a u t f)
 
-larger : (n m bound : ℕ) → n ≤ m → m ≤ bound → n ≤ bound
-larger n m bound h k = omega (arith, h, k)
-
 pub large-is-enough : MaxIsEnough → LargeIsEnough
-large-is-enough most a bound h u t f = larger ((max_steps + max_steps) + length (lines_at t.blocks 0)) max_instructions bound (most a u t f) h
+large-is-enough most a bound h u t f = le_trans (most a u t f) h

@@ -1,5 +1,5 @@
 -- Digits before and behind a point, and what they say together.
-use Rattle.std.proofs.Common.{◌≡◌, ℕ, ◌+◌, ◌-◌, ◌*◌, ◌<◌, ◌≤◌, zero, suc, Bool, true, false, List, [], ◌∷◌, ◌++◌, length, Some, None, nat_eq, nat_le, refl, ap, sym, ◌∙◌, subst, arith}
+use Rattle.std.proofs.Common.{◌≡◌, ℕ, ◌+◌, ◌-◌, ◌*◌, ◌<◌, ◌≤◌, zero, suc, Bool, true, false, List, [], ◌∷◌, ◌++◌, length, Some, None, nat_eq, nat_le, refl, ap, sym, ◌∙◌, subst, arith, eq-eqb}
 use Rattle.std.specs.Prelude.{◌^◌, if◌then◌else◌}
 use Rattle.std.proofs.Math.Nat.{pow-suc, one-le-pow, mul-le-mul_right}
 use Rattle.std.proofs.lemmas.Grind.{common_steps}
@@ -70,9 +70,6 @@ record Rest (n m : ℕ) (bs : List ℕ) : Type 0 where
   few : left < 10 ^ length bs
   none : left ≡ 0 → all_zero bs ≡ true
 
-equal : (x y : ℕ) → x ≡ y → nat_eq x y ≡ true
-equal x y h = grind (arith, common_steps)
-
 both_zero : (d l r : ℕ) → 1 ≤ l → d * l + r ≡ 0 → (d ≡ 0) × (r ≡ 0)
 both_zero zero l r h e = (refl, omega (arith, e))
 both_zero (suc d) l r h e = absurd (omega (arith, e))
@@ -83,7 +80,7 @@ rest_step n m b l bs d r e =
     let lo : nat_le 48 b ≡ true = t.0 in let hi : nat_le b 57 ≡ true = t.1 in
     let lo_b : 48 ≤ b = grind (arith, common_steps) in let hi_b : b ≤ 57 = grind (arith, common_steps) in
     let p = pow-suc 10 (length bs) in
-    let is_zero : b ≡ 48 → nat_eq b 48 ≡ true = λ h. equal b 48 h in
+    let is_zero : b ≡ 48 → nat_eq b 48 ≡ true = λ h. eq-eqb b 48 h in
     let nine : (b - 48) * l ≤ 9 * l = mul-le-mul_right l (omega arith) in
     let one : 1 ≤ l = subst (λ x. 1 ≤ x) (sym e) (one-le-pow (length bs) 10 (omega arith)) in
     record {

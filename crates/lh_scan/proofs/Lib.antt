@@ -8,7 +8,6 @@ pub mod Runs
 pub mod DataTypes
 pub mod SpelledLists
 pub mod SpelledNumbers
-pub mod TypeFaults
 pub mod TypeStarts
 pub mod SpelledTypes
 pub mod Decimals

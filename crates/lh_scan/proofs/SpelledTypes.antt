@@ -14,12 +14,13 @@ use Rattle.lh_unit.specs.Numerals.{number_of}
 use Rattle.lh_unit.specs.SpellsTypes.{SpellsTree, SpellsRow, SpellsType}
 use Rattle.lh_unit.specs.SpellsParts.{SpellsParts}
 use Rattle.lh_unit.specs.Typing.{if_made}
+use Rattle.lh_unit.proofs.Lists.{if_made-is}
 use Rattle.lh_scan.specs.Pieces.{◌>>=◌, word_at, punct_at, small, small_number, parts_at}
 use Rattle.lh_scan.specs.Numbers.{number_at}
 use Rattle.lh_scan.specs.Types.{followed, width_of, int_width, int_before, array_in, tuple_in, marked_in, data_in, data_at, base_or, base_at, suffix_or, suffix_at, type_at, no_suffix}
 use Rattle.lh_scan.specs.Shorter.{bind_some}
 use Rattle.lh_scan.proofs.Pieces.{word_at-inv, punct_at-inv, small-inv, small-below}
-pub use Rattle.lh_scan.proofs.TypeFaults.{four_none, is_data-yes, all_data-yes, array-sound, array-again, tuple-sound, tuple-again, data_limited, limited_data, fault_none, pointed_limited, pointed_data}
+pub use Rattle.lh_types.proofs.TypeFaults.{four_none, is_data-yes, all_data-yes, array-sound, array-again, tuple-sound, tuple-again, data_limited, limited_data, fault_none, pointed_limited, pointed_data}
 use Rattle.lh_scan.proofs.SpelledNumbers.{number_at-sound, number_at-again}
 use Rattle.lh_scan.proofs.SpelledLists.{parts_at-sound, parts_at-again}
 
@@ -27,17 +28,12 @@ use Rattle.lh_scan.proofs.SpelledLists.{parts_at-sound, parts_at-again}
 abbrev pub SpellsData : TypeTree → List Lexeme → List Lexeme → Type 0
 SpellsData t ts more = SpellsTree t ts more × IsData t
 
--- a type and what follows it
-if_made-inv : (o : Option TyFault) (t u : TypeTree) → if_made o t ≡ Some u → (o ≡ None) × (t ≡ u)
-if_made-inv None t u p = (refl, cc)
-if_made-inv (Some e) t u p = cc
-
 followed-inv : (o : Option TypeTree) (ts : List Lexeme) (r : TypeTree × List Lexeme) → followed o ts ≡ Some r → (o ≡ Some r.0) × (ts ≡ r.1)
 followed-inv None ts r p = cc
 followed-inv (Some t) ts r p = (cc, cc)
 
 made_inv : (o : Option TyFault) (t : TypeTree) (ts : List Lexeme) (r : TypeTree × List Lexeme) → followed (if_made o t) ts ≡ Some r → (o ≡ None) × ((t, ts) ≡ r)
-made_inv o t ts r p = let f = followed-inv (if_made o t) ts r p in let g = if_made-inv o t r.0 f.0 in (g.0, λ i. (g.1 i, f.1 i))
+made_inv o t ts r p = let f = followed-inv (if_made o t) ts r p in let g = if_made-is o t r.0 f.0 in (g.0, λ i. (g.1 i, f.1 i))
 
 made_again : (o : Option TyFault) (t : TypeTree) (ts : List Lexeme) → o ≡ None → followed (if_made o t) ts ≡ Some (t, ts)
 made_again o t ts e = ap (λ x. followed (if_made x t) ts) e

@@ -2,6 +2,7 @@
 use Rattle.std.proofs.Common.{◌≡◌, List, [], ◌∷◌, ◌++◌, map, Bool, true, false, not, ◌||◌, Option, Some, None, Result, Ok, Err, refl, ap, sym, ◌∙◌, subst, append_assoc}
 use Rattle.std.specs.Bool.{if◌then◌else◌}
 use Rattle.std.specs.List.{list_any}
+use Rattle.std.proofs.Math.Bool.{or-false, or-true}
 use Rattle.lh_term.specs.Tree.{Tree}
 use Rattle.lh_term.specs.Arena.{trees, tree_at, IsIn, Grows}
 use Rattle.lh_term.specs.declared.part.Part.{Part}
@@ -65,14 +66,6 @@ rows-push ns (s ∷ rs) [] r x h k = absurd h
 rows-push ns (s ∷ rs) (y ∷ ys) r x h k = (h.0, rows-push ns rs ys r x h.1 k)
 
 -- ---- lists
-
-or-false : (b : Bool) → b || false ≡ b
-or-false true = refl
-or-false false = refl
-
-or-true : (b : Bool) → b || true ≡ true
-or-true true = refl
-or-true false = refl
 
 any-push : (f : text.Drive → Bool) (xs : List text.Drive) (x : text.Drive) → list_any f (xs ++ x ∷ []) ≡ list_any f xs || f x
 any-push f [] x = or-false (f x)

@@ -1,21 +1,20 @@
 -- The calls that merge drives.
-use Rattle.std.proofs.Common.{◌≡◌, List, [], ◌∷◌, ◌++◌, length, Bool, true, false, ◌&&◌, not, nat_lt, refl, ap, sym, ◌∙◌, subst, append_assoc}
+use Rattle.std.proofs.Common.{◌≡◌, List, [], ◌∷◌, ◌++◌, Bool, true, false, not, refl, ap, sym, ◌∙◌, subst, append_assoc}
 use Rattle.std.specs.Bool.{if◌then◌else◌}
 use Rattle.std.specs.List.{list_any, filter}
+use Rattle.std.proofs.Math.Bool.{and-true}
 use Rattle.lh_unit.specs.Within.{Each}
 use Rattle.lh_types.specs.Types.{int_type}
 use Rattle.lh_types.specs.declared.op.Op.TheVariants.{Or}
-use Rattle.lh_types.specs.Same.{and_both}
 use Rattle.lh_term.specs.Tree.{Tree}
 use Rattle.lh_term.specs.Types.{type_of, Chooses}
 use Rattle.lh_term.specs.SameTree.{same_tree}
 use Rattle.lh_term.specs.Make.{make_operation, make_choice}
 use Rattle.lh_term.specs.Conjuncts.{conjuncts_of}
-use Rattle.lh_term.specs.Arena.{trees, tree_at, trees_at, ids_below, AreIn, StandsForTree, Grows}
+use Rattle.lh_term.specs.Arena.{trees, tree_at, trees_at, AreIn, StandsForTree, Grows}
 use Rattle.lh_term.specs.declared.part.Part.{Part}
 use Rattle.lh_term.specs.declared.term.Node.{Node}
 use Rattle.lh_term.specs.declared.term.TermId.{TermId}
-use Rattle.lh_term.proofs.Arenas.{lt_of}
 use Rattle.lh_term.proofs.Swaps.{tree_grown, in_grown, stands_grown, grows_on}
 use Rattle.lh_rows.specs.Rows as text
 use Rattle.lh_rows.specs.Typed.{IsOfType}
@@ -25,6 +24,7 @@ use Rattle.lh_term.proofs.Conditions.{AllBits, conjuncts_are_bits, filter-bits}
 use Rattle.lh_rows.proofs.Merging.{or-condition, made-choice, beyond-condition}
 use Rattle.lh_joins.specs.Joins.{IsConditionAt, edge_on}
 use Rattle.lh_joins.proofs.Conditions.{condition-grown, stands-condition, grows-none}
+use Rattle.lh_joins.proofs.Selecting.{bits-conditions}
 use Rattle.lh_region.specs.Stands.{IsDrive, AreDrives}
 use Rattle.lh_region.specs.declared.rows.DriveRow.{DriveRow}
 use Rattle.lh_region.proofs.Rowing.{drives-grown, drives-push}
@@ -185,22 +185,12 @@ filter-alike : (f g : Tree → Bool) → ((t : Tree) → f t ≡ g t) → (ts : 
 filter-alike f g e [] = refl
 filter-alike f g e (t ∷ ts) = let a = e t in let b = filter-alike f g e ts in λ i. if a i then t ∷ b i else b i
 
-and-true : (b : Bool) → b && true ≡ b
-and-true true = refl
-and-true false = refl
-
 abbrev pub beyond-all : (c d : Tree) → List Tree
 beyond-all c d = filter (λ k. not (list_any (same_tree k) (conjuncts_of c))) (conjuncts_of d)
 
 -- the conjuncts that one edge lacks
 pub one-edge : (c : Tree) (ts : List Tree) → filter (λ k. not (in_each (edge_on c ∷ []) k)) ts ≡ filter (λ k. not (list_any (same_tree k) (conjuncts_of c))) ts
 one-edge c ts = filter-alike (λ k. not (in_each (edge_on c ∷ []) k)) (λ k. not (list_any (same_tree k) (conjuncts_of c))) (λ k. ap not (and-true (list_any (same_tree k) (conjuncts_of c)))) ts
-
-bits-conditions : (ns : List Node) (ts : List TermId) → AreIn ns ts → AllBits (trees_at ns ts) → Each (IsConditionAt ns) ts
-bits-conditions ns [] i b = tt
-bits-conditions ns (t ∷ ts) i b =
-    let p = and_both (nat_lt t.0 (length ns)) (ids_below (length ns) ts) i in
-    (record { is_in = lt_of t.0 (length ns) p.0; cond = record { typed = b.0.typed; type = b.0.type } }, bits-conditions ns ts p.1 b.1)
 
 -- the conjuncts of a condition beyond those of another are conditions
 pub beyond-conditions : (ns : List Node) (c d : TermId) (ts : List TermId) → IsConditionAt ns d → AreIn ns ts → trees_at ns ts ≡ beyond-all (tree_at (trees ns) c) (tree_at (trees ns) d)

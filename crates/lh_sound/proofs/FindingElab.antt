@@ -1,8 +1,8 @@
 -- Elaboration finds what it looks for in an entity.
-use Rattle.std.proofs.Common.{◌≡◌, ◌≤◌, ◌<◌, ℕ, zero, suc, ◌+◌, List, [], ◌∷◌, ◌++◌, length, map, replicate, Bool, true, false, ◌&&◌, ◌||◌, Option, Some, None, IsSome, refl, ap, sym, ◌∙◌, subst, arith}
-use Rattle.std.specs.List.{list_any, Contains}
+use Rattle.std.proofs.Common.{◌≡◌, ◌≤◌, ◌<◌, ℕ, suc, ◌+◌, List, [], ◌∷◌, ◌++◌, length, map, replicate, Bool, true, false, ◌||◌, Option, Some, None, IsSome, refl, ap, sym, ◌∙◌, subst, arith}
+use Rattle.std.specs.List.{list_any}
 use Rattle.std.specs.Option.{option_and_then}
-use Rattle.std.proofs.lemmas.Option.{none-some, same_Some}
+use Rattle.std.proofs.lemmas.Option.{same_Some}
 use Rattle.std.proofs.lemmas.Bool.{false_from_ne_true, or_parts}
 use Rattle.std.proofs.lemmas.List.{length-append, length-replicate}
 use Rattle.lh_time.specs.declared.Instant.{Instant}
@@ -16,7 +16,7 @@ use Rattle.lh_unit.specs.Contents.{OperandText, InstText, sig_text, prb_text, ch
 use Rattle.lh_names.specs.Names.{same_name}
 use Rattle.lh_unit.specs.Typing.{value_type}
 use Rattle.lh_unit.specs.Kinds.{Kind, a_datum, a_time, a_signal, a_pointer, kind_of, Use, uses, takes, signal_needed, all_used}
-use Rattle.lh_unit.specs.Held.{Held, part_held, Env, as_datum, nothing_held, with_args, datum_at, part_at}
+use Rattle.lh_unit.specs.Held.{part_held, Env, as_datum, nothing_held, with_args, datum_at, part_at}
 use Rattle.lh_unit.specs.Hierarchy.{lines_of, signal_names, parts_of, with_parts, static_from, static_held}
 use Rattle.lh_unit.specs.Pass.{Passed}
 use Rattle.lh_unit.specs.Places.{InstPlaceText, places_in, places_from, places}
@@ -25,7 +25,7 @@ use Rattle.lh_unit.specs.Naming.{kind_text}
 use Rattle.lh_unit.specs.WellFormed.{Site, sites, values_named, wrong_kind, is_wrong_kind, has_wrong_kind, names_wrong_unit, depends_on_probe, probes_for_signal, IsFaultless, IsWellFormed}
 use Rattle.lh_unit.specs.Within.{Each}
 use Rattle.lh_unit.proofs.Within.{Each-more}
-use Rattle.lh_unit.proofs.Lists.{Each-append}
+use Rattle.lh_unit.proofs.Lists.{Each-append, Each-of-map}
 use Rattle.lh_names.proofs.NameLists.{same_name-is}
 use Rattle.lh_formed.specs.Operands.{IsOf, RowIs}
 use Rattle.lh_formed.specs.KindsOf.{ArgsHaveKinds, HasTypeOfKind}
@@ -33,10 +33,11 @@ use Rattle.lh_formed.proofs.KindsLaw.{operands_have_types}
 use Rattle.lh_formed.proofs.Sound.{site_in, at_site}
 use Rattle.lh_eval.specs.Fitting.{IsValueType, Fits}
 use Rattle.lh_eval.specs.Sound.{InstIsSound}
+use Rattle.lh_eval.proofs.GivesFit.{value-type}
 use Rattle.lh_sound.specs.Ranges.{RangesFit, arg_types, signal_types, InstanceFits}
 use Rattle.lh_sound.specs.Units.{HasItsType, IsPort, HasPorts, SigWritesData, WritesData, UnitIsSound}
 use Rattle.lh_sound.specs.Finding.{PartsFound, InitialFound}
-use Rattle.lh_formed.proofs.EachItem.{each-contained, each-split, each-of-map}
+use Rattle.lh_formed.proofs.EachItem.{each-contained, each-split}
 use Rattle.lh_formed.proofs.AtPlaces.{lines-from}
 use Rattle.lh_sound.proofs.Begins.{nothing-fits}
 use Rattle.lh_sound.proofs.NamedOnce.{IsFirst, each-first}
@@ -48,7 +49,7 @@ use Rattle.lh_sound.proofs.FindingStatic.{OfSignals, static-all-fits, signals-fo
 use Rattle.lh_sound.proofs.FindingValues.{FreeValue, value-held, values-found}
 
 -- a place that takes a signal has one
-signal-of-kind : (t : TypeTree) (k : Kind) → kind_of t ≡ Some k → takes signal_needed k ≡ true → (b : TypeTree) × (t ≡ signal_type b)
+pub signal-of-kind : (t : TypeTree) (k : Kind) → kind_of t ≡ Some k → takes signal_needed k ≡ true → (b : TypeTree) × (t ≡ signal_type b)
 signal-of-kind t a_datum e h = absurd cc
 signal-of-kind t a_time e h = absurd cc
 signal-of-kind t a_pointer e h = absurd cc
@@ -59,15 +60,6 @@ signal-of-kind (tuple_type ts) a_signal e h = absurd cc
 signal-of-kind time_type a_signal e h = absurd cc
 signal-of-kind void_type a_signal e h = absurd cc
 signal-of-kind (pointer_type b) a_signal e h = absurd cc
-
-data-value : (t : TypeTree) → IsData t → IsValueType t
-data-value (int_type n) d = d
-data-value (array_type n t) d = d
-data-value (tuple_type ts) d = d
-data-value time_type d = tt
-data-value void_type d = d
-data-value (signal_type t) d = d
-data-value (pointer_type t) d = d
 
 named-split : (P : List ℕ → Type 0) (xs ys : List Use) → Each P (named_in (xs ++ ys)) → Each P (named_in xs) × Each P (named_in ys)
 named-split P [] ys h = (tt, h)
@@ -101,7 +93,7 @@ module _ (u : UnitText) (now : List Bool) (memory : Option (List Bool)) (t : Ins
       → most ≡ suc (length (places u)) → InitialFound e i
   initial-found most (sig_text a) r row wr h q m =
       let same : wr.0 ≡ row.0 = same_Some wr.0 row.0 (sym wr.1 ∙ row.2.0) in
-      let v : IsValueType row.0 = data-value row.0 (subst IsData same wr.2) in
+      let v : IsValueType row.0 = value-type row.0 (subst IsData same wr.2) in
       let free : depends_on_probe most u a.value ≡ false = ap (λ k. depends_on_probe k u a.value) m ∙ q in
       let x = some-of (e a.value) (h.0 free row.0 row.2.1 v) in
       let d = value-held w x.0 row.0 v (f a.value x.0 row.0 x.1 row.2.1) in
@@ -144,7 +136,7 @@ ToldIn (declare_text d) = Unit {0}
 
 unit-told : (u : UnitText) → Each SiteTold (map (site_in u) (places u)) → UnitTold u
 unit-told u h =
-    let ps : Each (λ p. SiteTold (site_in u p)) (places u) = each-of-map SiteTold (site_in u) (places u) h in
+    let ps : Each (λ p. SiteTold (site_in u p)) (places u) = Each-of-map SiteTold (site_in u) (places u) h in
     record {
       kinds = λ k. lines-from (λ (l : LineText). Each (HasTypeOfKind u) (uses l.inst)) 1 true u.blocks
           (Each-more (λ p. SiteTold (site_in u p)) (λ (p : InstPlaceText). Each (HasTypeOfKind u) (uses p.line.inst)) (places u) (λ p q. q.kinds k) ps);
@@ -195,7 +187,7 @@ ranges-fit [] w h = tt
 ranges-fit (t ∷ ts) w h = (refl, omega (arith, h), ranges-fit ts w (omega (arith, h)))
 
 -- nothing is connected
-parts-of-none : (e : Env) (names : List (Option (List ℕ))) → with_parts e names [] ≡ e
+pub parts-of-none : (e : Env) (names : List (Option (List ℕ))) → with_parts e names [] ≡ e
 parts-of-none e [] = refl
 parts-of-none e (n ∷ names) = refl
 

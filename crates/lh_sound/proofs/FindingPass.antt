@@ -1,14 +1,11 @@
 -- A pass of an entity goes from the parts of its arguments and signals through its instructions, and each finds what it looks for.
-use Rattle.std.proofs.Common.{◌≡◌, ◌⊎◌, inl, inr, ⊎_elim, ℕ, ◌+◌, ◌<◌, List, [], ◌∷◌, ◌++◌, length, map, Bool, true, false, not, ◌&&◌, ◌||◌, if◌then◌else◌, Option, Some, None, IsSome, refl, ap, sym, ◌∙◌, subst}
+use Rattle.std.proofs.Common.{◌≡◌, ◌⊎◌, inl, inr, ⊎_elim, ℕ, ◌+◌, ◌<◌, List, [], ◌∷◌, ◌++◌, length, map, Bool, true, false, not, ◌||◌, if◌then◌else◌, Option, Some, None, IsSome, refl, ap, sym, ◌∙◌, subst}
 use Rattle.std.specs.List.{Contains}
-use Rattle.std.specs.Option.{option_and_then}
 use Rattle.std.proofs.lemmas.Option.{none-some, same_Some}
-use Rattle.std.proofs.lemmas.Bool.{false_from_ne_true}
+use Rattle.std.proofs.lemmas.Bool.{false_from_ne_true, or_left, or_right}
 use Rattle.lh_time.specs.declared.Instant.{Instant}
-use Rattle.lh_time.specs.declared.Delay.{Delay}
-use Rattle.lh_types.specs.Types.{TypeTree, time_type, signal_type, IsData}
-use Rattle.lh_types.specs.Values.{Datum}
-use Rattle.lh_types.specs.Wish.{Wish, no_wish, with_drive}
+use Rattle.lh_types.specs.Types.{TypeTree, IsData}
+use Rattle.lh_types.specs.Wish.{Wish, no_wish}
 use Rattle.lh_types.specs.declared.part.Range.{Range}
 use Rattle.lh_types.specs.declared.op.Op.{Op}
 use Rattle.lh_types.specs.declared.op.Op.TheVariants as op
@@ -19,12 +16,12 @@ use Rattle.lh_names.specs.Names.{same_name}
 use Rattle.lh_unit.specs.Typing.{first_type}
 use Rattle.lh_unit.specs.Kinds.{Use, uses, operation_uses, all_used, step_need, Need, data_needed, time_needed, maybe_used, trigger_uses}
 use Rattle.lh_unit.specs.Held.{Held, datum_held, part_held, Env, nothing_held, with_held, with_result, with_args, datum_at, part_at}
-use Rattle.lh_unit.specs.Effects.{operated, read_bits, probed, condition_at, drive_due, drive_when, driven}
+use Rattle.lh_unit.specs.Effects.{operated, probed, condition_at, drive_when}
 use Rattle.lh_unit.specs.Hierarchy.{lines_of, signal_names, name_if_signal, with_parts, parts_of, if_held}
-use Rattle.lh_unit.specs.Pass.{Passed, delay_of, passes}
+use Rattle.lh_unit.specs.Pass.{Passed, passes}
 use Rattle.lh_unit.specs.Places.{InstPlaceText, places_in, places_from, places}
 use Rattle.lh_unit.specs.WellFormed.{Site, sites, values_named, not_here, is_allowed, IsFaultless}
-use Rattle.lh_unit.specs.SpellsInst.{gives_value, SpellsInst, SpellsLine}
+use Rattle.lh_unit.specs.SpellsInst.{gives_value, SpellsLine}
 use Rattle.lh_unit.specs.Within.{Each}
 use Rattle.lh_unit.proofs.Within.{Each-more}
 use Rattle.lh_unit.specs.Arena.{Arena, IsArena, unit_count, kind_at, contents, unit_text_at}
@@ -33,6 +30,7 @@ use Rattle.lh_unit.specs.WellFormed.{IsWellFormed}
 use Rattle.lh_unit.specs.Lexemes.{Lexeme}
 use Rattle.lh_unit.specs.Pieces.{lexemes_in}
 use Rattle.lh_unit.specs.Spells.{inst_item}
+use Rattle.lh_unit.proofs.Lists.{Each-of-map}
 use Rattle.lh_spelled.specs.ItemLines.{item_line}
 use Rattle.lh_spelled.specs.Printable.{HasInstLine}
 use Rattle.lh_formed.specs.Operands.{RowIs, TriggerIs}
@@ -44,7 +42,7 @@ use Rattle.lh_eval.specs.Fitting.{Fits}
 use Rattle.lh_eval.specs.Sound.{InstIsSound}
 use Rattle.lh_sound.specs.Ranges.{RangesFit, arg_types, signal_types, type_if_signal, InstanceFits}
 use Rattle.lh_sound.specs.Finding.{TriggerFinds, FindsInPass, FindsAll}
-use Rattle.lh_formed.proofs.EachItem.{each-contained, each-split, each-of-map}
+use Rattle.lh_formed.proofs.EachItem.{each-contained, each-split}
 use Rattle.lh_formed.proofs.AtPlaces.{lines-from}
 use Rattle.lh_sound.proofs.SoundLines.{lines-printed}
 use Rattle.lh_sound.proofs.FitLaws.{triggers-hold, keeps-fit, of-unit, unit-is-sound, begins-fit}
@@ -274,13 +272,6 @@ defined-last n (x ∷ before) l h = at (is_result_name n x.result) refl h (defin
     at true e q go = inl (ap (λ b. b || lines_define n before) e)
     at false e q go = ⊎_elim (λ r. inl (ap (λ b. b || lines_define n before) e ∙ r)) (λ r. inr r) (go q)
 
-or-first : (b c : Bool) → b ≡ true → (b || c) ≡ true
-or-first b c e = ap (λ x. x || c) e
-
-or-second : (b c : Bool) → c ≡ true → (b || c) ≡ true
-or-second true c e = refl
-or-second false c e = e
-
 module _ (u : UnitText) where
   -- what is known has the arguments, and the results of these lines
   record KnowsResults (known : KnownNames) (before : List LineText) : Type 0 where
@@ -292,8 +283,8 @@ module _ (u : UnitText) where
 
   knows-more : (known : KnownNames) (before : List LineText) (l : LineText) → KnowsResults known before → KnowsResults (known_after known l) (before ++ l ∷ [])
   knows-more known before l k = record {
-    args = λ n h. or-first (known n) (is_result_name n l.result) (k.args n h);
-    lines = λ n h. ⊎_elim (λ q. or-first (known n) (is_result_name n l.result) (k.lines n q)) (λ q. or-second (known n) (is_result_name n l.result) q) (defined-last n before l h);
+    args = λ n h. or_left (known n) (is_result_name n l.result) (k.args n h);
+    lines = λ n h. ⊎_elim (λ q. or_left (known n) (is_result_name n l.result) (k.lines n q)) (λ q. or_right (known n) (is_result_name n l.result) q) (defined-last n before l h);
   }
 
   known-in : (number : ℕ) (e : Bool) (b : BlockText) (before rest : List LineText) → Each NamesEarlier (places_in number e b before rest) → (known : KnownNames) → KnowsResults known before
@@ -324,7 +315,7 @@ EntityIn (declare_text d) = Unit {0}
 
 entity-lines : (u : UnitText) → Each SiteThere (map (site_in u) (places u)) → u.kind ≡ kind.Entity → EntityLines u
 entity-lines u h k =
-    let ps : Each (λ p. SiteThere (site_in u p)) (places u) = each-of-map SiteThere (site_in u) (places u) h in
+    let ps : Each (λ p. SiteThere (site_in u p)) (places u) = Each-of-map SiteThere (site_in u) (places u) h in
     let there : Each (NamesEarlier u) (places u) = Each-more (λ p. SiteThere (site_in u p)) (NamesEarlier u) (places u) (λ p q. subst (λ (x : UnitKind). OperandsThere x u p p.line.inst) k q.0) ps in
     let allowed : Each (λ (p : InstPlaceText). is_allowed kind.Entity p.line.inst ≡ true) (places u) =
     Each-more (λ p. SiteThere (site_in u p)) (λ (p : InstPlaceText). is_allowed kind.Entity p.line.inst ≡ true) (places u) (λ p q. ap (λ (x : UnitKind). is_allowed x p.line.inst) (sym k) ∙ q.1) ps in (

@@ -1,11 +1,9 @@
 -- Without any probe an entity still holds its signals and their parts, and each value that comes from no probe.
-use Rattle.std.proofs.Common.{◌≡◌, ◌≤◌, ◌<◌, ℕ, zero, suc, ◌+◌, List, [], ◌∷◌, ◌++◌, length, map, replicate, Bool, true, false, not, ◌&&◌, ◌||◌, if◌then◌else◌, Option, Some, None, IsSome, refl, ap, sym, ◌∙◌, subst, arith}
-use Rattle.std.specs.List.{list_any, Contains}
-use Rattle.std.specs.Option.{option_and_then, option_map, option_map_or}
-use Rattle.std.proofs.lemmas.Option.{none-some, same_Some}
-use Rattle.std.proofs.lemmas.Bool.{false_from_ne_true, or_parts}
+use Rattle.std.proofs.Common.{◌≡◌, ℕ, List, [], ◌∷◌, length, map, Bool, true, false, ◌||◌, if◌then◌else◌, Option, Some, None, IsSome, refl, ap, sym, ◌∙◌, subst}
+use Rattle.std.specs.Option.{option_and_then, option_map}
+use Rattle.std.proofs.lemmas.Option.{none-some}
 use Rattle.lh_time.specs.declared.Instant.{Instant}
-use Rattle.lh_types.specs.Types.{TypeTree, signal_type, IsData, bit_count}
+use Rattle.lh_types.specs.Types.{TypeTree, signal_type}
 use Rattle.lh_types.specs.Values.{Datum}
 use Rattle.lh_types.specs.Apply.{apply}
 use Rattle.lh_types.specs.Parts.{range_of}
@@ -14,31 +12,27 @@ use Rattle.lh_types.specs.declared.op.Op.TheVariants as op
 use Rattle.lh_types.specs.declared.part.Range.{Range}
 use Rattle.lh_types.specs.declared.part.Step.{Step}
 use Rattle.lh_unit.specs.declared.inst.UnitKind.TheVariants as kind
-use Rattle.lh_unit.specs.Contents.{OperandText, InstText, const_text, pure_text, var_text, ld_text, st_text, sig_text, prb_text, drv_text, reg_text, child_text, call_text, phi_text, br_text, branch_text, wait_text, halt_text, ret_text, LineText, ArgText, UnitText, is_result_name, args_define}
-use Rattle.lh_names.specs.Names.{same_name}
-use Rattle.lh_unit.specs.Typing.{value_type, result_type, first_type, or_else, inst_giving}
-use Rattle.lh_unit.specs.Kinds.{Kind, a_signal, kind_of, Use, uses, takes, Need, signal_needed, data_needed, all_used, step_need}
-use Rattle.lh_unit.specs.Held.{Held, datum_held, cell_held, part_held, Env, as_datum, as_part, datum_at, part_at, data_at, front}
+use Rattle.lh_unit.specs.Contents.{OperandText, InstText, const_text, pure_text, var_text, ld_text, st_text, sig_text, prb_text, drv_text, reg_text, child_text, call_text, phi_text, br_text, branch_text, wait_text, halt_text, ret_text, LineText, UnitText, is_result_name}
+use Rattle.lh_unit.specs.Typing.{value_type, result_type, first_type, or_else}
+use Rattle.lh_unit.specs.Kinds.{Use, Need, data_needed, all_used, step_need}
+use Rattle.lh_unit.specs.Held.{Held, datum_held, part_held, Env, as_part, part_at, data_at}
 use Rattle.lh_unit.specs.Effects.{within, stepped, signal_part, step_of, operated, read_bits, probed}
 use Rattle.lh_unit.specs.Hierarchy.{if_held, static_of, static_from}
 use Rattle.lh_unit.specs.Pass.{Passed, passes}
-use Rattle.lh_unit.specs.WellFormed.{values_named, comes_from_probe, depends_on_probe, is_allowed}
+use Rattle.lh_unit.specs.WellFormed.{values_named, is_allowed}
 use Rattle.lh_unit.specs.SpellsInst.{gives_value}
 use Rattle.lh_unit.specs.Within.{Each}
 use Rattle.lh_unit.proofs.Within.{Each-more}
 use Rattle.lh_names.proofs.NameLists.{same_name-is}
 use Rattle.lh_formed.specs.Operands.{IsOf, RowIs}
 use Rattle.lh_formed.specs.Parts.{HasPart}
-use Rattle.lh_formed.specs.KindsOf.{HasTypeOfKind}
-use Rattle.lh_formed.proofs.Bools.{none_passes}
-use Rattle.lh_eval.specs.Fitting.{IsValueType, FitsHeld, Fits}
+use Rattle.lh_eval.specs.Fitting.{Fits}
 use Rattle.lh_eval.specs.Sound.{IsWrittenRight, InstIsSound}
 use Rattle.lh_eval.proofs.GivesFit.{constants-fit, operations-fit, probes-fit, held-still-fits}
-use Rattle.lh_sound.specs.Finding.{FindsInPass, PartsFound, InitialFound}
-use Rattle.lh_sound.proofs.NamedOnce.{IsFirst, giving-lines}
+use Rattle.lh_sound.specs.Finding.{FindsInPass}
 use Rattle.lh_sound.proofs.FitLaws.{keeps-fit}
-use Rattle.lh_sound.proofs.Finding.{some-of, is-some, as-signal, or-else-second, part-at}
-use Rattle.lh_sound.proofs.FindingPass.{KnownNames, known_after, NamesKnown, IsFitLine, AllHeld, SigHeld, SigsHeld, given-stays, given-held, sigs-more, finds-one, passes-stay, unnamed, next-held}
+use Rattle.lh_sound.proofs.Finding.{some-of, as-signal, or-else-second, part-at}
+use Rattle.lh_sound.proofs.FindingPass.{KnownNames, known_after, NamesKnown, IsFitLine, SigHeld, SigsHeld, given-stays, given-held, sigs-more, finds-one, passes-stay, unnamed, next-held}
 
 -- the name of a result
 pub result-is : (r : Option (List ℕ)) (n : List ℕ) → is_result_name n r ≡ true → r ≡ Some n

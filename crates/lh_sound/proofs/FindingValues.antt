@@ -1,10 +1,9 @@
 -- Without any probe an entity holds each value that comes from no probe.
-use Rattle.std.proofs.Common.{◌≡◌, ◌≤◌, ◌<◌, ℕ, zero, suc, ◌+◌, List, [], ◌∷◌, ◌++◌, length, map, Bool, true, false, ◌||◌, if◌then◌else◌, Option, Some, None, IsSome, refl, ap, sym, ◌∙◌, subst, arith}
-use Rattle.std.specs.List.{list_any}
+use Rattle.std.proofs.Common.{◌≡◌, ◌≤◌, ℕ, zero, suc, ◌+◌, List, [], ◌∷◌, length, map, Bool, true, false, ◌||◌, if◌then◌else◌, Option, Some, None, IsSome, refl, ap, sym, ◌∙◌, subst, arith}
 use Rattle.std.specs.Option.{option_and_then, option_map, option_map_or}
 use Rattle.std.proofs.lemmas.Option.{none-some, same_Some}
 use Rattle.lh_time.specs.declared.Instant.{Instant}
-use Rattle.lh_types.specs.Types.{TypeTree, int_type, time_type, void_type, array_type, tuple_type, signal_type, pointer_type, IsData}
+use Rattle.lh_types.specs.Types.{TypeTree, signal_type, pointer_type}
 use Rattle.lh_types.specs.Values.{Datum}
 use Rattle.lh_types.specs.Apply.{apply}
 use Rattle.lh_types.specs.Parts.{range_of}
@@ -13,29 +12,30 @@ use Rattle.lh_types.specs.declared.op.Op.TheVariants as op
 use Rattle.lh_types.specs.declared.part.Range.{Range}
 use Rattle.lh_types.specs.declared.part.Step.{Step}
 use Rattle.lh_unit.specs.declared.inst.UnitKind.TheVariants as kind
-use Rattle.lh_unit.specs.Contents.{OperandText, InstText, const_text, pure_text, var_text, ld_text, st_text, sig_text, prb_text, drv_text, reg_text, child_text, call_text, phi_text, br_text, branch_text, wait_text, halt_text, ret_text, LineText, ArgText, UnitText, is_result_name}
-use Rattle.lh_unit.specs.Typing.{value_type, result_type, signal_of, first_type, or_else, inst_giving}
+use Rattle.lh_unit.specs.Contents.{OperandText, InstText, const_text, pure_text, var_text, ld_text, st_text, sig_text, prb_text, drv_text, reg_text, child_text, call_text, phi_text, br_text, branch_text, wait_text, halt_text, ret_text, LineText, UnitText, is_result_name}
+use Rattle.lh_unit.specs.Typing.{value_type, result_type, signal_of, first_type, or_else}
 use Rattle.lh_unit.specs.Kinds.{Use, uses, Need, data_needed, all_used, step_need}
 use Rattle.lh_unit.specs.Held.{Held, datum_held, cell_held, part_held, Env, as_datum, datum_at, part_at, data_at, front}
 use Rattle.lh_unit.specs.Effects.{within, stepped, signal_part, step_of, operated}
 use Rattle.lh_unit.specs.Hierarchy.{lines_of, if_held, static_of, static_from}
-use Rattle.lh_unit.specs.Pass.{Passed, passes}
+use Rattle.lh_unit.specs.Pass.{Passed}
 use Rattle.lh_unit.specs.WellFormed.{values_named, comes_from_probe, depends_on_probe, is_allowed}
 use Rattle.lh_unit.specs.SpellsInst.{gives_value}
 use Rattle.lh_unit.specs.Within.{Each}
 use Rattle.lh_unit.proofs.Within.{Each-more}
+use Rattle.lh_unit.proofs.Lists.{Each-fails}
 use Rattle.lh_formed.specs.Operands.{IsOf, RowIs}
 use Rattle.lh_formed.specs.Parts.{HasPart}
 use Rattle.lh_formed.specs.KindsOf.{HasTypeOfKind}
-use Rattle.lh_formed.proofs.Bools.{none_passes}
 use Rattle.lh_eval.specs.Fitting.{IsValueType, FitsHeld, Fits}
 use Rattle.lh_eval.specs.Sound.{IsWrittenRight, InstIsSound}
 use Rattle.lh_eval.proofs.GivesFit.{operations-fit}
+use Rattle.lh_eval.proofs.ValuesFit.{datum-held}
 use Rattle.lh_sound.specs.Finding.{FindsInPass}
 use Rattle.lh_sound.proofs.NamedOnce.{IsFirst, giving-lines}
 use Rattle.lh_sound.proofs.FitLaws.{keeps-fit}
 use Rattle.lh_sound.proofs.Finding.{some-of, is-some}
-use Rattle.lh_sound.proofs.FindingPass.{KnownNames, known_after, NamesKnown, IsFitLine, SigHeld, SigsHeld, given-stays, given-held, sigs-more, finds-one, passes-stay, unnamed, next-held}
+use Rattle.lh_sound.proofs.FindingPass.{KnownNames, known_after, NamesKnown, IsFitLine, SigsHeld, given-stays, given-held, sigs-more, finds-one, passes-stay, unnamed, next-held}
 use Rattle.lh_sound.proofs.FindingStatic.{result-is, after, static_after, static-line-fits, static-stays}
 
 -- what fits a data type or a time is a value
@@ -45,12 +45,6 @@ value-held w (cell_held d) (pointer_type t) v f = absurd v
 value-held w (cell_held d) _ v f = absurd f
 value-held w (part_held r) (signal_type t) v f = absurd v
 value-held w (part_held r) _ v f = absurd f
-
-datum-held : (o : Option Held) (d : Datum) → option_and_then as_datum o ≡ Some d → o ≡ Some (datum_held d)
-datum-held None d e = absurd (none-some d e)
-datum-held (Some (datum_held x)) d e = ap (λ y. Some (datum_held y)) (same_Some x d e)
-datum-held (Some (cell_held x)) d e = absurd (none-some d e)
-datum-held (Some (part_held r)) d e = absurd (none-some d e)
 
 -- both are there
 record Front {A : Type 0} (a : Option A) (b : Option (List A)) : Type 0 where
@@ -151,7 +145,7 @@ module _ (u : UnitText) (now : List Bool) (memory : Option (List Bool)) (t : Ins
       at (pure_text o os) row part written res a g c h b from =
           let x = some-of (operated u p.held o os) h in
           let d = value-held w x.0 ty v (operations-fit u w p.held o os f row part written x.0 ty x.1 res) in
-          given-held e l.result n (operated u e o os) (operated-moves w p f e fe k o os x.0 d.0 x.1 d.1 (none_passes (depends_on_probe k u) (values_named (pure_text o os)) from) b c) q
+          given-held e l.result n (operated u e o os) (operated-moves w p f e fe k o os x.0 d.0 x.1 d.1 (Each-fails (depends_on_probe k u) (values_named (pure_text o os)) from) b c) q
       at (prb_text o) row part written res a g c h b from = absurd cc
       at (sig_text o) row part written res a g c h b from = absurd (sig-gives o ty row res v)
       at (drv_text to value later y) row part written res a g c h b from = unnamed u now memory t l.result n g q

@@ -1,5 +1,5 @@
 -- Where no name stands twice, the type of a value is that of its argument or of its instruction.
-use Rattle.std.proofs.Common.{◌≡◌, ℕ, List, [], ◌∷◌, ◌++◌, Bool, true, false, if◌then◌else◌, Some, refl, ap, sym, ◌∙◌, append_assoc}
+use Rattle.std.proofs.Common.{◌≡◌, ℕ, List, [], ◌∷◌, ◌++◌, true, false, if◌then◌else◌, Some, refl, ap, sym, ◌∙◌, append_assoc}
 use Rattle.std.specs.Option.{option_and_then, option_map}
 use Rattle.std.proofs.lemmas.Bool.{or_parts}
 use Rattle.lh_unit.specs.Contents.{LineText, BlockText, ArgText, UnitText, is_result_name, lines_define, args_define}
@@ -8,6 +8,7 @@ use Rattle.lh_unit.specs.Hierarchy.{lines_of}
 use Rattle.lh_unit.specs.Reads.{args_repeat}
 use Rattle.lh_unit.specs.Typing.{or_else, result_type, line_giving, inst_giving, arg_named, value_type}
 use Rattle.lh_unit.specs.Within.{Each}
+use Rattle.lh_unit.proofs.ById.{line_giving-append}
 use Rattle.lh_names.proofs.NameLists.{same_name-refl}
 use Rattle.lh_formed.proofs.ValuesLaw.{arg_none}
 use Rattle.lh_spelled.specs.Printable.{result_repeats, results_repeat}
@@ -27,18 +28,9 @@ past-args n (a ∷ seen) more h =
     ap (λ x. if x then Some a else arg_named n (seen ++ more)) b.0 ∙ past-args n seen more b.1
 
 -- the instruction that gives a value among the blocks, and among their lines
-pub giving-append : (n : List ℕ) (xs ys : List LineText) → line_giving n (xs ++ ys) ≡ or_else (line_giving n xs) (line_giving n ys)
-giving-append n [] ys = refl
-giving-append n (l ∷ xs) ys = by (is_result_name n l.result) (giving-append n xs ys)
-  where
-    by : (b : Bool) → line_giving n (xs ++ ys) ≡ or_else (line_giving n xs) (line_giving n ys)
-        → (if b then Some l.inst else line_giving n (xs ++ ys)) ≡ or_else (if b then Some l.inst else line_giving n xs) (line_giving n ys)
-    by true e = refl
-    by false e = e
-
 pub giving-lines : (n : List ℕ) (bs : List BlockText) → inst_giving n bs ≡ line_giving n (lines_of bs)
 giving-lines n [] = refl
-giving-lines n (b ∷ more) = ap (or_else (line_giving n b.lines)) (giving-lines n more) ∙ sym (giving-append n b.lines (lines_of more))
+giving-lines n (b ∷ more) = ap (or_else (line_giving n b.lines)) (giving-lines n more) ∙ sym (line_giving-append n b.lines (lines_of more))
 
 -- what a line gives under its name, where neither an argument nor an earlier line has it
 abbrev pub IsFirst : List ArgText → (all : List LineText) → LineText → Type 0

@@ -1,8 +1,8 @@
 -- The instructions of a unit of a well-formed module are sound, and what an entity begins with fits.
 use Rattle.std.proofs.Common.{◌≡◌, ℕ, List, [], ◌∷◌, map, true, Option, sym, ◌∙◌, subst}
 use Rattle.std.proofs.lemmas.Option.{same_Some}
-use Rattle.lh_types.specs.Types.{TypeTree, time_type, void_type, signal_type, pointer_type, IsData, IsLimited}
-use Rattle.lh_types.specs.Faults.{is_data}
+use Rattle.lh_types.specs.Types.{IsLimited}
+use Rattle.lh_types.proofs.TypeFaults.{limited_data}
 use Rattle.lh_unit.specs.Contents.{InstText, sig_text, LineText, UnitText, ItemText, unit_text, declare_text}
 use Rattle.lh_unit.specs.Hierarchy.{lines_of}
 use Rattle.lh_unit.specs.Places.{places}
@@ -18,11 +18,12 @@ use Rattle.lh_spelled.specs.Printable.{HasInstLine, IsPrintable, IsPrintableItem
 use Rattle.lh_unit.specs.Spells.{header_item}
 use Rattle.lh_unit.specs.Pieces.{lexemes_in}
 use Rattle.lh_unit.proofs.Within.{Each-more}
+use Rattle.lh_unit.proofs.Lists.{Each-of-map}
 use Rattle.lh_spelled.specs.ItemLines.{item_line}
 use Rattle.lh_spelled.proofs.Apart.{spelled_apart}
 use Rattle.lh_spelled.proofs.Printed.{spelled_is_printable}
 use Rattle.lh_eval.specs.Sound.{InstIsSound}
-use Rattle.lh_formed.proofs.EachItem.{each-contained, each-split, each-of-map}
+use Rattle.lh_formed.proofs.EachItem.{each-contained, each-split}
 use Rattle.lh_formed.proofs.AtPlaces.{lines-from}
 use Rattle.lh_sound.proofs.Spelled.{SignalWritten, SignalNamed, line-written, signal-written, signal-named, header-ports}
 use Rattle.lh_sound.proofs.NamedOnce.{GivesItsType, lines-typed}
@@ -43,7 +44,7 @@ rows-in : (items : List ItemText) → Each SiteTyped (sites items) → Each Rows
 rows-in [] e = tt
 rows-in (unit_text u ∷ more) e =
     let r = each-split SiteTyped (map (site_in u) (places u)) (sites more) e in
-    (lines-from (IsTyped u) 1 true u.blocks (each-of-map SiteTyped (site_in u) (places u) r.0), rows-in more r.1)
+    (lines-from (IsTyped u) 1 true u.blocks (Each-of-map SiteTyped (site_in u) (places u) r.0), rows-in more r.1)
 rows-in (declare_text d ∷ more) e = (tt, rows-in more e)
 
 -- Of a module without a fault each instruction of each unit has its row and its part; of one that is spelled each item can be printed.
@@ -67,19 +68,11 @@ lines-printed u p = p.written
 pub unit-sound : (u : UnitText) → Each (IsTyped u) (lines_of u.blocks) → IsPrintable u → Each (InstIsSound u) (lines_of u.blocks)
 unit-sound u r p = each-sound u (lines_of u.blocks) r (lines-printed u p) (results-typed u p)
 
--- a data type within its limits
-limited-data : (t : TypeTree) → is_data t ≡ true → IsLimited t → IsData t
-limited-data time_type d l = absurd cc
-limited-data void_type d l = absurd cc
-limited-data (signal_type t) d l = absurd cc
-limited-data (pointer_type t) d l = absurd cc
-limited-data _ d l = l
-
 -- a `sig` whose row holds, and which is spelled, writes a data type
 sig-writes : (u : UnitText) (r : Option (List ℕ)) (i : InstText) → RowIs u i → SignalWritten i → SignalNamed r i → SigWritesData r i
 sig-writes u r (sig_text a) row wr named =
     let same : wr.0 ≡ row.0 = same_Some wr.0 row.0 (sym wr.1 ∙ row.2.0) in
-    (row.0, row.2.0, limited-data row.0 row.1 (subst IsLimited same wr.2), named)
+    (row.0, row.2.0, limited_data row.0 row.1 (subst IsLimited same wr.2), named)
 sig-writes u r _ row wr named = tt
 
 each-writes : (u : UnitText) (ls : List LineText) → Each (IsTyped u) ls → Each HasInstLine ls → Each WritesData ls

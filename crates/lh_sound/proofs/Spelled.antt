@@ -1,7 +1,5 @@
 -- What the spelling of an instruction and of an entity's head tells.
-use Rattle.std.proofs.Common.{◌≡◌, ℕ, ◌-◌, ◌^◌, ◌<◌, inl, inr, List, [], ◌∷◌, map, Option, Some, None, IsSome, refl, sym, subst, arith}
-use Rattle.std.proofs.Math.Pow.{pow_pos}
-use Rattle.std.proofs.lemmas.Nat.{mod_below}
+use Rattle.std.proofs.Common.{◌≡◌, ℕ, ◌-◌, List, [], ◌∷◌, map, Option, Some, None, IsSome, refl, sym, subst, arith}
 use Rattle.lh_types.specs.Types.{TypeTree, signal_type, IsData, IsLimited}
 use Rattle.lh_types.specs.Values.{int_value}
 use Rattle.lh_types.specs.declared.op.Op.{Op}
@@ -9,7 +7,6 @@ use Rattle.lh_types.specs.declared.op.Op.TheVariants as op
 use Rattle.lh_unit.specs.Contents.{OperandText, ArgText, InstText, const_text, pure_text, sig_text, LineText}
 use Rattle.lh_unit.specs.Lexemes.{Lexeme, local}
 use Rattle.lh_unit.specs.Pieces.{lexemes_in}
-use Rattle.lh_unit.specs.SpellsNumbers.{SpellsInteger}
 use Rattle.lh_unit.specs.SpellsTypes.{SpellsSignalType}
 use Rattle.lh_unit.specs.SpellsParts.{SpellsParts, SpellsList}
 use Rattle.lh_unit.specs.SpellsInst.{Column, typed, bare, SpellsColumns, SpellsPure, SpellsInst, SpellsLine}
@@ -21,12 +18,9 @@ use Rattle.lh_unit.specs.declared.inst.UnitKind.TheVariants as kind
 use Rattle.lh_unit.proofs.Lists.{Each-append}
 use Rattle.lh_spelled.specs.ItemLines.{item_line}
 use Rattle.lh_spelled.specs.Printable.{HasInstLine}
+use Rattle.lh_spelled.proofs.Numbers.{integer-below}
 use Rattle.lh_eval.specs.Sound.{HasOperands, IsWrittenRight}
 use Rattle.lh_sound.specs.Units.{IsPort, HasPorts}
-
-integer-below : (n bits : ℕ) (ts : List Lexeme) → SpellsInteger n bits ts → bits < 2 ^ n
-integer-below n bits ts (inl h) = h.3
-integer-below n bits ts (inr h) = subst (λ (b : ℕ). b < 2 ^ n) (sym h.5) (mod_below (2 ^ n - h.1) (2 ^ n) (pow_pos n))
 
 -- one operand, and two
 one-column : (c : Column) (os : List OperandText) (ts more : List Lexeme) → SpellsColumns (c ∷ []) os ts more → (x : OperandText) × (os ≡ x ∷ [])

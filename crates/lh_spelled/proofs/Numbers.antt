@@ -23,7 +23,7 @@ number-again n ts more l h =
     let s : n < 10 ^ 64 = omega arith in
     record { left = (subst (Each IsLexeme) h.1 l).1; stands = record { spaced = (number-lexeme n s, refl, tt); spelled = λ rest. (decimal n, refl, number_of-decimal n s, b) } }
 
-integer-below : (n bits : ℕ) (ts : List Lexeme) → SpellsInteger n bits ts → bits < 2 ^ n
+pub integer-below : (n bits : ℕ) (ts : List Lexeme) → SpellsInteger n bits ts → bits < 2 ^ n
 integer-below n bits ts (inl h) = h.3
 integer-below n bits ts (inr h) = subst (λ b. b < 2 ^ n) (sym h.5) (mod-lt (2 ^ n - h.1) (pow_pos n))
 
@@ -63,7 +63,7 @@ time_text-timed fs b =
     (by_test (Timed fs) (fs % 1000) 0 _ _ (λ e. in_unit fs (fs / 1000) (10 ^ 3) (codes "ps") refl refl (omega arith) (omega arith) b)
     (in_unit fs fs 1 (codes "fs") refl refl (omega arith) (omega arith) b)))))
 
-steps-below : (letter n : ℕ) (ts more : List Lexeme) → SpellsSteps letter n ts more → n < 2 ^ 31
+pub steps-below : (letter n : ℕ) (ts more : List Lexeme) → SpellsSteps letter n ts more → n < 2 ^ 31
 steps-below letter n ts more (inl h) = let e : n ≡ 0 = h.0 in omega arith
 steps-below letter n ts more (inr h) = h.3
 

@@ -130,7 +130,7 @@ shape-block kind.Entity l (b ∷ bs) m p = tt
 shape-block kind.Func l bs m p = block_in kind.Func bs l tt m
 shape-block kind.Proc l bs m p = block_in kind.Proc bs l tt m
 
-results-push : (args : List ArgText) (seen xs : List LineText) (l : LineText) → results_repeat args seen xs ≡ false → result_repeats args (seen ++ xs) l.result ≡ false
+pub results-push : (args : List ArgText) (seen xs : List LineText) (l : LineText) → results_repeat args seen xs ≡ false → result_repeats args (seen ++ xs) l.result ≡ false
     → results_repeat args seen (xs ++ l ∷ []) ≡ false
 results-push args seen [] l h k = or_false (result_repeats args seen l.result) ∙ subst (λ q. result_repeats args q l.result ≡ false) (append-nil seen) k
 results-push args seen (x ∷ xs) l h k =

@@ -9,6 +9,7 @@ use Rattle.lh_unit.specs.Held.{bits_in}
 use Rattle.lh_unit.specs.World.{bits_from, bit_at}
 use Rattle.lh_meaning.proofs.BitSets.{has, IsWithin}
 use Rattle.lh_term.specs.declared.part.Part.{Part}
+use Rattle.lh_term.proofs.Walks.{replicate_length}
 use Rattle.lh_rows.specs.Means.{range_in, reads}
 use Rattle.lh_stand.proofs.Bits.{row-has}
 
@@ -39,12 +40,8 @@ within-bits (suc lo) n [] w a b h = absurd (omega (arith, a))
 within-bits (suc lo) n (x ∷ v) [] a b h = absurd (omega (arith, b))
 within-bits (suc lo) n (x ∷ v) (y ∷ w) a b h = within-bits lo n v w (omega (arith, a)) (omega (arith, b)) (λ k l u. h (suc k) (omega (arith, l)) (omega (arith, u)))
 
-zeros-long : (n : ℕ) → length (replicate n false) ≡ n
-zeros-long zero = refl
-zeros-long (suc n) = ap suc (zeros-long n)
-
 long-enough : (v : List Bool) (n : ℕ) → n ≤ length (with_zeros v n)
-long-enough v n = let e = length-append v (replicate n false) in let z = zeros-long n in omega (arith, e, z)
+long-enough v n = let e = length-append v (replicate n false) in let z = replicate_length n in omega (arith, e, z)
 
 pub values-agree : ZerosAreMissing → ZerosReadAlike → (args : List Range) (p : Part) (v w : List Bool)
     → ((k : ℕ) → has (bits_from (range_in args p).lo (range_in args p).len) k ≡ true → bit_at v k ≡ bit_at w k) → reads args v p ≡ reads args w p

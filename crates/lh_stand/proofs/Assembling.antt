@@ -34,6 +34,7 @@ use Rattle.lh_rows.specs.Means.{range_in, reads, with_rows}
 use Rattle.lh_rows.specs.Laws.{DriveTyped}
 use Rattle.lh_rows.proofs.Reading.{reads-fit}
 use Rattle.lh_rows.proofs.Activations.{rows-are-typed}
+use Rattle.lh_rows.proofs.Second.{now-typed}
 use Rattle.lh_shape.specs.Merging.{merged_drives}
 use Rattle.lh_shape.specs.Shapes.{ShapeText, comb, edge, once, left, shape_of_text}
 use Rattle.lh_emission.specs.Emitted.{PartStep, source_of}
@@ -50,7 +51,7 @@ use Rattle.lh_stand.proofs.Bits.{covers-own}
 use Rattle.lh_stand.proofs.Agreeing.{with_zeros, ZerosAreMissing, ZerosReadAlike}
 use Rattle.lh_stand.proofs.Few.{unit-args-few}
 use Rattle.lh_stand.proofs.Shaped.{comb-regions, edge-regions}
-use Rattle.lh_stand.proofs.Route.{seen, Follows, Pads, now-typed}
+use Rattle.lh_stand.proofs.Route.{seen, Follows, Pads}
 use Rattle.lh_stand.proofs.Halting.{once-for}
 use Rattle.lh_stand.proofs.Sensing.{comb-for}
 use Rattle.lh_stand.proofs.Edges.{edge-drives, edge-for}

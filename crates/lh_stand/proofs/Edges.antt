@@ -1,14 +1,15 @@
 -- A process that reacts to edges: where a trigger's part changes its registers give what the process gives, and else nothing is given.
-use Rattle.std.proofs.Common.{◌≡◌, ◌⊎◌, inl, inr, ℕ, ◌+◌, ◌≤◌, List, [], ◌∷◌, map, length, Bool, true, false, not, ◌&&◌, ◌||◌, ◌==◌, nat_eq, Option, Some, None, refl, ap, sym, ◌∙◌, subst, arith}
+use Rattle.std.proofs.Common.{◌≡◌, ◌⊎◌, inl, inr, ℕ, ◌+◌, ◌≤◌, List, [], ◌∷◌, map, length, Bool, true, false, not, ◌&&◌, ◌||◌, ◌==◌, nat_eq, Option, Some, None, refl, ap, sym, ◌∙◌, subst, arith, le_refl}
 use Rattle.std.specs.List.{list_any, flat_map}
 use Rattle.std.specs.Option.{option_map_or}
-use Rattle.std.proofs.lemmas.Bool.{false≢true}
+use Rattle.std.proofs.lemmas.Bool.{false≢true, not-false}
 use Rattle.std.proofs.lemmas.Bool.Decides.{nat_tests}
 use Rattle.std.proofs.lemmas.Option.{same_Some}
 use Rattle.lh_time.specs.declared.Instant.{Instant}
 use Rattle.lh_time.specs.Due.{instant}
 use Rattle.lh_types.specs.Wish.{Wish, no_wish}
 use Rattle.lh_types.specs.declared.part.Range.{Range}
+use Rattle.lh_types.proofs.Tests.{or_false_left, or_false_right}
 use Rattle.lh_names.specs.declared.name.UnitName.{UnitName}
 use Rattle.lh_unit.specs.declared.inst.UnitKind.TheVariants as kind
 use Rattle.lh_unit.specs.Contents.{UnitText}
@@ -23,6 +24,7 @@ use Rattle.lh_meaning.proofs.Standing.{fresh, waiting_at, EndsAt, sensed, EdgeFo
 use Rattle.lh_inlined.specs.Formed.{IsFormed}
 use Rattle.lh_inlined.specs.Activates.{begun, EndsAlike}
 use Rattle.lh_flat.specs.Flat.{FlatBlockText, FlatText, flat_unit}
+use Rattle.lh_flat.proofs.Bounds.{head-same, tail-same}
 use Rattle.lh_term.specs.Tree.{past_of, now_of}
 use Rattle.lh_term.specs.Mean.{Valuation, IsFitting}
 use Rattle.lh_term.specs.declared.part.Part.{Part}
@@ -41,6 +43,7 @@ use Rattle.lh_rows.specs.Ending.{StandsAs}
 use Rattle.lh_rows.specs.Laws.{max_steps, EndsAs, DriveTyped, WaitsAfter, ThenFirst}
 use Rattle.lh_rows.proofs.Among.{each-among}
 use Rattle.lh_rows.proofs.Reading.{reads-fit}
+use Rattle.lh_rows.proofs.Second.{past-typed}
 use Rattle.lh_shape.specs.Reasons.{is_halt, is_wait, ends_halted, is_empty, in_some, is_timed, are_mixed, waits_for_head, parts_waited, second_drives}
 use Rattle.lh_shape.specs.Shapes.{edge_row}
 use Rattle.lh_emission.specs.Emitted.{Source}
@@ -53,19 +56,15 @@ use Rattle.lh_stand.proofs.Bits.{bits_of, covered-bits, there-bits, right-within
 use Rattle.lh_stand.proofs.Agreeing.{ZerosAreMissing, ZerosReadAlike, values-agree}
 use Rattle.lh_stand.proofs.Shaped.{EdgeRegions, SecondWalk, second-walk}
 use Rattle.lh_stand.proofs.Ending.{first-ends}
-use Rattle.lh_stand.proofs.Waiting.{none-of, not-false, WaitsFor, AllWait, wait-all, head-is, free-ends}
+use Rattle.lh_stand.proofs.Waiting.{none-of, WaitsFor, AllWait, wait-all, head-is, free-ends}
 use Rattle.lh_stand.proofs.Triggering.{EdgeDrive, registers-drive, rows-rest, triggers-covered, seen-same}
-use Rattle.lh_stand.proofs.Route.{seen, Follows, Pads, label_at, stood, process-stood, waits-alike, Ends, SecondEnds, first-acts, second-acts, past-typed}
-use Rattle.lh_stand.proofs.Halting.{one-region, no-more}
-use Rattle.lh_stand.proofs.Sensing.{or-none, not-first, no-items}
-
-or-none-right : (a b : Bool) → (a || b) ≡ false → b ≡ false
-or-none-right true b e = absurd (false≢true (sym e))
-or-none-right false b e = e
+use Rattle.lh_stand.proofs.Route.{seen, Follows, Pads, label_at, stood, process-stood, waits-alike, Ends, SecondEnds, first-acts, second-acts}
+use Rattle.lh_stand.proofs.Halting.{one-region}
+use Rattle.lh_stand.proofs.Sensing.{not-first, no-items}
 
 -- what holds of no region does not hold of the second
 not-second : (test : Rows → Bool) (r : Regions) (s : Rows) → r.second ≡ Some s → in_some test r ≡ false → test s ≡ false
-not-second test r s q e = sym (ap (λ o. option_map_or test o false) q) ∙ or-none-right (test r.first) (option_map_or test r.second false) e
+not-second test r s q e = sym (ap (λ o. option_map_or test o false) q) ∙ or_false_right (test r.first) (option_map_or test r.second false) e
 
 two-regions : (a b n : ℕ) → (a + a) + b ≤ n → a + a ≤ n
 two-regions a b n h = omega (arith, h)
@@ -77,12 +76,6 @@ not-left blocks args way.enters_head from s h k z = z
 not-left blocks args (way.waits to to_head parts timed) from s h k z = absurd (false≢true (sym k))
 
 -- ---- rows that are alike
-
-same-head : {X : Type 0} (x y : X) (xs ys : List X) → x ∷ xs ≡ y ∷ ys → x ≡ y
-same-head x y xs ys e = cc
-
-same-tail : {X : Type 0} (x y : X) (xs ys : List X) → x ∷ xs ≡ y ∷ ys → xs ≡ ys
-same-tail x y xs ys e = cc
 
 -- an end whose way is one of the other ends'
 record AlikeEnd (x : RegionEnd) (ys : List RegionEnd) : Type 0 where
@@ -96,10 +89,10 @@ alike-end (z ∷ xs) [] q x a = cc
 alike-end (z ∷ xs) (y ∷ ys) q x (inl e) = record {
   other = y;
   among = inl refl;
-  is = sym (same-head z.way y.way (map (λ (e : RegionEnd). e.way) xs) (map (λ (e : RegionEnd). e.way) ys) q)
+  is = sym (head-same z.way y.way (map (λ (e : RegionEnd). e.way) xs) (map (λ (e : RegionEnd). e.way) ys) q)
       ∙ ap (λ (v : RegionEnd). v.way) e;
 }
-alike-end (z ∷ xs) (y ∷ ys) q x (inr a) = let r = alike-end xs ys (same-tail z.way y.way (map (λ (e : RegionEnd). e.way) xs) (map (λ (e : RegionEnd). e.way) ys) q) x a in
+alike-end (z ∷ xs) (y ∷ ys) q x (inr a) = let r = alike-end xs ys (tail-same z.way y.way (map (λ (e : RegionEnd). e.way) xs) (map (λ (e : RegionEnd). e.way) ys) q) x a in
     record { other = r.other; among = inr r.among; is = r.is }
 
 none-mapped : {X Y : Type 0} (f : X → Y) (xs ys : List X) → map f xs ≡ map f ys → ys ≡ [] → xs ≡ []
@@ -116,13 +109,13 @@ none-long (x ∷ xs) (y ∷ ys) e q = cc
 
 read-same : (v w : List Bool) (ks : List ℕ) → bits_read v ks ≡ bits_read w ks → (a : ℕ) → has ks a ≡ true → bit_at v a ≡ bit_at w a
 read-same v w [] e a h = cc
-read-same v w (x ∷ xs) e a h = by (x == a) refl h (read-same v w xs (same-tail (bit_at v x) (bit_at w x) (bits_read v xs) (bits_read w xs) e) a)
+read-same v w (x ∷ xs) e a h = by (x == a) refl h (read-same v w xs (tail-same (bit_at v x) (bit_at w x) (bits_read v xs) (bits_read w xs) e) a)
   where
     here : (x a : ℕ) → (x == a) ≡ true → x ≡ a
     here x a e = grind (arith, nat_tests)
 
     by : (b : Bool) → (x == a) ≡ b → (b || has xs a) ≡ true → (has xs a ≡ true → bit_at v a ≡ bit_at w a) → bit_at v a ≡ bit_at w a
-    by true q z go = subst (λ c. bit_at v c ≡ bit_at w c) (here x a q) (same-head (bit_at v x) (bit_at w x) (bits_read v xs) (bits_read w xs) e)
+    by true q z go = subst (λ c. bit_at v c ≡ bit_at w c) (here x a q) (head-same (bit_at v x) (bit_at w x) (bits_read v xs) (bits_read w xs) e)
     by false q z go = go z
 
 -- parts whose bits agree have the same values
@@ -237,7 +230,7 @@ module _ (functions : List UnitText) (bound : ℕ) (x y : UnitText) (i : Instanc
 
   ends-at : (q flat : ProcessState) → k.Last q flat → (now : List Bool) (at : Instant) (wish : Wish) → Leaves now at wish flat
       → EndsAt (Stays now) to on wish (activate bound (seen functions now at) x q)
-  ends-at q flat l now at wish z = by (z.after (reads i.args now) (reads-fit i.args now)) (k.acts q flat l now at bound bound (no-more bound) z.done z.runs)
+  ends-at q flat l now at wish z = by (z.after (reads i.args now) (reads-fit i.args now)) (k.acts q flat l now at bound bound (le_refl bound) z.done z.runs)
     where
       by : WaitsAfter f t (reads i.args now) (reads i.args now) i.args p.rows z.done.state
           → (d : Activated) × (activate bound (seen functions now at) x q ≡ Some d) × EndsAlike functions x d z.done × k.Last d.state z.done.state
@@ -352,14 +345,14 @@ module _ (functions : List UnitText) (bound : ℕ) (x y : UnitText) (i : Instanc
   drives-are source (d ∷ es) h g a b c = (
     record {
       typed = h.0;
-      shown = not-false (is_edge_shown ws d.cond) (or-none (not (is_edge_shown ws d.cond)) (list_any (λ (d : Drive). not (is_edge_shown ws d.cond)) es) a);
-      value = or-none (contains_past d.value) (list_any (λ (d : Drive). contains_past d.value) es) b;
-      delay = not-false (is_constant d.delay) (or-none (not (is_constant d.delay)) (list_any (λ (d : Drive). not (is_constant d.delay)) es) c);
+      shown = not-false (is_edge_shown ws d.cond) (or_false_left (not (is_edge_shown ws d.cond)) (list_any (λ (d : Drive). not (is_edge_shown ws d.cond)) es) a);
+      value = or_false_left (contains_past d.value) (list_any (λ (d : Drive). contains_past d.value) es) b;
+      delay = not-false (is_constant d.delay) (or_false_left (not (is_constant d.delay)) (list_any (λ (d : Drive). not (is_constant d.delay)) es) c);
       triggers = g.0.triggers;
     },
-    drives-are source es h.1 g.1 (or-none-right (not (is_edge_shown ws d.cond)) (list_any (λ (d : Drive). not (is_edge_shown ws d.cond)) es) a)
-        (or-none-right (contains_past d.value) (list_any (λ (d : Drive). contains_past d.value) es) b)
-        (or-none-right (not (is_constant d.delay)) (list_any (λ (d : Drive). not (is_constant d.delay)) es) c),
+    drives-are source es h.1 g.1 (or_false_right (not (is_edge_shown ws d.cond)) (list_any (λ (d : Drive). not (is_edge_shown ws d.cond)) es) a)
+        (or_false_right (contains_past d.value) (list_any (λ (d : Drive). contains_past d.value) es) b)
+        (or_false_right (not (is_constant d.delay)) (list_any (λ (d : Drive). not (is_constant d.delay)) es) c),
   )
 
   pub edge-drives : SecondRowsAreTyped → (source : Source) → Each (RowIsGiven source) rs → Each (EdgeDrive source ws) ds

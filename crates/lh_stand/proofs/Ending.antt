@@ -3,6 +3,7 @@ use Rattle.std.proofs.Common.{◌≡◌, ℕ, ◌+◌, List, [], ◌∷◌, ◌+
 use Rattle.std.specs.Bool.{if◌then◌else◌}
 use Rattle.std.specs.Prelude.{slice_get}
 use Rattle.std.specs.Option.{option_map_or, is_some}
+use Rattle.std.specs.Cmp.{first_so}
 use Rattle.lh_unit.specs.Within.{Each}
 use Rattle.lh_unit.specs.Contents.{InstText, const_text, pure_text, var_text, ld_text, st_text, sig_text, prb_text, drv_text, reg_text, child_text, call_text, phi_text, br_text, branch_text, wait_text, halt_text, ret_text, LineText}
 use Rattle.lh_unit.proofs.Lists.{Each-append}
@@ -16,7 +17,6 @@ use Rattle.lh_rows.specs.Rows.{Drive, Way, halts, enters_head, waits, RegionEnd}
 use Rattle.lh_rows.specs.Joins.{RegionPlace, RegionEdge, any_taken, known_at}
 use Rattle.lh_rows.specs.Places.{Region, Here, Midst, block_number, both, probes, drive_cond, drives, asserts, ends, next_place, goes, goes_if, leads, branches, wait_way, ends_if, takes, takes_all}
 use Rattle.lh_rows.specs.Regions.{Course, no_course, Coursed, stops, comes_to, then_course, turns_too_often, too_many_turns, region_too_large, max_insts, after_lines, through_block, through, edges_to, through_reached, through_all, all_places, region_from, head_of, edge_into, known_first, first_region}
-use Rattle.lh_stand.proofs.Bits.{and-left}
 
 -- a way leads as it says
 abbrev pub WayFits : Region → Way → Type 0
@@ -54,7 +54,7 @@ module _ (g : Region) where
   ends-fit h c m w f k = Each-append (λ (e : RegionEnd). WayFits g e.way) m.rows.ends (record { cond = c; way = w; from = h.label; known = m.known } ∷ []) k (f, tt)
 
   goes-fit : (h : Here) (c : Tree) (m : Midst) (b : ℕ) → MidstFits m → MidstFits (goes g h c m b)
-  goes-fit h c m b k = at (g.ends_at_head && nat_eq b g.head) (λ e. and-left g.ends_at_head (nat_eq b g.head) e)
+  goes-fit h c m b k = at (g.ends_at_head && nat_eq b g.head) (λ e. first_so g.ends_at_head (nat_eq b g.head) e)
     where
       at : (x : Bool) → (x ≡ true → g.ends_at_head ≡ true)
           → MidstFits (if x then ends h c m enters_head else record m { edges = m.edges ++ record { to = next_place h.place b; from = h.label; cond = c; known = m.known } ∷ [] })

@@ -12,6 +12,7 @@ use Rattle.lh_unit.specs.Arena.{Arena, IsArena, unit_count, table_at, naming, un
 use Rattle.lh_unit.specs.Naming.{arg_text}
 use Rattle.lh_unit.specs.Table.{Table, ArgsWithin, IsTable}
 use Rattle.lh_unit.specs.declared.inst.Arg.{Arg}
+use Rattle.lh_unit.proofs.Giving.{same-argument}
 use Rattle.lh_unit.specs.declared.inst.ValueDef.TheVariants as value_def
 
 -- no number stands at two places
@@ -78,14 +79,11 @@ low-value n [] w k v e = absurd (none-some v e)
 low-value n (a ∷ xs) w zero v e = subst (λ x. x < n) (same_Some a.value.0 v e) w.0
 low-value n (a ∷ xs) w (suc k) v e = low-value n xs w.1 k v e
 
-same-arg : (j k : ℕ) → value_def.Arg j ≡ value_def.Arg k → j ≡ k
-same-arg j k e = cc
-
 args-few : (t : Table) → IsTable t → length t.args < 2 ^ 32
 args-few t o =
     let xs : List ℕ = map (λ (a : Arg). a.value.0) t.args in
     let once : StandsOnce xs = λ j k v a b. let x = arg-at t.args j v a in let y = arg-at t.args k v b in
-    same-arg j k (o.defined_once v (value_def.Arg j) (value_def.Arg k) (x.within, x.value) (y.within, y.value)) in
+    same-argument j k (o.defined_once v (value_def.Arg j) (value_def.Arg k) (x.within, x.value) (y.within, y.value)) in
     let few : length xs ≤ length t.values = length-le_from_distinct_below xs (length t.values) (once-distinct xs once) (λ q h. let r = placed q xs h in
     low-value (length t.values) t.args o.args_within r.0 q r.1) in
     let long : length xs ≡ length t.args = length-map t.args (λ (a : Arg). a.value.0) in

@@ -23,6 +23,7 @@ use Rattle.lh_rows.specs.Adjacent.{beyond, drive_merged}
 use Rattle.lh_rows.specs.Laws.{DriveTyped}
 use Rattle.lh_rows.proofs.Adjacent.{merged-drives-typed}
 use Rattle.lh_rows.proofs.Activations.{rows-are-typed}
+use Rattle.lh_rows.proofs.Second.{now-typed}
 use Rattle.lh_shape.specs.Merging.{are_alike, merged_from, merged_drives}
 use Rattle.lh_shape.specs.Reasons.{parts_waited, second_drives}
 use Rattle.lh_shape.specs.Shapes.{comb, edge, once, left, edge_row}
@@ -34,7 +35,7 @@ use Rattle.lh_stand.specs.Given.{source_in, CombGiven, CombIsGiven, EdgeIsGiven,
 use Rattle.lh_stand.proofs.GivenTrees.{make-in, choice-in, conjuncts-in, conjunction-in, filter-in}
 use Rattle.lh_stand.proofs.GivenTriggers.{triggers-given}
 use Rattle.lh_stand.proofs.GivenRows.{DriveFine, EndFine, CourseFine}
-use Rattle.lh_before.proofs.Second.{now-typed, second-typed}
+use Rattle.lh_before.proofs.Second.{second-typed}
 use Rattle.lh_stand.proofs.GivenRegions.{now-probe, first_of, second_of, first-with, first-reached, second-reached}
 use Rattle.lh_stand.proofs.GivenShapes.{HasRows, has-rows, SecondOf, CombOf, comb-of, edge-of, OnceOf, once-of, probes-covered}
 

@@ -17,9 +17,9 @@ use Rattle.lh_rows.specs.Places.{Region}
 use Rattle.lh_rows.specs.Regions.{begins_with_phi, lines_at, head_of, known_first, edge_into, edges_of_ends, one_target, Course, comes_to, region_from, first_region, second_region}
 use Rattle.lh_rows.specs.Typed.{IsOfType}
 use Rattle.lh_rows.proofs.Steps.{RegionOf}
+use Rattle.lh_rows.proofs.Second.{past-typed}
 use Rattle.lh_rows.proofs.Activations as Activations
 use Rattle.lh_rows.proofs.Courses as Courses
-use Rattle.lh_before.proofs.Second.{past-typed}
 use Rattle.lh_before.proofs.Second as Second
 use Rattle.lh_emission.specs.Emitted.{Source, source_of}
 use Rattle.lh_emission.specs.Reached.{steps_in}

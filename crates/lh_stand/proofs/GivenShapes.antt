@@ -3,6 +3,7 @@ use Rattle.std.proofs.Common.{◌≡◌, ℕ, List, [], ◌∷◌, map, Bool, tr
 use Rattle.std.specs.Bool.{if◌then◌else◌}
 use Rattle.std.specs.List.{list_any, list_all}
 use Rattle.std.proofs.lemmas.Bool.{false≢true, or_parts}
+use Rattle.std.specs.Cmp.{second_so, first_so}
 use Rattle.lh_unit.specs.Within.{Each}
 use Rattle.lh_flat.specs.Flat.{FlatText}
 use Rattle.lh_term.specs.Tree.{now_of}
@@ -80,7 +81,7 @@ module _ (t : FlatText) (stays : (x : Reason) → shape_of_text t ≡ left x →
 
 -- ---- which shape
 
-first-none : (xs : List (Bool × Reason)) → first_holding xs ≡ None → Each (λ (x : Bool × Reason). x.0 ≡ false) xs
+pub first-none : (xs : List (Bool × Reason)) → first_holding xs ≡ None → Each (λ (x : Bool × Reason). x.0 ≡ false) xs
 first-none [] h = tt
 first-none (x ∷ xs) h = by x.0 refl h (first-none xs)
   where
@@ -136,15 +137,7 @@ pub record OnceOf (r : Regions) (ds : List Drive) : Type 0 where
   pub drives : r.first.drives ≡ ds
   pub no_probe : r.first.probes ≡ []
 
-and-right : (a b : Bool) → (a && b) ≡ true → b ≡ true
-and-right true b h = h
-and-right false b h = absurd (false≢true h)
-
-and-left : (a b : Bool) → (a && b) ≡ true → a ≡ true
-and-left true b h = refl
-and-left false b h = h
-
-empty-is : {A : Type 0} (xs : List A) → is_empty xs ≡ true → xs ≡ []
+pub empty-is : {A : Type 0} (xs : List A) → is_empty xs ≡ true → xs ≡ []
 empty-is [] h = refl
 empty-is (x ∷ xs) h = absurd (false≢true h)
 
@@ -162,8 +155,8 @@ once-of r ds h = by (is_once r.first) refl h
     by : (b : Bool) → is_once r.first ≡ b → (if b then once r.first.drives else unless_left (first_holding (reasons r)) (shaped r)) ≡ once ds → OnceOf r ds
     by true q e = record {
       drives = cc;
-      no_probe = empty-is r.first.probes (and-left (is_empty r.first.probes) (is_empty r.first.asserts)
-          (and-right (list_all ends_halted r.first.ends) (is_empty r.first.probes && is_empty r.first.asserts) q));
+      no_probe = empty-is r.first.probes (first_so (is_empty r.first.probes) (is_empty r.first.asserts)
+          (second_so (list_all ends_halted r.first.ends) (is_empty r.first.probes && is_empty r.first.asserts) q));
     }
     by false q e = held (first_holding (reasons r)) e
 

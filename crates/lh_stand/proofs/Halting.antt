@@ -1,7 +1,8 @@
 -- A process that drives once: its one activation gives what the one pass of its entity gives.
-use Rattle.std.proofs.Common.{◌≡◌, inl, inr, ℕ, ◌+◌, ◌≤◌, List, [], ◌∷◌, length, Bool, true, ◌&&◌, Option, Some, None, refl, ap, sym, ◌∙◌, arith}
+use Rattle.std.proofs.Common.{◌≡◌, inl, inr, ℕ, ◌+◌, ◌≤◌, List, [], ◌∷◌, length, Bool, true, ◌&&◌, Option, Some, None, refl, ap, sym, ◌∙◌, arith, le_refl}
 use Rattle.std.specs.List.{list_all}
 use Rattle.std.proofs.lemmas.Bool.{false≢true}
+use Rattle.std.specs.Cmp.{first_so, second_so}
 use Rattle.lh_time.specs.declared.Instant.{Instant}
 use Rattle.lh_types.specs.Wish.{no_wish}
 use Rattle.lh_types.specs.declared.part.Range.{Range}
@@ -24,27 +25,21 @@ use Rattle.lh_rows.specs.Means.{reads, with_rows}
 use Rattle.lh_rows.specs.Ending.{StandsAs}
 use Rattle.lh_rows.specs.Laws.{max_steps, EndsAs}
 use Rattle.lh_rows.proofs.Reading.{reads-fit}
+use Rattle.lh_rows.proofs.Second.{now-typed}
 use Rattle.lh_shape.specs.Reasons.{is_halt, ends_halted, is_empty}
 use Rattle.lh_shape.specs.Shapes.{once, shape_of_text}
 use Rattle.lh_stand.specs.Stands.{IsEnough}
-use Rattle.lh_stand.proofs.Bits.{and-left, and-right}
 use Rattle.lh_stand.proofs.Shaped.{OnceRegions, once-regions}
-use Rattle.lh_stand.proofs.Route.{seen, Follows, Pads, process-halts, first-acts, now-typed}
+use Rattle.lh_stand.proofs.Route.{seen, Follows, Pads, process-halts, first-acts}
+use Rattle.lh_stand.proofs.GivenShapes.{empty-is}
 
 pub all-of : {X : Type 0} (p : X → Bool) (xs : List X) (x : X) → list_all p xs ≡ true → Among x xs → p x ≡ true
 all-of p [] x h a = absurd a
-all-of p (y ∷ ys) x h (inl e) = ap p (sym e) ∙ and-left (p y) (list_all p ys) h
-all-of p (y ∷ ys) x h (inr a) = all-of p ys x (and-right (p y) (list_all p ys) h) a
-
-pub nothing-in : {X : Type 0} (xs : List X) → is_empty xs ≡ true → xs ≡ []
-nothing-in [] e = refl
-nothing-in (x ∷ xs) e = absurd (false≢true e)
+all-of p (y ∷ ys) x h (inl e) = ap p (sym e) ∙ first_so (p y) (list_all p ys) h
+all-of p (y ∷ ys) x h (inr a) = all-of p ys x (second_so (p y) (list_all p ys) h) a
 
 pub one-region : (a b n : ℕ) → (a + a) + b ≤ n → a + b ≤ n
 one-region a b n h = omega (arith, h)
-
-pub no-more : (n : ℕ) → n ≤ n
-no-more n = omega arith
 
 -- where a region ended at `halt`
 halts-there : (blocks : List FlatBlockText) (args : List Range) (w : Way) (from : List ℕ) (s : Stand) → is_halt w ≡ true → StandsAs blocks args w from s → s ≡ halted
@@ -75,13 +70,13 @@ module _ (functions : List UnitText) (bound : ℕ) (x y : UnitText) (i : Instanc
   all-halt : list_all ends_halted rows.ends ≡ true
   all-halt =
       let q = shaped.regions.first in
-      ap (λ (z : Rows). list_all ends_halted z.ends) shaped.walk.rows ∙ and-left (list_all ends_halted q.ends) (is_empty q.probes && is_empty q.asserts) shaped.is
+      ap (λ (z : Rows). list_all ends_halted z.ends) shaped.walk.rows ∙ first_so (list_all ends_halted q.ends) (is_empty q.probes && is_empty q.asserts) shaped.is
 
   no-asserts : rows.asserts ≡ []
   no-asserts =
       let q = shaped.regions.first in
       ap (λ (z : Rows). z.asserts) shaped.walk.rows
-      ∙ nothing-in q.asserts (and-right (is_empty q.probes) (is_empty q.asserts) (and-right (list_all ends_halted q.ends) (is_empty q.probes && is_empty q.asserts) shaped.is))
+      ∙ empty-is q.asserts (second_so (is_empty q.probes) (is_empty q.asserts) (second_so (list_all ends_halted q.ends) (is_empty q.probes && is_empty q.asserts) shaped.is))
 
   pass-wish : (now : List Bool) (at : Instant) → with_rows (reads i.args now) (reads i.args now) i.args at no_wish rows.drives ≡ (pass y i.args i.sigs now None at).wish
   pass-wish now at =
@@ -92,7 +87,7 @@ module _ (functions : List UnitText) (bound : ℕ) (x y : UnitText) (i : Instanc
       let z = first-acts functions name t i.args formed shaped.walk.plain pads now_of now-typed (reads i.args now) (reads i.args now) (reads-fit i.args now) (reads-fit i.args now) now (λ p. refl)
       shaped.walk.course shaped.walk.first at bound
       (one-region max_steps (length (lines_at t.blocks 0)) bound enough) in
-      by z.0 z.2 (k.acts (begun x i.args) (begun f i.args) k.begins now at bound bound (no-more bound) z.0 z.1)
+      by z.0 z.2 (k.acts (begun x i.args) (begun f i.args) k.begins now at bound bound (le_refl bound) z.0 z.1)
     where
       by : (done : Activated) → EndsAs f t (reads i.args now) (reads i.args now) i.args at no_wish [] rows done
           → (d : Activated) × (activate bound (seen functions now at) x (begun x i.args) ≡ Some d) × EndsAlike functions x d done × k.Last d.state done.state

@@ -18,7 +18,7 @@ use Rattle.lh_inlined.specs.Formed.{IsFormed}
 use Rattle.lh_inlined.specs.Activates.{begun, flat_stand, StandsAlike, EndsAlike}
 use Rattle.lh_flat.specs.Copies.{top_copy, last_piece_of}
 use Rattle.lh_flat.specs.Flat.{FlatBlockText, FlatText, flat_unit}
-use Rattle.lh_term.specs.Tree.{Tree, past_of, now_of}
+use Rattle.lh_term.specs.Tree.{Tree, past_of}
 use Rattle.lh_term.specs.Mean.{Valuation, IsFitting, mean}
 use Rattle.lh_term.specs.declared.part.Part.{Part}
 use Rattle.lh_rows.specs.Rows as rows
@@ -171,9 +171,3 @@ module _ (functions : List UnitText) (name : UnitName) (t : FlatText) (args : Li
         (z.0, sym (pads.acting bound bits at s) ∙ z.1, ends)
 
 -- ---- probes
-
-pub now-typed : (p : Part) → IsData p.ty → IsOfType p.ty (now_of p)
-now-typed p d = record { typed = d; type = refl }
-
-pub past-typed : (p : Part) → IsData p.ty → IsOfType p.ty (past_of p)
-past-typed p d = record { typed = d; type = refl }

@@ -1,13 +1,13 @@
 -- A combinational process: from whichever `wait` it begins, an activation gives on all values what a pass of its entity gives.
-use Rattle.std.proofs.Common.{◌≡◌, ℕ, ◌+◌, ◌≤◌, List, [], ◌∷◌, map, length, Bool, true, false, not, ◌||◌, nat_eq, Option, Some, None, refl, ap, sym, ◌∙◌, subst, arith}
+use Rattle.std.proofs.Common.{◌≡◌, ℕ, ◌+◌, ◌≤◌, List, [], ◌∷◌, map, length, Bool, true, false, not, nat_eq, Option, Some, None, refl, ap, sym, ◌∙◌, subst, arith, le_refl, eqb-true}
 use Rattle.std.specs.Prelude.{slice_get}
 use Rattle.std.specs.List.{list_any}
 use Rattle.std.specs.Option.{option_map_or}
 use Rattle.std.proofs.lemmas.Bool.{false≢true}
-use Rattle.std.proofs.lemmas.Bool.Decides.{nat_tests}
 use Rattle.lh_time.specs.declared.Instant.{Instant}
 use Rattle.lh_types.specs.Wish.{no_wish}
 use Rattle.lh_types.specs.declared.part.Range.{Range}
+use Rattle.lh_types.proofs.Tests.{or_false_left}
 use Rattle.lh_names.specs.declared.name.UnitName.{UnitName}
 use Rattle.lh_unit.specs.declared.inst.UnitKind.TheVariants as kind
 use Rattle.lh_unit.specs.Contents.{UnitText}
@@ -34,6 +34,7 @@ use Rattle.lh_rows.specs.Means.{range_in, reads, Agrees, with_rows}
 use Rattle.lh_rows.specs.Laws.{max_steps, EndsAs, WaitsForHead}
 use Rattle.lh_rows.proofs.Reading.{reads-fit}
 use Rattle.lh_rows.proofs.Activations.{head-stays-known}
+use Rattle.lh_rows.proofs.Second.{now-typed}
 use Rattle.lh_shape.specs.Reasons.{ends_halted, is_empty, in_some, is_timed, are_mixed, waits_for_head, parts_waited}
 use Rattle.lh_emission.specs.Laws.{Passes, SensesParts}
 use Rattle.lh_stand.specs.Stands.{IsEnough}
@@ -41,16 +42,12 @@ use Rattle.lh_stand.proofs.Bits.{bits_of, both-within, covered-bits, there-bits}
 use Rattle.lh_stand.proofs.Shaped.{CombRegions}
 use Rattle.lh_stand.proofs.Ending.{first-ends}
 use Rattle.lh_stand.proofs.Waiting.{AllWait, wait-all, head-is, free-ends}
-use Rattle.lh_stand.proofs.Route.{seen, Follows, Pads, label_at, stood, process-stood, waits-alike, Ends, first-acts, again-acts, now-typed}
-use Rattle.lh_stand.proofs.Halting.{one-region, no-more}
-
-pub or-none : (a b : Bool) → (a || b) ≡ false → a ≡ false
-or-none true b e = e
-or-none false b e = refl
+use Rattle.lh_stand.proofs.Route.{seen, Follows, Pads, label_at, stood, process-stood, waits-alike, Ends, first-acts, again-acts}
+use Rattle.lh_stand.proofs.Halting.{one-region}
 
 -- what holds of no region does not hold of the first
 pub not-first : (test : Rows → Bool) (r : Regions) → in_some test r ≡ false → test r.first ≡ false
-not-first test r e = or-none (test r.first) (option_map_or test r.second false) e
+not-first test r e = or_false_left (test r.first) (option_map_or test r.second false) e
 
 pub no-items : {X : Type 0} (xs : List X) → not (is_empty xs) ≡ false → xs ≡ []
 no-items [] e = refl
@@ -58,9 +55,6 @@ no-items (x ∷ xs) e = absurd (false≢true (sym e))
 
 pub same-set : (xs ys zs : List ℕ) → SameSet xs ys → SameSet ys zs → SameSet xs zs
 same-set xs ys zs a b k = a k ∙ b k
-
-pub number-is : (a b : ℕ) → nat_eq a b ≡ true → a ≡ b
-number-is a b e = grind (arith, nat_tests)
 
 pub steps-enough : (a b n : ℕ) → (a + a) + b ≤ n → a ≤ n
 steps-enough a b n h = omega (arith, h)
@@ -123,7 +117,7 @@ module _ (functions : List UnitText) (bound : ℕ) (x y : UnitText) (i : Instanc
   ends-at : (p flat : ProcessState) → k.Last p flat → (now : List Bool) (at : Instant) (memory : Option (List Bool))
       → Ends functions name t i.args formed s.walk.plain pads (reads i.args now) (reads i.args now) now at rows bound flat
       → EndsAt Stays to (sensed y i) (pass y i.args i.sigs now memory at).wish (activate bound (seen functions now at) x p)
-  ends-at p flat l now at memory z = by z.0 z.2 (k.acts p flat l now at bound bound (no-more bound) z.0 z.1)
+  ends-at p flat l now at memory z = by z.0 z.2 (k.acts p flat l now at bound bound (le_refl bound) z.0 z.1)
     where
       by : (done : Activated) → EndsAs f t (reads i.args now) (reads i.args now) i.args at no_wish [] rows done
           → (d : Activated) × (activate bound (seen functions now at) x p ≡ Some d) × EndsAlike functions x d done × k.Last d.state done.state
@@ -131,7 +125,7 @@ module _ (functions : List UnitText) (bound : ℕ) (x y : UnitText) (i : Instanc
       by done e a =
           let all : AllWait i.args head rows.ends = waits-all e.end e.came.among in
           let w = all.each e.end e.came.among in
-          let target : all.target ≡ head = number-is all.target head (head-is i.args head rows.ends e.end e.came.among all ∙ ap (λ (z : Rows). waits_for_head z.ends) s.walk.rows ∙ s.head) in
+          let target : all.target ≡ head = eqb-true all.target head (head-is i.args head rows.ends e.end e.came.among all ∙ ap (λ (z : Rows). waits_for_head z.ends) s.walk.rows ∙ s.head) in
           let led : e.end.way ≡ way.waits head (nat_eq all.target head) w.parts false = w.is ∙ ap (λ n. way.waits n (nat_eq all.target head) w.parts false) target in
           let flat-stood = stood t.blocks i.args head (nat_eq all.target head) w.parts e.end.way e.end.from done.state.stand led e.stands in
           let process = process-stood functions x t.blocks i.args head w.parts e.end.from a.0.state done.state flat-stood a.2.state in

@@ -1,5 +1,5 @@
 -- What it means that a flat text has a shape: which regions it has, and that no reason to leave it holds.
-use Rattle.std.proofs.Common.{◌≡◌, ℕ, List, [], ◌∷◌, map, Bool, true, false, not, ◌&&◌, if◌then◌else◌, Option, Some, None, refl, ap, sym, ◌∙◌}
+use Rattle.std.proofs.Common.{◌≡◌, ℕ, List, map, Bool, true, false, not, ◌&&◌, if◌then◌else◌, Option, Some, None, refl, ap, sym, ◌∙◌}
 use Rattle.std.specs.List.{list_any}
 use Rattle.lh_unit.specs.Within.{Each}
 use Rattle.lh_term.specs.Tree.{now_of}
@@ -15,6 +15,7 @@ use Rattle.lh_shape.specs.declared.reason.Reason.{Reason}
 use Rattle.lh_shape.specs.Merging.{merged_drives}
 use Rattle.lh_shape.specs.Reasons.{ends_halted, is_empty, is_once, in_some, is_timed, is_wait, are_mixed, waits_for_head, parts_waited, second_drives, second_ends, reasons, first_holding, region_reason}
 use Rattle.lh_shape.specs.Shapes.{ShapeText, comb, edge, once, left, edge_row, shaped, unless_left, shape_by_rows, shape_by_regions, shape_of_text}
+use Rattle.lh_stand.proofs.GivenShapes.{first-none}
 
 -- ---- the regions
 
@@ -67,15 +68,6 @@ module _ (t : FlatText) (r : Regions) where
 
 -- ---- the reasons
 
-none-hold : (xs : List (Bool × Reason)) → first_holding xs ≡ None → Each (λ (x : Bool × Reason). x.0 ≡ false) xs
-none-hold [] e = tt
-none-hold (x ∷ xs) e = by x.0 refl e (none-hold xs)
-  where
-    by : (b : Bool) → x.0 ≡ b → (if b then Some x.1 else first_holding xs) ≡ None → (first_holding xs ≡ None → Each (λ (x : Bool × Reason). x.0 ≡ false) xs) → (x.0 ≡ false)
-        × Each (λ (x : Bool × Reason). x.0 ≡ false) xs
-    by true q f go = cc
-    by false q f go = (q, go f)
-
 -- no reason holds
 pub record NoReason (r : Regions) : Type 0 where
   pub halts : in_some (λ (s : Rows). list_any ends_halted s.ends) r ≡ false
@@ -90,7 +82,7 @@ pub record NoReason (r : Regions) : Type 0 where
 
 no-reason : (r : Regions) → first_holding (reasons r) ≡ None → NoReason r
 no-reason r e =
-    let h : Each (λ (x : Bool × Reason). x.0 ≡ false) (reasons r) = none-hold (reasons r) e in
+    let h : Each (λ (x : Bool × Reason). x.0 ≡ false) (reasons r) = first-none (reasons r) e in
     record {
       halts = h.0;
       asserts = h.1.0;

@@ -2,7 +2,7 @@
 use Rattle.std.proofs.Common.{◌≡◌, ◌⊎◌, inl, inr, List, [], ◌∷◌, ◌++◌, map, fold, Bool, true, false, not, ◌&&◌, if◌then◌else◌, unwrap_or, Some, refl, ap, sym, ◌∙◌, subst}
 use Rattle.std.specs.List.{list_any, flat_map}
 use Rattle.std.specs.Cmp.{both_ways}
-use Rattle.std.proofs.lemmas.Bool.{false≢true}
+use Rattle.std.proofs.lemmas.Bool.{false≢true, or_left, or_right, or_cases}
 use Rattle.lh_time.specs.declared.Instant.{Instant}
 use Rattle.lh_types.specs.Types.{int_type, IsData}
 use Rattle.lh_types.specs.Fits.{FitsType}
@@ -20,6 +20,7 @@ use Rattle.lh_term.specs.Make.{is_constant}
 use Rattle.lh_term.specs.declared.part.Part.{Part}
 use Rattle.lh_term.specs.Laws.{SwapsKeepMeaning}
 use Rattle.lh_term.proofs.Sound.{IsBit, bit_of_fit, bit_mean, one_wide}
+use Rattle.lh_term.proofs.Conditions.{one_bit}
 use Rattle.lh_cover.specs.Bits.{covers}
 use Rattle.lh_edge.specs.Atoms.{contains_past}
 use Rattle.lh_edge.specs.Shown.{is_edge_shown}
@@ -36,15 +37,10 @@ use Rattle.lh_emission.specs.Registers.{sees, fires, any_fires, register_made, r
 use Rattle.lh_emission.specs.Ways.{TriggerIsGiven}
 use Rattle.lh_emission.specs.Emitted.{Source}
 use Rattle.lh_emission.specs.Laws.{row_parts}
-use Rattle.lh_stand.proofs.Bits.{or-cases, or-left, or-right}
 
 test-of : (b : Bool) → unwrap_or (as_test (bit_value b)) false ≡ b
 test-of true = refl
 test-of false = refl
-
-one-of : (b : Bool) → is_one (bit_value b) ≡ b
-one-of true = refl
-one-of false = refl
 
 -- a rise or a fall, by the bits before and now
 change-of : (rise p n g : Bool) → p ≡ not rise → n ≡ rise → g ≡ true → (mode_holds (mode_of rise) (Some p) n && g) ≡ true
@@ -110,12 +106,12 @@ module _ (past now : Valuation) (p : IsFitting past) (n : IsFitting now) where
 
   some-fire : (s : Source) (gs : List TriggerTree) → Each (TriggerIsGiven s) gs → SomeFires past now gs → list_any fires_now gs ≡ true
   some-fire s [] h f = absurd f
-  some-fire s (g ∷ gs) h (inl f) = or-left (fires_now g) (list_any fires_now gs) (fires-so s g h.0 f)
-  some-fire s (g ∷ gs) h (inr f) = or-right (fires_now g) (list_any fires_now gs) (some-fire s gs h.1 f)
+  some-fire s (g ∷ gs) h (inl f) = or_left (fires_now g) (list_any fires_now gs) (fires-so s g h.0 f)
+  some-fire s (g ∷ gs) h (inr f) = or_right (fires_now g) (list_any fires_now gs) (some-fire s gs h.1 f)
 
   fire-some : (s : Source) (gs : List TriggerTree) → Each (TriggerIsGiven s) gs → list_any fires_now gs ≡ true → SomeFires past now gs
   fire-some s [] h e = absurd (false≢true e)
-  fire-some s (g ∷ gs) h e = by (or-cases (fires_now g) (list_any fires_now gs) e) (fire-some s gs h.1)
+  fire-some s (g ∷ gs) h e = by (or_cases (fires_now g) (list_any fires_now gs) e) (fire-some s gs h.1)
     where
       by : (fires_now g ≡ true) ⊎ (list_any fires_now gs ≡ true) → (list_any fires_now gs ≡ true → SomeFires past now gs) → SomeFires past now (g ∷ gs)
       by (inl x) go = inl (fires-back s g h.0 x)
@@ -127,7 +123,7 @@ module _ (past now : Valuation) (p : IsFitting past) (n : IsFitting now) where
   cond-bit d h = bit_mean d.cond (record { typed = h.cond.typed; type = h.cond.type }) past now p n
 
   true-so : (d : Drive) → DriveTyped d → is_true past now d.cond ≡ true → mean past now d.cond ≡ bit_value true
-  true-so d h e = let b = cond-bit d h in b.is ∙ ap bit_value (sym (one-of b.bit) ∙ sym (ap is_one b.is) ∙ e)
+  true-so d h e = let b = cond-bit d h in b.is ∙ ap bit_value (sym (one_bit b.bit) ∙ sym (ap is_one b.is) ∙ e)
 
   pub fires-where : SwapsKeepMeaning → (s : Source) (waited : List Part) (d : Drive) → DriveTyped d → is_edge_shown waited d.cond ≡ true → Each (TriggerIsGiven s) (triggers_of waited d.cond) →
       any_fires past now (edge_row waited d) ≡ is_true past now d.cond

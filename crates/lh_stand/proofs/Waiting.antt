@@ -1,9 +1,10 @@
 -- The ends of a first region that no reason leaves: each waits for one block, without time, on bits that are the same at each.
-use Rattle.std.proofs.Common.{◌≡◌, ◌⊎◌, inl, inr, ℕ, List, [], ◌∷◌, Bool, true, false, not, ◌&&◌, ◌||◌, nat_eq, Some, refl, ap, sym, ◌∙◌, subst, arith}
+use Rattle.std.proofs.Common.{◌≡◌, ◌⊎◌, inl, inr, ℕ, List, [], ◌∷◌, Bool, true, false, not, ◌&&◌, ◌||◌, nat_eq, Some, refl, ap, sym, ◌∙◌, subst, arith, eqb-true}
 use Rattle.std.specs.List.{list_any, list_all}
 use Rattle.std.specs.Option.{option_and_then}
-use Rattle.std.proofs.lemmas.Bool.{false≢true}
+use Rattle.std.proofs.lemmas.Bool.{false≢true, not-false}
 use Rattle.std.proofs.lemmas.Bool.Decides.{nat_tests}
+use Rattle.std.specs.Cmp.{first_so, second_so}
 use Rattle.lh_types.specs.declared.part.Range.{Range}
 use Rattle.lh_unit.specs.Within.{Each}
 use Rattle.lh_meaning.proofs.BitSets.{SameSet, IsWithin}
@@ -16,7 +17,7 @@ use Rattle.lh_rows.specs.Regions.{head_of, waits_for, waited_parts, is_that, wai
 use Rattle.lh_rows.specs.Typed.{Among}
 use Rattle.lh_rows.proofs.Among.{in-each, each-among}
 use Rattle.lh_shape.specs.Reasons.{is_halt, ends_halted, is_timed, is_same_wait, are_mixed, waits_for_head, goes_to_head, parts_waited}
-use Rattle.lh_stand.proofs.Bits.{and-left, and-right, bits_of, same-right, same-left, append-within, left-within, right-within, both-within}
+use Rattle.lh_stand.proofs.Bits.{bits_of, same-right, same-left, append-within, left-within, right-within, both-within}
 use Rattle.lh_stand.proofs.Ending.{WayFits, EndsFit, from_head}
 
 pub none-of : {X : Type 0} (p : X → Bool) (xs : List X) (x : X) → list_any p xs ≡ false → Among x xs → p x ≡ false
@@ -27,10 +28,6 @@ none-of p (y ∷ ys) x h a = by (p y) refl h a (none-of p ys x)
     by true q f a go = absurd (false≢true (sym f))
     by false q f (inl e) go = ap p (sym e) ∙ q
     by false q f (inr a) go = go f a
-
-pub not-false : (b : Bool) → not b ≡ false → b ≡ true
-not-false true e = refl
-not-false false e = absurd (false≢true (sym e))
 
 -- a way waits for this block without time, and says whether it is the head
 pub record WaitsFor (head target : ℕ) (w : Way) : Type 0 where
@@ -46,16 +43,13 @@ IsFree head (waits target to_head parts timed) = (to_head ≡ nat_eq target head
 free-waits : (head target : ℕ) (h : Bool) (ps : List Part) (timed : Bool) → IsFree head (waits target h ps timed) → WaitsFor head target (waits target h ps timed)
 free-waits head target h ps timed f = record { parts = ps; is = λ i. waits target (f.0 i) ps (f.1 i) }
 
-same-number : (a b : ℕ) → nat_eq a b ≡ true → a ≡ b
-same-number a b e = grind (arith, nat_tests)
-
 alike : (head target : ℕ) (h : Bool) (ps : List Part) (timed : Bool) (v : Way) → IsFree head v → is_same_wait (waits target h ps timed) v ≡ true → WaitsFor head target v
     × (same_bits ps (waited_parts v) ≡ true)
 alike head target h ps timed halts f e = absurd f
 alike head target h ps timed enters_head f e = absurd f
 alike head target h ps timed (waits c k qs td) f e =
-    let n : target ≡ c = same-number target c (and-left (nat_eq target c) (same_bits ps qs) e) in
-    (subst (λ x. WaitsFor head x (waits c k qs td)) (sym n) (free-waits head c k qs td f), and-right (nat_eq target c) (same_bits ps qs) e)
+    let n : target ≡ c = eqb-true target c (first_so (nat_eq target c) (same_bits ps qs) e) in
+    (subst (λ x. WaitsFor head x (waits c k qs td)) (sym n) (free-waits head c k qs td f), second_so (nat_eq target c) (same_bits ps qs) e)
 
 module _ (args : List Range) where
   -- all ends wait for one block, without time, each on the bits on which any of them waits

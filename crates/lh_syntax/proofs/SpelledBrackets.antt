@@ -21,7 +21,7 @@ use Rattle.lh_scan.specs.Shorter.{bind_some}
 use Rattle.lh_scan.proofs.Pieces.{word_at-inv, punct_at-inv, end_at-inv}
 use Rattle.lh_scan.proofs.SpelledNumbers.{number_at-sound, number_at-again}
 use Rattle.lh_scan.proofs.TypeStarts.{number_at-type}
-use Rattle.lh_scan.proofs.TypeFaults.{array-again, tuple-sound, tuple-again, limited_data, four_none, array-limited}
+use Rattle.lh_types.proofs.TypeFaults.{array-again, tuple-sound, tuple-again, limited_data, four_none, array-limited}
 use Rattle.lh_syntax.specs.SyntaxOf.{operand_of, operands_of}
 use Rattle.lh_syntax.specs.Operands.{typed_at, free_at}
 use Rattle.lh_syntax.specs.Operations.{last_mark_at, when, fits_array, repeated_of, repeat_at, all_bare, element_of, array_at, bracket_at, fields_of, fits_tuple, tuple_at}

@@ -1,82 +1,38 @@
 -- What an arena's ids stand for.
-use Rattle.std.proofs.Common.{rules, ◌≡◌, ◌≢◌, ℕ, zero, suc, ◌+◌, ◌<◌, ◌≤◌, List, [], ◌∷◌, ◌++◌, length, map, Bool, true, false, not, cond, ◌&&◌, ◌||◌, ◌==◌, nat_lt, refl, ap, sym, ◌∙◌, subst, Option, Some, None, IfSome, option_map, arith, append_assoc, length-append, Result, Ok, Err, IfOk, OnErr, slice_get, inl, inr, ◌⊎◌}
+use Rattle.std.proofs.Common.{◌≡◌, ℕ, zero, suc, ◌+◌, ◌<◌, ◌≤◌, List, [], ◌∷◌, ◌++◌, length, map, Bool, true, false, ◌&&◌, ◌==◌, nat_lt, refl, ap, sym, ◌∙◌, subst, Some, arith, append_assoc, Result, Ok, Err, IfOk, OnErr, slice_get, inl, inr, ltb-true, lt-ltb}
 use Rattle.std.specs.Bool.{if◌then◌else◌}
 use Rattle.std.specs.List.{list_any}
 use Rattle.std.specs.Option.{unwrap_or}
 use Rattle.std.specs.Cmp.{first_so, second_so, both_ways}
-use Rattle.std.proofs.lemmas.List.{append-nil}
+use Rattle.std.proofs.lemmas.List.{append-nil, length_push, map_push}
 use Rattle.std.proofs.lemmas.Bool.Decides.{nat_tests}
+use Rattle.std.proofs.lemmas.Bool.{and_from, or_left, or_right}
+use Rattle.std.proofs.lemmas.Option.{slice_get_within}
 use Rattle.lh_types.specs.ValueOf.{datum_of}
-use Rattle.lh_types.specs.Values.{Datum}
 use Rattle.lh_types.specs.Apply.{no_value}
-use Rattle.lh_types.specs.declared.op.Op.{Op}
-use Rattle.lh_types.specs.declared.val.Val.{Val}
-use Rattle.lh_term.specs.Tree.{Tree, TreeRow, constant, past_of, now_of, operation, choice_of, no_trees, more_trees, tree_row, operation_on}
+use Rattle.lh_types.proofs.Lists.{push_cases, get_last, get_end, get_below}
+use Rattle.lh_term.specs.Tree.{Tree, constant, choice_of, tree_row, operation_on}
 use Rattle.lh_term.specs.Types.{IsTyped, AreTyped, type_of}
 use Rattle.lh_term.specs.SameTree.{same_tree, same_tree-is, same_tree-refl}
 use Rattle.lh_term.specs.SameTerm.{same_term, same_term-is, same_term-refl, datum_of-is, same_id}
 use Rattle.lh_term.specs.SameNode.{same_node}
 use Rattle.lh_term.specs.Arena.{tree_at, term_tree, trees_from, terms_in, trees, ids_below, term_below, all_below, StandsOnce, IsTypedNode, IsArena, IsIn, AreIn, trees_at, StandsForTree, OneId, AllTyped, Grows}
-use Rattle.lh_term.specs.declared.part.Part.{Part}
 use Rattle.lh_term.specs.declared.term.TermId.{TermId}
 use Rattle.lh_term.specs.declared.term.Term.{Term}
 use Rattle.lh_term.specs.declared.term.Term.TheVariants.{Konst, Past, Now, Op as Applied, Choice}
 use Rattle.lh_term.specs.declared.term.Node.{Node}
 
-and_true : (b c : Bool) → b ≡ true → c ≡ true → (b && c) ≡ true
-and_true true c p q = q
-and_true false c p q = cc
-
-or_left : (b c : Bool) → b ≡ true → (b || c) ≡ true
-or_left true c p = refl
-or_left false c p = cc
-
-or_right : (b c : Bool) → c ≡ true → (b || c) ≡ true
-or_right true c p = refl
-or_right false c p = p
-
 -- ---- lists
-
-pub push_cases : {X : Type 0} (xs : List X) (x y : X) (i : ℕ) → slice_get (xs ++ x ∷ []) i ≡ Some y → (slice_get xs i ≡ Some y) ⊎ ((i ≡ length xs) × (x ≡ y))
-push_cases [] x y zero e = inr (refl, cc)
-push_cases [] x y (suc i) e = cc
-push_cases (z ∷ xs) x y zero e = inl e
-push_cases (z ∷ xs) x y (suc i) e = elim (push_cases xs x y i e) [ inl p ↦ inl p | inr p ↦ inr (ap suc p.0, p.1) ]
 
 get_in : {X : Type 0} (xs ys : List X) (i : ℕ) (x : X) → slice_get xs i ≡ Some x → slice_get (xs ++ ys) i ≡ Some x
 get_in [] ys i x e = cc
 get_in (z ∷ xs) ys zero x e = e
 get_in (z ∷ xs) ys (suc i) x e = get_in xs ys i x e
 
-get_last : {X : Type 0} (xs : List X) (x : X) → slice_get (xs ++ x ∷ []) (length xs) ≡ Some x
-get_last [] x = refl
-get_last (z ∷ xs) x = get_last xs x
-
-get_end : {X : Type 0} (xs : List X) (x : X) (ys : List X) → slice_get (xs ++ x ∷ ys) (length xs) ≡ Some x
-get_end [] x ys = refl
-get_end (z ∷ xs) x ys = get_end xs x ys
-
-pub get_below : {X : Type 0} (xs ys : List X) (i : ℕ) → i < length xs → slice_get (xs ++ ys) i ≡ slice_get xs i
-get_below [] ys i h = absurd (omega arith)
-get_below (z ∷ xs) ys zero h = refl
-get_below (z ∷ xs) ys (suc i) h = get_below xs ys i (omega arith)
-
-pub get_within : {X : Type 0} (xs : List X) (i : ℕ) (x : X) → slice_get xs i ≡ Some x → i < length xs
-get_within [] i x e = cc
-get_within (z ∷ xs) zero x e = omega arith
-get_within (z ∷ xs) (suc i) x e = let h : i < length xs = get_within xs i x e in omega arith
-
-length_one : {X : Type 0} (xs : List X) (x : X) → length (xs ++ x ∷ []) ≡ length xs + 1
-length_one xs x = length-append xs (x ∷ [])
-
 pub get_map : {X Y : Type 0} (f : X → Y) (xs : List X) (i : ℕ) (x : X) → slice_get xs i ≡ Some x → slice_get (map f xs) i ≡ Some (f x)
 get_map f [] i x e = cc
 get_map f (z ∷ xs) zero x e = let q : z ≡ x = cc in ap (λ w. Some (f w)) q
 get_map f (z ∷ xs) (suc i) x e = get_map f xs i x e
-
-pub map_push : {X Y : Type 0} (f : X → Y) (xs : List X) (x : X) → map f (xs ++ x ∷ []) ≡ map f xs ++ f x ∷ []
-map_push f [] x = refl
-map_push f (z ∷ xs) x = ap (λ r. f z ∷ r) (map_push f xs x)
 
 pub map_append : {X Y : Type 0} (f : X → Y) (xs ys : List X) → map f (xs ++ ys) ≡ map f xs ++ map f ys
 map_append f [] ys = refl
@@ -86,20 +42,14 @@ pub map_length : {X Y : Type 0} (f : X → Y) (xs : List X) → length (map f xs
 map_length f [] = refl
 map_length f (z ∷ xs) = omega (arith, map_length f xs)
 
-pub lt_of : (a k : ℕ) → nat_lt a k ≡ true → a < k
-lt_of a k h = grind (arith, nat_tests)
-
-pub of_lt : (a k : ℕ) → a < k → nat_lt a k ≡ true
-of_lt a k h = grind (arith, nat_tests)
-
 -- ---- ids
 
 lt_more : (a k m : ℕ) → k ≤ m → nat_lt a k ≡ true → nat_lt a m ≡ true
-lt_more a k m l h = of_lt a m (let p : a < k = lt_of a k h in omega arith)
+lt_more a k m l h = lt-ltb a m (let p : a < k = ltb-true a k h in omega arith)
 
 pub ids_more : (k m : ℕ) → k ≤ m → (xs : List TermId) → ids_below k xs ≡ true → ids_below m xs ≡ true
 ids_more k m l [] h = refl
-ids_more k m l (a ∷ xs) h = and_true (nat_lt a.0 m) (ids_below m xs) (lt_more a.0 k m l (first_so (nat_lt a.0 k) (ids_below k xs) h)) (ids_more k m l xs (second_so (nat_lt a.0 k) (ids_below k xs) h))
+ids_more k m l (a ∷ xs) h = and_from (nat_lt a.0 m) (ids_below m xs) (lt_more a.0 k m l (first_so (nat_lt a.0 k) (ids_below k xs) h)) (ids_more k m l xs (second_so (nat_lt a.0 k) (ids_below k xs) h))
 
 below_three : (k a b c : ℕ) → nat_lt a k && (nat_lt b k && nat_lt c k) ≡ true → (nat_lt a k ≡ true) × (nat_lt b k ≡ true) × (nat_lt c k ≡ true)
 below_three k a b c h =
@@ -113,13 +63,13 @@ term_more k m l (Now p) h = refl
 term_more k m l (Applied op args) h = ids_more k m l args h
 term_more k m l (Choice c f t) h =
     let b = below_three k c.0 f.0 t.0 h in
-    and_true (nat_lt c.0 m) (nat_lt f.0 m && nat_lt t.0 m) (lt_more c.0 k m l b.0) (and_true (nat_lt f.0 m) (nat_lt t.0 m) (lt_more f.0 k m l b.1) (lt_more t.0 k m l b.2))
+    and_from (nat_lt c.0 m) (nat_lt f.0 m && nat_lt t.0 m) (lt_more c.0 k m l b.0) (and_from (nat_lt f.0 m) (nat_lt t.0 m) (lt_more f.0 k m l b.1) (lt_more t.0 k m l b.2))
 
 below_push : (k : ℕ) (xs : List Term) (x : Term) → all_below k xs ≡ true → term_below (k + length xs) x ≡ true → all_below k (xs ++ x ∷ []) ≡ true
-below_push k [] x a b = and_true (term_below k x) true (ap (λ m. term_below m x) (omega arith) ∙ b) refl
+below_push k [] x a b = and_from (term_below k x) true (ap (λ m. term_below m x) (omega arith) ∙ b) refl
 below_push k (y ∷ xs) x a b =
     let deeper : k + 1 + length xs ≡ k + suc (length xs) = omega arith in
-    and_true (term_below k y) (all_below (k + 1) (xs ++ x ∷ [])) (first_so (term_below k y) (all_below (k + 1) xs) a)
+    and_from (term_below k y) (all_below (k + 1) (xs ++ x ∷ [])) (first_so (term_below k y) (all_below (k + 1) xs) a)
     (below_push (k + 1) xs x (second_so (term_below k y) (all_below (k + 1) xs) a) (ap (λ m. term_below m x) deeper ∙ b))
 
 -- a node of the list is found by its term
@@ -142,7 +92,7 @@ from_push ts [] x = refl
 from_push ts (y ∷ xs) x = from_push (ts ++ term_tree ts y ∷ []) xs x
 
 pub at_below : (ts us : List Tree) (a : TermId) → nat_lt a.0 (length ts) ≡ true → tree_at (ts ++ us) a ≡ tree_at ts a
-at_below ts us a h = ap (λ o. unwrap_or o (constant no_value)) (get_below ts us a.0 (lt_of a.0 (length ts) h))
+at_below ts us a h = ap (λ o. unwrap_or o (constant no_value)) (get_below ts us a.0 (ltb-true a.0 (length ts) h))
 
 ids_at_below : (ts us : List Tree) (xs : List TermId) → ids_below (length ts) xs ≡ true → map (tree_at (ts ++ us)) xs ≡ map (tree_at ts) xs
 ids_at_below ts us [] h = refl
@@ -181,7 +131,7 @@ abbrev Distinct : List Tree → Type 0
 Distinct ts = (i j : ℕ) (t : Tree) → slice_get ts i ≡ Some t → slice_get ts j ≡ Some t → i ≡ j
 
 one_id_at : (ts : List Tree) → Distinct ts → (a b : TermId) → nat_lt a.0 (length ts) ≡ true → nat_lt b.0 (length ts) ≡ true → tree_at ts a ≡ tree_at ts b → a ≡ b
-one_id_at ts d a b p q e = same_id a b (d a.0 b.0 (tree_at ts a) (get_at ts a.0 (lt_of a.0 (length ts) p)) (get_at ts b.0 (lt_of b.0 (length ts) q) ∙ ap Some (sym e)))
+one_id_at ts d a b p q e = same_id a b (d a.0 b.0 (tree_at ts a) (get_at ts a.0 (ltb-true a.0 (length ts) p)) (get_at ts b.0 (ltb-true b.0 (length ts) q) ∙ ap Some (sym e)))
 
 one_ids_at : (ts : List Tree) → Distinct ts → (xs ys : List TermId) → ids_below (length ts) xs ≡ true → ids_below (length ts) ys ≡ true → map (tree_at ts) xs ≡ map (tree_at ts) ys → xs ≡ ys
 one_ids_at ts d [] [] p q e = refl
@@ -226,14 +176,14 @@ Means-push : (xs : List Term) (ts : List Tree) (x : Term) → Means xs ts → te
 Means-push xs ts x m lt new =
     let len : length ts ≡ length xs = m.len in
     let fits : (y : Term) → term_below (length xs) y ≡ true → term_below (length ts) y ≡ true = λ y h. ap (λ k. term_below k y) len ∙ h in
-    let old : (i : ℕ) (y : Term) → slice_get xs i ≡ Some y → term_below (length xs) y ≡ true = λ i y e. term_more i (length xs) (let p : i < length xs = get_within xs i y e in
+    let old : (i : ℕ) (y : Term) → slice_get xs i ≡ Some y → term_below (length xs) y ≡ true = λ i y e. term_more i (length xs) (let p : i < length xs = slice_get_within xs i y e in
     omega arith) y (m.below i y e) in
     let same : (y : Term) → term_below (length xs) y ≡ true → term_tree ts y ≡ term_tree (ts ++ term_tree ts x ∷ []) y = λ y h. sym (tree_below ts (term_tree ts x ∷ []) y (fits y h)) in
     let clash : (i : ℕ) → slice_get ts i ≡ Some (term_tree ts x) → ⊥ = λ i e.
     let (y, at, is) = m.terms i (term_tree ts x) e in new i (at ∙ ap Some (sym (term_inj ts m.distinct x y (fits x lt) (fits y (old i y at)) is)))
     in
     record {
-      len = length_one ts (term_tree ts x) ∙ ap (λ k. k + 1) len ∙ sym (length_one xs x);
+      len = length_push ts (term_tree ts x) ∙ ap (λ k. k + 1) len ∙ sym (length_push xs x);
       each = λ i y e. elim (push_cases xs x y i e) [
         | inl a ↦ get_in ts (term_tree ts x ∷ []) i (term_tree ts y) (m.each i y a) ∙ ap Some (same y (old i y a))
         | inr a ↦ ap (slice_get (ts ++ term_tree ts x ∷ [])) (a.0 ∙ sym len) ∙ get_last ts (term_tree ts x) ∙ ap Some (same x lt) ∙ ap (λ z. Some (term_tree (ts ++ term_tree ts x ∷ []) z)) a.1
@@ -257,14 +207,14 @@ means_from done ts [] m b once = let P : List Term → Type 0 = λ ys. Means ys 
 means_from done ts (x ∷ xs) m b once =
     let new : (i : ℕ) → slice_get done i ≡ Some x → ⊥ = λ i e.
     let at : i ≡ length done = once i (length done) x (get_in done (x ∷ xs) i x e) (get_end done x xs) in
-    let lt : i < length done = get_within done i x e in omega arith
+    let lt : i < length done = slice_get_within done i x e in omega arith
     in
     let next : Means (done ++ x ∷ []) (ts ++ term_tree ts x ∷ []) = Means-push done ts x m (first_so (term_below (length done) x) (all_below (length done + 1) xs) b) new in
     let P : List Term → Type 0 = λ ys. Means ys (trees_from (ts ++ term_tree ts x ∷ []) xs) in
     let Q : List Term → Type 0 = StandsOnce in
     subst P (append_assoc done (x ∷ []) xs)
     (means_from (done ++ x ∷ []) (ts ++ term_tree ts x ∷ []) xs next
-    (ap (λ k. all_below k xs) (length_one done x) ∙ second_so (term_below (length done) x) (all_below (length done + 1) xs) b)
+    (ap (λ k. all_below k xs) (length_push done x) ∙ second_so (term_below (length done) x) (all_below (length done + 1) xs) b)
     (subst Q (sym (append_assoc done (x ∷ []) xs)) once))
 
 nothing : Means [] []
@@ -325,7 +275,7 @@ arena_push ns n a lt ty new =
       below = ap (all_below 0) split ∙ below;
       once = subst Q (sym split) (once_push (terms_in ns) n.term a.once new);
       typed = λ i x e. elim (push_cases ns n x i e) [
-        | inl p ↦ typed x (term_more i (length ns) (let q : i < length ns = get_within ns i x p in omega arith) x.term (node_below ns i x a p)) (a.typed i x p)
+        | inl p ↦ typed x (term_more i (length ns) (let q : i < length ns = slice_get_within ns i x p in omega arith) x.term (node_below ns i x a p)) (a.typed i x p)
         | inr p ↦ let P : Node → Type 0 = IsTypedNode (trees (ns ++ n ∷ [])) in subst P p.1 (typed n lt ty)
       ];
     }
@@ -358,7 +308,7 @@ interned ns ms n k i a b grow lt at same =
     let (rest, g) = trees_grow ns ms grow in
     let one : n.term ≡ k.term = same_term-is n.term k.term same in
     record {
-      is_in = get_within ms i.0 k at;
+      is_in = slice_get_within ms i.0 k at;
       tree = node_tree ms i k b at ∙ ap (term_tree (trees ms)) (sym one) ∙ ap (λ ts. term_tree ts n.term) g
           ∙ tree_below (trees ns) rest n.term (ap (λ m. term_below m n.term) (trees_length ns a) ∙ lt);
     }
@@ -417,7 +367,7 @@ one_id vs ns e a x y p q =
         let l = trees_length ws b in
         both_ways (x.0 == y.0) (same_tree (tree_at (trees ws) x) (tree_at (trees ws) y))
         (λ s. ap (λ z. same_tree z (tree_at (trees ws) y)) (ap (tree_at (trees ws)) (same_id x y (num_same_is x.0 y.0 s))) ∙ same_tree-refl (tree_at (trees ws) y))
-        (λ s. let u : x ≡ y = one_id_at (trees ws) m.distinct x y (of_lt x.0 (length (trees ws)) (omega arith)) (of_lt y.0 (length (trees ws)) (omega arith)) (same_tree-is _ _ s) in
+        (λ s. let u : x ≡ y = one_id_at (trees ws) m.distinct x y (lt-ltb x.0 (length (trees ws)) (omega arith)) (lt-ltb y.0 (length (trees ws)) (omega arith)) (same_tree-is _ _ s) in
         ap (λ z. z.0 == y.0) u ∙ bool_num y.0)
 
 get_some : (ns : List Node) (i : ℕ) → i < length ns → (n : Node) × (slice_get ns i ≡ Some n)
@@ -437,7 +387,7 @@ ids_typed vs ns e a xs h =
     each : (ys : List TermId) → AreIn ns ys → AreTyped (tree_row (trees_at ns ys))
     each [] k = tt
     each (y ∷ ys) k = (
-      id_typed ns a y (lt_of y.0 (length ns) (first_so (nat_lt y.0 (length ns)) (ids_below (length ns) ys) k)),
+      id_typed ns a y (ltb-true y.0 (length ns) (first_so (nat_lt y.0 (length ns)) (ids_below (length ns) ys) k)),
       each ys (second_so (nat_lt y.0 (length ns)) (ids_below (length ns) ys) k),
     )
 
@@ -447,7 +397,7 @@ apart_at vs ns e a =
     subst P e (λ x y p q s.
     let m = means ns a in
     let l = trees_length ns a in
-    one_id_at (trees ns) m.distinct x y (of_lt x.0 (length (trees ns)) (omega arith)) (of_lt y.0 (length (trees ns)) (omega arith)) s)
+    one_id_at (trees ns) m.distinct x y (lt-ltb x.0 (length (trees ns)) (omega arith)) (lt-ltb y.0 (length (trees ns)) (omega arith)) s)
 
 pub all_typed_at : (vs ns : List Node) → ns ≡ vs → IsArena ns → AllTyped vs
 all_typed_at vs ns e a = let P : List Node → Type 0 = AllTyped in subst P e (id_typed ns a)

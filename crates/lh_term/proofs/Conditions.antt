@@ -2,6 +2,7 @@
 use Rattle.std.proofs.Common.{◌≡◌, List, [], ◌∷◌, ◌++◌, Bool, true, false, ◌&&◌, ◌||◌, refl, ap, sym, ◌∙◌, subst}
 use Rattle.std.specs.Bool.{if◌then◌else◌}
 use Rattle.std.specs.List.{list_any, filter}
+use Rattle.std.proofs.Math.Bool.{and-true}
 use Rattle.lh_types.specs.Types.{TypeTree, int_type, row_of, IsData, same_type}
 use Rattle.lh_types.specs.Values.{Datum, int_value, data_row}
 use Rattle.lh_types.specs.Fits.{FitsRow}
@@ -108,10 +109,6 @@ abbrev pub all_one : List Datum → Bool
 all_one [] = true
 all_one (v ∷ vs) = is_one v && all_one vs
 
-pub and_true_right : (b : Bool) → b && true ≡ b
-and_true_right true = refl
-and_true_right false = refl
-
 pub and_assoc : (a b c : Bool) → (a && b) && c ≡ a && (b && c)
 and_assoc true b c = refl
 and_assoc false b c = refl
@@ -149,32 +146,32 @@ holds_there past now (k ∷ ks) t e = by (same_tree t k) refl (λ g. holds_there
         and_assoc (is_one (mean past now k)) (holds past now ks) (is_one (mean past now t)) ∙ ap (λ b. is_one (mean past now k) && b) (rest g)
 
 pub holds_with : (past now : Valuation) (ks ts : List Tree) → holds past now (with_terms ks ts) ≡ holds past now ks && holds past now ts
-holds_with past now ks [] = sym (and_true_right (holds past now ks))
+holds_with past now ks [] = sym (and-true (holds past now ks))
 holds_with past now ks (t ∷ ts) =
     holds_with past now (with_term ks t) ts ∙ ap (λ b. b && holds past now ts) (by (list_any (same_tree t) ks) refl) ∙ and_assoc (holds past now ks) (is_one (mean past now t)) (holds past now ts)
   where
     by : (b : Bool) → list_any (same_tree t) ks ≡ b → holds past now (if b then ks else ks ++ t ∷ []) ≡ holds past now ks && is_one (mean past now t)
     by true e = sym (holds_there past now ks t e)
-    by false e = holds_append past now ks (t ∷ []) ∙ ap (λ b. holds past now ks && b) (and_true_right (is_one (mean past now t)))
+    by false e = holds_append past now ks (t ∷ []) ∙ ap (λ b. holds past now ks && b) (and-true (is_one (mean past now t)))
 
 -- `and` of the values of two operands of one bit
 pub pair_one : (vs : List Datum) → FitsRow (data_row vs) (row_of (int_type 1 ∷ int_type 1 ∷ [])) → apply And vs ≡ bit_value (all_one vs)
 pair_one [] f = absurd f
 pair_one (v ∷ []) f = absurd f.1
 pair_one (v ∷ w ∷ u ∷ vs) f = absurd f.1.1
-pair_one (v ∷ w ∷ []) f = and_one v w (bit_of_fit v f.0) (bit_of_fit w f.1.0) ∙ ap (λ b. bit_value (is_one v && b)) (sym (and_true_right (is_one w)))
+pair_one (v ∷ w ∷ []) f = and_one v w (bit_of_fit v f.0) (bit_of_fit w f.1.0) ∙ ap (λ b. bit_value (is_one v && b)) (sym (and-true (is_one w)))
 
 module _ (past now : Valuation) (p : IsFitting past) (n : IsFitting now) where
   pub constant_holds : (v : Datum) → IntTerm (constant v) 1 → (b : Bool) → is_bit_value 1 v ≡ b → holds past now (if b then [] else constant v ∷ []) ≡ is_one v
   constant_holds v i true e = let q : v ≡ int_value 1 1 = bit_value_is 1 v e in ap is_one (sym q)
-  constant_holds v i false e = and_true_right (is_one v)
+  constant_holds v i false e = and-true (is_one v)
 
   mutual
     pub conjuncts_hold : (t : Tree) → IsTyped t → type_of t ≡ int_type 1 → holds past now (all_conjuncts t) ≡ is_one (mean past now t)
     conjuncts_hold (constant v) h e = constant_holds v (record { typed = h; type = e }) (is_bit_value 1 v) refl
-    conjuncts_hold (past_of q) h e = and_true_right (is_one (past q))
-    conjuncts_hold (now_of q) h e = and_true_right (is_one (now q))
-    conjuncts_hold (choice_of c f t) h e = and_true_right (is_one (mean past now (choice_of c f t)))
+    conjuncts_hold (past_of q) h e = and-true (is_one (past q))
+    conjuncts_hold (now_of q) h e = and-true (is_one (now q))
+    conjuncts_hold (choice_of c f t) h e = and-true (is_one (mean past now (choice_of c f t)))
     conjuncts_hold (operation And ts) h e =
         let j : same_type (first_of (types_of ts)) (int_type 1) ≡ true = ap (λ u. same_type u (int_type 1)) e ∙ same-refl (int_type 1) in
         let k = joined_types (types_of ts) h.1 j in
@@ -183,7 +180,7 @@ module _ (past now : Valuation) (p : IsFitting past) (n : IsFitting now) where
         let m : apply And (means past now ts) ≡ bit_value (all_one (means past now ts)) = pair_one (means past now ts) (subst F us (means_fit past now p n ts h.0)) in
         let P : Bool → Type 0 = λ b. holds past now (if b then joined_conjuncts ts else operation And ts ∷ []) ≡ is_one (apply And (means past now ts)) in
         subst P (sym j) (joined_hold ts h.0 k ∙ sym (one_bit (all_one (means past now ts))) ∙ ap is_one (sym m))
-    conjuncts_hold (operation op ts) h e = and_true_right (is_one (mean past now (operation op ts)))
+    conjuncts_hold (operation op ts) h e = and-true (is_one (mean past now (operation op ts)))
 
     pub joined_hold : (ts : TreeRow) → AreTyped ts → AllInt1 (types_of ts) → holds past now (joined_conjuncts ts) ≡ all_one (means past now ts)
     joined_hold no_trees h e = refl
@@ -207,7 +204,7 @@ pub record IsAll (k : Tree) (ts : List Tree) (x : Tree) : Type 0 where
 pub from_all : (k : Tree) (ts : List Tree) → IntTerm k 1 → AllBits ts → IsAll k ts (conjunction_from k ts)
 from_all k [] i h = record {
   bit = i;
-  value = λ past now p n. bit_one (mean past now k) (bit_mean k i past now p n) ∙ ap bit_value (sym (and_true_right (is_one (mean past now k))));
+  value = λ past now p n. bit_one (mean past now k) (bit_mean k i past now p n) ∙ ap bit_value (sym (and-true (is_one (mean past now k))));
 }
 from_all k (t ∷ ts) i h =
     let s = operation_sound And (k ∷ t ∷ []) (and_typed k t i h.0) in

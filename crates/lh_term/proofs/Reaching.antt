@@ -1,5 +1,5 @@
 -- A walk over terms: those that are still to be looked at are taken from the last one on.
-use Rattle.std.proofs.Common.{◌≡◌, ℕ, zero, suc, ◌+◌, ◌<◌, ◌⊎◌, inl, inr, Bool, true, false, ◌||◌, nat_eq, nat_lt, List, [], ◌∷◌, ◌++◌, length, drop, get_or, refl, ap, sym, ◌∙◌, subst, arith, Some, slice_get}
+use Rattle.std.proofs.Common.{◌≡◌, ℕ, zero, suc, ◌+◌, ◌<◌, ◌⊎◌, inl, inr, Bool, true, false, ◌||◌, nat_eq, nat_lt, List, [], ◌∷◌, ◌++◌, length, drop, get_or, refl, ap, sym, ◌∙◌, subst, arith, Some, slice_get, ltb-true, lt-ltb}
 use Rattle.std.specs.Ordering.{nat_cmp}
 use Rattle.std.specs.List.{list_any}
 use Rattle.std.specs.Cmp.{first_so, second_so}
@@ -7,13 +7,13 @@ use Rattle.std.specs.BTreeMap.{is_at}
 use Rattle.std.specs.BTreeSet as sorted
 use Rattle.std.specs.BTreeSet.{BTreeSet}
 use Rattle.std.proofs.lemmas.Bool.{or_cases, or_left, or_right}
+use Rattle.std.proofs.Math.Bool.{or-false}
 use Rattle.lh_term.specs.Same.{nat_eq-is, nat_eq-refl}
 use Rattle.lh_term.specs.Arena.{terms_in, ids_below, AreIn}
 use Rattle.lh_term.specs.Reach.{Leads, is_on, AllPass, Leaves, GoesOn, GoOn, none_left, PassesOn, AreReached}
 use Rattle.lh_term.specs.declared.term.TermId.{TermId}
 use Rattle.lh_term.specs.declared.term.Term.{Term}
 use Rattle.lh_term.specs.declared.term.Node.{Node}
-use Rattle.lh_term.proofs.Arenas.{lt_of, of_lt}
 use Rattle.lh_term.proofs.Greatest.{Taken}
 
 -- ---- ids on a list
@@ -39,7 +39,7 @@ on_push (y ∷ xs) x i h = elim (or_cases (nat_eq i y.0) (is_on (xs ++ x ∷ [])
 pub on_below : (n : ℕ) (xs : List TermId) (i : ℕ) → ids_below n xs ≡ true → is_on xs i ≡ true → i < n
 on_below n [] i h o = cc
 on_below n (x ∷ xs) i h o = elim (or_cases (nat_eq i x.0) (is_on xs i) o) [
-  | inl e ↦ let l : x.0 < n = lt_of x.0 n (first_so (nat_lt x.0 n) (ids_below n xs) h) in let p : i ≡ x.0 = nat_eq-is i x.0 e in omega arith
+  | inl e ↦ let l : x.0 < n = ltb-true x.0 n (first_so (nat_lt x.0 n) (ids_below n xs) h) in let p : i ≡ x.0 = nat_eq-is i x.0 e in omega arith
   | inr r ↦ on_below n xs i (second_so (nat_lt x.0 n) (ids_below n xs) h) r
 ]
 
@@ -67,8 +67,8 @@ pass_push : (f : ℕ → Bool) (xs : List TermId) (x : TermId) → AllPass f xs 
 pass_push f [] x h e = (e, tt)
 pass_push f (y ∷ xs) x h e = (h.0, pass_push f xs x h.1 e)
 
-in_push : (n : ℕ) (xs : List TermId) (x : TermId) → ids_below n xs ≡ true → x.0 < n → ids_below n (xs ++ x ∷ []) ≡ true
-in_push n [] x h l = let e = of_lt x.0 n l in rw e refl
+pub in_push : (n : ℕ) (xs : List TermId) (x : TermId) → ids_below n xs ≡ true → x.0 < n → ids_below n (xs ++ x ∷ []) ≡ true
+in_push n [] x h l = let e = lt-ltb x.0 n l in rw e refl
 in_push n (y ∷ xs) x h l =
     let e : nat_lt y.0 n ≡ true = first_so (nat_lt y.0 n) (ids_below n xs) h in
     let r = in_push n xs x (second_so (nat_lt y.0 n) (ids_below n xs) h) l in
@@ -85,10 +85,6 @@ pub record ReachedSoFar (leads : Leads) (ns : List Node) (xs : List TermId) (f :
   pub only : (p : ℕ → Bool) → PassesOn leads ns p → AllPass p xs → AllPass p ids
   pub left : (p : ℕ → Bool) → PassesOn leads ns p → AllPass p xs → (q : ℕ) → f q ≡ true → p q ≡ true
 
-or_none : (a : Bool) → (a || false) ≡ a
-or_none true = refl
-or_none false = refl
-
 pub reached_start : (leads : Leads) (ns : List Node) (xs : List TermId) (s : BTreeSet ℕ) (f : ℕ → Bool) → AreIn ns xs → s.keys ≡ [] → ((q : ℕ) → f q ≡ (is_on xs q || sorted.contains nat_cmp s q))
     → ReachedSoFar leads ns xs f []
 reached_start leads ns xs s f i e h = record {
@@ -101,7 +97,7 @@ reached_start leads ns xs s f i e h = record {
 }
   where
     is : (q : ℕ) → f q ≡ is_on xs q
-    is q = h q ∙ ap (λ ks. is_on xs q || list_any (is_at (nat_cmp q)) ks) e ∙ or_none (is_on xs q)
+    is q = h q ∙ ap (λ ks. is_on xs q || list_any (is_at (nat_cmp q)) ks) e ∙ or-false (is_on xs q)
 
 go_on_push : (leads : Leads) (ns : List Node) (f g : ℕ → Bool) (ids : List TermId) (x : TermId) → ((more : List TermId) (i : ℕ) → (is_on more i || f i) ≡ true → (is_on (more ++ x ∷ []) i || g i) ≡ true)
     → ((k : Term) → slice_get (terms_in ns) x.0 ≡ Some k → GoesOn leads ns g x [] k) → GoOn leads ns f ids → GoOn leads ns g (ids ++ x ∷ [])
@@ -167,7 +163,7 @@ go_on_end leads ns f (x ∷ ids) n r = (
 pub reached_end : (leads : Leads) (ns : List Node) (xs : List TermId) (f : ℕ → Bool) (ids : List TermId) → ((q : ℕ) → f q ≡ false) → ReachedSoFar leads ns xs f ids → AreReached leads ns xs ids
 reached_end leads ns xs f ids n s = record {
   are_in = s.are_in;
-  there = pass_more (λ i. is_on ids i || f i) (is_on ids) xs (λ i e. sym (ap (λ b. is_on ids i || b) (n i) ∙ or_none (is_on ids i)) ∙ e) s.there;
+  there = pass_more (λ i. is_on ids i || f i) (is_on ids) xs (λ i e. sym (ap (λ b. is_on ids i || b) (n i) ∙ or-false (is_on ids i)) ∙ e) s.there;
   go_on = go_on_end leads ns f ids n s.go_on;
   only = s.only;
 }

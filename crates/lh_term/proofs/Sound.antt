@@ -1,8 +1,10 @@
 -- Each equation keeps the meaning of a term.
-use Rattle.std.proofs.Common.{◌≡◌, ℕ, zero, suc, ◌-◌, ◌<◌, ◌≤◌, ◌^◌, List, [], ◌∷◌, Bool, true, false, not, ◌&&◌, ◌||◌, nat_eq, refl, ap, sym, ◌∙◌, subst, Option, Some, None, arith, inl, inr, ◌⊎◌}
+use Rattle.std.proofs.Common.{◌≡◌, ℕ, zero, suc, ◌-◌, ◌<◌, ◌^◌, List, [], ◌∷◌, Bool, true, false, ◌&&◌, ◌||◌, nat_eq, refl, ap, sym, ◌∙◌, subst, Option, Some, None, arith, inl, inr, ◌⊎◌}
 use Rattle.std.specs.Bool.{if◌then◌else◌}
 use Rattle.std.proofs.lemmas.Nat.{pow_pos}
-use Rattle.lh_types.specs.Types.{TypeTree, int_type, time_type, array_type, tuple_type, row_of, IsData, AreData}
+use Rattle.std.proofs.lemmas.Option.{same_Some}
+use Rattle.std.proofs.lemmas.Bool.{or_cases}
+use Rattle.lh_types.specs.Types.{TypeTree, int_type, row_of, IsData, AreData}
 use Rattle.lh_types.specs.Values.{Datum, int_value, time_value, array_value, tuple_value, data_row}
 use Rattle.lh_types.specs.Fits.{FitsType, FitsRow}
 use Rattle.lh_types.specs.ApplyTypes.{FitsOp}
@@ -10,20 +12,17 @@ use Rattle.lh_types.specs.Same.{and_both}
 use Rattle.lh_types.specs.Apply.{apply, bit_value}
 use Rattle.lh_types.specs.declared.op.Op.{Op}
 use Rattle.lh_types.specs.declared.op.Op.TheVariants.{Not, And, Or, Eq, Neq}
-use Rattle.lh_ops.specs.Laws.{WordRows, BitRows, ones}
+use Rattle.lh_ops.specs.Laws.{WordRows, ones}
 use Rattle.lh_ops.proofs.TypeLemmas.{results_fit_lem}
 use Rattle.lh_ops.proofs.BooleanLemmas.{words_are_boolean_lem, equality_tells_lem, bits_are_boolean_lem}
-use Rattle.lh_term.specs.Tree.{Tree, TreeRow, constant, past_of, now_of, operation, choice_of, no_trees, more_trees, tree_row, operation_on}
-use Rattle.lh_term.specs.Types.{type_of, types_of, FitsTerm, TakesTypes, Chooses, IsTyped, AreTyped}
+use Rattle.lh_term.specs.Tree.{Tree, constant, past_of, now_of, operation, choice_of, no_trees, more_trees, tree_row, operation_on}
+use Rattle.lh_term.specs.Types.{type_of, types_of, FitsTerm, TakesTypes, IsTyped, AreTyped}
 use Rattle.lh_term.specs.Mean.{Valuation, IsFitting, chosen, mean, means}
 use Rattle.lh_term.specs.Same.{nat_eq-is}
 use Rattle.lh_term.specs.SameTree.{same_tree, same_tree-is}
 use Rattle.lh_term.specs.Make.{is_that, is_constant, all_constant, value_in, values_in, is_zero, is_ones, is_bit, is_bit_value, negated, is_not_of, anded, halves, width_in, zero_like, ones_like, bit_of, found_or, not_rows, make_not, and_rows, or_rows, eq_rows, neq_rows, rows_of, make_operation, make_choice}
 use Rattle.lh_term.specs.Laws.{MeansSame}
 use Rattle.lh_term.proofs.Typing.{value_is, fits_term, gives_is, mean_fits}
-
-some_inj : {X : Type 0} (x y : X) → Some x ≡ Some y → x ≡ y
-some_inj x y e = cc
 
 -- ---- steps
 
@@ -75,7 +74,7 @@ bit_term b (now_of p) e = cc
 bit_term b (operation op ts) e = cc
 bit_term b (choice_of c f g) e = cc
 
-constant_term : (y : Tree) → is_constant y ≡ true → y ≡ constant (value_in y)
+pub constant_term : (y : Tree) → is_constant y ≡ true → y ≡ constant (value_in y)
 constant_term (constant v) e = refl
 constant_term (past_of p) e = cc
 constant_term (now_of p) e = cc
@@ -99,7 +98,7 @@ not_term y x e = negated_term y x (that_one (negated y) x e)
 
 pub anded_term : (y q a : Tree) → anded y ≡ Some (q, a) → y ≡ operation_on And (q ∷ a ∷ [])
 anded_term (operation And (more_trees r (more_trees b no_trees))) q a e =
-    let p : (r, b) ≡ (q, a) = some_inj (r, b) (q, a) e in
+    let p : (r, b) ≡ (q, a) = same_Some (r, b) (q, a) e in
     λ i. operation_on And ((p i).0 ∷ (p i).1 ∷ [])
 anded_term (constant v) q a e = cc
 anded_term (past_of p) q a e = cc
@@ -369,10 +368,6 @@ record Halves (x y q : Tree) : Type 0 where
   second : y ≡ operation_on And (q ∷ other ∷ [])
   apart : (other ≡ operation_on Not (one ∷ [])) ⊎ (one ≡ operation_on Not (other ∷ []))
 
-either_true : (a b : Bool) → a || b ≡ true → (a ≡ true) ⊎ (b ≡ true)
-either_true true b e = inl refl
-either_true false b e = inr e
-
 -- what the two pairs of `and` are
 record HalvesAre (o p : Option (Tree × Tree)) (q : Tree) : Type 0 where
   one : Tree
@@ -391,7 +386,7 @@ halves_told (Some (r, a)) (Some (s, b)) q e = by (same_tree r s && (is_not_of b 
     by false p f = cc
     by true p f =
         let k = and_both (same_tree r s) (is_not_of b a || is_not_of a b) p in
-        let g : r ≡ q = some_inj r q f in
+        let g : r ≡ q = same_Some r q f in
         let m : s ≡ q = sym (same_tree-is r s k.0) ∙ g in
         record { one = a; other = b; first = λ i. Some (g i, a); second = λ i. Some (m i, b); apart = k.1 }
 
@@ -403,7 +398,7 @@ halves_of x y q e =
       other = k.other;
       first = anded_term x q k.one k.first;
       second = anded_term y q k.other k.second;
-      apart = elim (either_true (is_not_of k.other k.one) (is_not_of k.one k.other) k.apart) [ inl m ↦ inl (not_term k.other k.one m) | inr m ↦ inr (not_term k.one k.other m) ];
+      apart = elim (or_cases (is_not_of k.other k.one) (is_not_of k.one k.other) k.apart) [ inl m ↦ inl (not_term k.other k.one m) | inr m ↦ inr (not_term k.one k.other m) ];
     }
 
 module _ (x y : Tree) (h : IsTyped (operation_on Or (x ∷ y ∷ []))) where

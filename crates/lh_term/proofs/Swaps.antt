@@ -1,5 +1,5 @@
 -- Terms in place of parts' values: their types and what they mean, and what stays as an arena grows.
-use Rattle.std.proofs.Common.{◌≡◌, ℕ, zero, suc, ◌+◌, ◌-◌, ◌<◌, ◌≤◌, Result, Ok, Err, IfOk, List, [], ◌∷◌, ◌++◌, length, map, Bool, true, false, ◌&&◌, nat_lt, refl, ap, sym, ◌∙◌, subst, Some, arith, append_assoc, length-append, take, drop, get_or, slice_get, inl, inr, nat_eq, Option, drop-cons, drop_of_length-le}
+use Rattle.std.proofs.Common.{◌≡◌, ℕ, zero, suc, ◌+◌, ◌-◌, ◌<◌, ◌≤◌, Result, Ok, Err, IfOk, List, [], ◌∷◌, ◌++◌, length, map, Bool, true, false, ◌&&◌, nat_lt, refl, ap, sym, ◌∙◌, subst, Some, arith, append_assoc, length-append, take, drop, get_or, slice_get, inl, inr, nat_eq, Option, drop-cons, drop_of_length-le, ltb-true, lt-ltb}
 use Rattle.std.specs.Option.{is_some}
 use Rattle.std.proofs.lemmas.Bool.{or_cases}
 use Rattle.lh_term.specs.Same.{nat_eq-is, nat_eq-refl}
@@ -11,6 +11,7 @@ use Rattle.lh_types.specs.ValueOf.{datum_of}
 use Rattle.lh_types.specs.Apply.{apply}
 use Rattle.lh_types.specs.declared.op.Op.{Op}
 use Rattle.lh_types.specs.declared.val.Val.{Val}
+use Rattle.lh_types.proofs.Lists.{get_below}
 use Rattle.lh_term.specs.Tree.{Tree, TreeRow, constant, past_of, now_of, operation, choice_of, no_trees, more_trees, tree_row, operation_on}
 use Rattle.lh_term.specs.Types.{type_of, types_of, row_result, TakesTypes, Chooses, IsTyped, AreTyped}
 use Rattle.lh_term.specs.Mean.{Valuation, IsFitting, chosen, mean, means}
@@ -25,7 +26,7 @@ use Rattle.lh_term.specs.declared.term.TermId.{TermId}
 use Rattle.lh_term.specs.declared.term.Term.{Term}
 use Rattle.lh_term.specs.declared.term.Term.TheVariants.{Op as Applied, Choice}
 use Rattle.lh_term.specs.declared.term.Node.{Node}
-use Rattle.lh_term.proofs.Arenas.{lt_of, of_lt, trees_grow, map_append, map_length, at_below, get_below}
+use Rattle.lh_term.proofs.Arenas.{trees_grow, map_append, map_length, at_below}
 use Rattle.lh_term.proofs.Sound.{operation_sound, choice_sound}
 use Rattle.lh_term.proofs.Reaching.{on_at, on_below, behind}
 
@@ -96,7 +97,7 @@ module _ (old cur : List Node) (g : Grows old cur) where
   pub tree_grown : (a : TermId) → IsIn old a → tree_at (trees cur) a ≡ tree_at (trees old) a
   tree_grown a h =
       let (rest, e) = trees_grow old cur g in
-      ap (λ ts. tree_at ts a) e ∙ at_below (trees old) rest a (of_lt a.0 (length (trees old)) (omega (arith, trees_count old)))
+      ap (λ ts. tree_at ts a) e ∙ at_below (trees old) rest a (lt-ltb a.0 (length (trees old)) (omega (arith, trees_count old)))
 
   pub in_grown : (a : TermId) → IsIn old a → IsIn cur a
   in_grown a h = let (more, e) = g in omega (arith, ap length e, length-append old more)
@@ -256,7 +257,7 @@ made_trees ns by made (x ∷ xs) (y ∷ ys) a f =
     let r = made_trees ns by made xs ys a.3 f.1 in
     let e = q.tree in
     let g = r.1 in
-    (ids_cons (length ns) y ys (of_lt y.0 (length ns) q.is_in) r.0, λ i. e i ∷ g i)
+    (ids_cons (length ns) y ys (lt-ltb y.0 (length ns) q.is_in) r.0, λ i. e i ∷ g i)
   where
     ids_cons : (k : ℕ) (z : TermId) (zs : List TermId) → nat_lt z.0 k ≡ true → ids_below k zs ≡ true → ids_below k (z ∷ zs) ≡ true
     ids_cons k z zs p q = ap (λ b. b && ids_below k zs) p ∙ q
@@ -310,9 +311,9 @@ module _ (ns : List Node) (by : List (Tree × Tree)) (s : AreSwaps by) (d : Seco
       let b = rows.0 in
       let k = length ns in
       let r = second_so (nat_lt u.0 k) (nat_lt v.0 k && (nat_lt w.0 k && true)) b in (
-        lt_of u.0 k (first_so (nat_lt u.0 k) (nat_lt v.0 k && (nat_lt w.0 k && true)) b),
-        lt_of v.0 k (first_so (nat_lt v.0 k) (nat_lt w.0 k && true) r),
-        lt_of w.0 k (first_so (nat_lt w.0 k) true (second_so (nat_lt v.0 k) (nat_lt w.0 k && true) r)),
+        ltb-true u.0 k (first_so (nat_lt u.0 k) (nat_lt v.0 k && (nat_lt w.0 k && true)) b),
+        ltb-true v.0 k (first_so (nat_lt v.0 k) (nat_lt w.0 k && true) r),
+        ltb-true w.0 k (first_so (nat_lt w.0 k) true (second_so (nat_lt v.0 k) (nat_lt w.0 k && true) r)),
       )
 
   pub choice_fits : Chooses (type_of (tree_at (trees ns) u)) (type_of (tree_at (trees ns) v)) (type_of (tree_at (trees ns) w))
@@ -384,11 +385,11 @@ if_ok_stands (Err e) new x z f h = h
 
 -- ---- the loops' lists, as the code takes them apart
 
-take_whole : {X : Type 0} (xs : List X) → take (length xs) xs ≡ xs
+pub take_whole : {X : Type 0} (xs : List X) → take (length xs) xs ≡ xs
 take_whole [] = refl
 take_whole (x ∷ xs) = ap (λ r. x ∷ r) (take_whole xs)
 
-rest_of : (y : TermId) (r : List TermId) → take (length (y ∷ r) - 1) (drop 1 (y ∷ r)) ≡ r
+pub rest_of : (y : TermId) (r : List TermId) → take (length (y ∷ r) - 1) (drop 1 (y ∷ r)) ≡ r
 rest_of y r = let e : length (y ∷ r) - 1 ≡ length r = omega arith in ap (λ n. take n (drop 1 (y ∷ r))) e ∙ take_whole r
 
 pub rename_there_at : (made : ℕ → Option TermId) (xs left to : List TermId) (d : TermId) → RenamedSoFar made xs left to → 1 ≤ length left → is_some (made (get_or left 0 d).0) ≡ true

@@ -1,42 +1,31 @@
 -- The walk through the conjuncts of a condition.
-use Rattle.std.proofs.Common.{◌≡◌, ℕ, zero, suc, ◌+◌, ◌*◌, ◌-◌, ◌<◌, ◌≤◌, List, [], ◌∷◌, ◌++◌, length, map, Bool, true, false, not, ◌&&◌, ◌||◌, cond, nat_eq, nat_lt, refl, ap, sym, ◌∙◌, subst, Option, Some, None, arith, append_assoc, length-append, slice_get, set, replicate, inl, inr, ◌⊎◌}
+use Rattle.std.proofs.Common.{◌≡◌, ℕ, zero, suc, ◌+◌, ◌*◌, ◌-◌, ◌<◌, List, [], ◌∷◌, ◌++◌, length, map, Bool, true, false, not, ◌&&◌, ◌||◌, cond, nat_eq, nat_lt, refl, ap, sym, ◌∙◌, subst, Some, arith, append_assoc, length-append, slice_get, set, replicate, inl, inr, ◌⊎◌, ltb-true, lt-ltb}
 use Rattle.std.specs.Bool.{if◌then◌else◌}
 use Rattle.std.specs.List.{list_any}
 use Rattle.std.specs.Cmp.{first_so, second_so}
-use Rattle.std.proofs.lemmas.List.{append-nil}
+use Rattle.std.proofs.lemmas.List.{append-nil, map_push}
 use Rattle.lh_types.specs.Types.{int_type, same_type}
 use Rattle.lh_types.specs.declared.op.Op.{Op}
 use Rattle.lh_types.specs.declared.op.Op.TheVariants.{And}
-use Rattle.lh_term.specs.Tree.{Tree, TreeRow, constant, past_of, now_of, operation, choice_of, operation_on}
+use Rattle.lh_types.proofs.Tests.{nat_eq-suc, nat_eq-suc_zero}
+use Rattle.lh_types.proofs.Lists.{push_cases}
+use Rattle.lh_term.specs.Tree.{Tree, constant, past_of, now_of, operation, choice_of, operation_on}
 use Rattle.lh_term.specs.Types.{IsTyped, type_of}
 use Rattle.lh_term.specs.SameTree.{same_tree, same_tree-is, same_tree-refl}
-use Rattle.lh_term.specs.Make.{is_bit}
-use Rattle.lh_term.specs.Arena.{tree_at, trees, trees_at, ids_below, IsIn, AreIn, IsArena, OneId}
+use Rattle.lh_term.specs.Arena.{tree_at, trees, trees_at, ids_below, IsIn, OneId}
 use Rattle.lh_term.specs.Conjuncts.{all_conjuncts, joined_conjuncts, with_term, with_terms, conjuncts_of}
 use Rattle.lh_term.specs.Found.{one_conjunct, FindsJoined, and_operands}
 use Rattle.lh_term.specs.declared.term.TermId.{TermId}
 use Rattle.lh_term.specs.declared.term.Node.{Node}
 use Rattle.lh_term.specs.SameTerm.{same_id}
-use Rattle.lh_term.proofs.Arenas.{lt_of, of_lt, ids_more, map_append, map_push, push_cases}
 use Rattle.std.proofs.lemmas.Grind.{common_steps}
+use Rattle.std.proofs.lemmas.Bool.{or_left, or_right, or_cases, and_from}
 
 -- ---- terms within terms
 
 -- each term of the first is one of the second
 pub Sub : List Tree → List Tree → Type 0
 Sub xs ys = (u : Tree) → list_any (same_tree u) xs ≡ true → list_any (same_tree u) ys ≡ true
-
-or_inl : (a b : Bool) → a ≡ true → a || b ≡ true
-or_inl true b e = refl
-or_inl false b e = cc
-
-or_inr : (a b : Bool) → b ≡ true → a || b ≡ true
-or_inr true b e = refl
-or_inr false b e = e
-
-or_split : (a b : Bool) → a || b ≡ true → (a ≡ true) ⊎ (b ≡ true)
-or_split true b e = inl refl
-or_split false b e = inr e
 
 any_append : (u : Tree) (xs ys : List Tree) → list_any (same_tree u) (xs ++ ys) ≡ list_any (same_tree u) xs || list_any (same_tree u) ys
 any_append u [] ys = refl
@@ -48,11 +37,11 @@ any_append u (x ∷ xs) ys = ap (λ b. same_tree u x || b) (any_append u xs ys) 
 
 sub_left : (xs ys : List Tree) → Sub xs (xs ++ ys)
 unfolding Sub
-sub_left xs ys u h = any_append u xs ys ∙ or_inl (list_any (same_tree u) xs) (list_any (same_tree u) ys) h
+sub_left xs ys u h = any_append u xs ys ∙ or_left (list_any (same_tree u) xs) (list_any (same_tree u) ys) h
 
 sub_right : (xs ys : List Tree) → Sub ys (xs ++ ys)
 unfolding Sub
-sub_right xs ys u h = any_append u xs ys ∙ or_inr (list_any (same_tree u) xs) (list_any (same_tree u) ys) h
+sub_right xs ys u h = any_append u xs ys ∙ or_right (list_any (same_tree u) xs) (list_any (same_tree u) ys) h
 
 sub_trans : (xs ys zs : List Tree) → Sub xs ys → Sub ys zs → Sub xs zs
 unfolding Sub
@@ -60,7 +49,7 @@ sub_trans xs ys zs p q u h = q u (p u h)
 
 sub_both : (xs ys zs : List Tree) → Sub xs zs → Sub ys zs → Sub (xs ++ ys) zs
 unfolding Sub
-sub_both xs ys zs p q u h = elim (or_split (list_any (same_tree u) xs) (list_any (same_tree u) ys) (sym (any_append u xs ys) ∙ h)) [ inl a ↦ p u a | inr b ↦ q u b ]
+sub_both xs ys zs p q u h = elim (or_cases (list_any (same_tree u) xs) (list_any (same_tree u) ys) (sym (any_append u xs ys) ∙ h)) [ inl a ↦ p u a | inr b ↦ q u b ]
 
 sub_nil : (ys : List Tree) → Sub [] ys
 unfolding Sub
@@ -82,9 +71,9 @@ with_there : (ks xs : List Tree) → Sub xs ks → with_terms ks xs ≡ ks
 unfolding Sub
 with_there ks [] h = refl
 with_there ks (x ∷ xs) h =
-    let here : list_any (same_tree x) ks ≡ true = h x (or_inl (same_tree x x) (list_any (same_tree x) xs) (same_tree-refl x)) in
+    let here : list_any (same_tree x) ks ≡ true = h x (or_left (same_tree x x) (list_any (same_tree x) xs) (same_tree-refl x)) in
     let e : with_term ks x ≡ ks = ap (λ b. if b then ks else ks ++ x ∷ []) here in
-    ap (λ w. with_terms w xs) e ∙ with_there ks xs (λ u k. h u (or_inr (same_tree u x) (list_any (same_tree u) xs) k))
+    ap (λ w. with_terms w xs) e ∙ with_there ks xs (λ u k. h u (or_right (same_tree u x) (list_any (same_tree u) xs) k))
 
 with_new : (ks : List Tree) (x : Tree) → list_any (same_tree x) ks ≡ false → with_term ks x ≡ ks ++ x ∷ []
 with_new ks x e = ap (λ b. if b then ks else ks ++ x ∷ []) e
@@ -182,12 +171,6 @@ flags_same f g (suc n) h = ap (λ b. b ∷ flags_by (λ k. g (suc k)) n) (h 0) �
 zero_other : (k : ℕ) → nat_eq 0 (suc k) ≡ false
 zero_other k = grind (arith, common_steps)
 
-other_zero : (x : ℕ) → nat_eq (suc x) 0 ≡ false
-other_zero x = grind (arith, common_steps)
-
-suc_other : (x k : ℕ) → nat_eq (suc x) (suc k) ≡ nat_eq x k
-suc_other x k = grind (arith, common_steps)
-
 flags_set : (f g : ℕ → Bool) (n x : ℕ) → ((k : ℕ) → g k ≡ cond (nat_eq x k) true (f k)) → flags_by g n ≡ set (flags_by f n) x true
 unfolding flags_by
 flags_set f g zero x h = refl
@@ -195,8 +178,8 @@ flags_set f g (suc n) zero h =
     let same : (k : ℕ) → g (suc k) ≡ f (suc k) = λ k. h (suc k) ∙ ap (λ b. cond b true (f (suc k))) (zero_other k) in
     ap (λ b. b ∷ flags_by (λ k. g (suc k)) n) (h 0) ∙ ap (λ l. true ∷ l) (flags_same (λ k. f (suc k)) (λ k. g (suc k)) n same)
 flags_set f g (suc n) (suc x) h =
-    let more : (k : ℕ) → g (suc k) ≡ cond (nat_eq x k) true (f (suc k)) = λ k. h (suc k) ∙ ap (λ b. cond b true (f (suc k))) (suc_other x k) in
-    ap (λ b. b ∷ flags_by (λ k. g (suc k)) n) (h 0 ∙ ap (λ b. cond b true (f 0)) (other_zero x)) ∙ ap (λ l. f 0 ∷ l) (flags_set (λ k. f (suc k)) (λ k. g (suc k)) n x more)
+    let more : (k : ℕ) → g (suc k) ≡ cond (nat_eq x k) true (f (suc k)) = λ k. h (suc k) ∙ ap (λ b. cond b true (f (suc k))) (nat_eq-suc x k) in
+    ap (λ b. b ∷ flags_by (λ k. g (suc k)) n) (h 0 ∙ ap (λ b. cond b true (f 0)) (nat_eq-suc_zero x)) ∙ ap (λ l. f 0 ∷ l) (flags_set (λ k. f (suc k)) (λ k. g (suc k)) n x more)
 
 flags_none : (n : ℕ) → flags_by (λ k. false) n ≡ replicate n false
 unfolding flags_by
@@ -232,13 +215,9 @@ set_again (b ∷ xs) (suc i) e = ap (λ l. b ∷ l) (set_again xs i e)
 pub marked_so : (ns : List Node) (t : TermId) (seen new : List Bool) (found s : List TermId) → new ≡ seen → Walk ns t seen found s → Walk ns t new found s
 marked_so ns t seen new found s e w = let P : List Bool → Type 0 = λ f. Walk ns t f found s in subst P (sym e) w
 
-and_both_true : (b c : Bool) → b ≡ true → c ≡ true → (b && c) ≡ true
-and_both_true true c p q = q
-and_both_true false c p q = cc
-
 ids_push : (k : ℕ) (xs : List TermId) (x : TermId) → ids_below k xs ≡ true → nat_lt x.0 k ≡ true → ids_below k (xs ++ x ∷ []) ≡ true
-ids_push k [] x h e = and_both_true (nat_lt x.0 k) true e refl
-ids_push k (y ∷ xs) x h e = and_both_true (nat_lt y.0 k) (ids_below k (xs ++ x ∷ [])) (first_so (nat_lt y.0 k) (ids_below k xs) h) (ids_push k xs x (second_so (nat_lt y.0 k) (ids_below k xs) h) e)
+ids_push k [] x h e = and_from (nat_lt x.0 k) true e refl
+ids_push k (y ∷ xs) x h e = and_from (nat_lt y.0 k) (ids_below k (xs ++ x ∷ [])) (first_so (nat_lt y.0 k) (ids_below k xs) h) (ids_push k xs x (second_so (nat_lt y.0 k) (ids_below k xs) h) e)
 
 -- ---- steps
 
@@ -267,7 +246,7 @@ put_in F L Z x true c = sub_into Z (F ++ ((x ∷ []) ++ L)) ((F ++ x ∷ []) ++ 
 put_in F L Z x false c = sub_trans Z F ((F ++ x ∷ []) ++ L) (sub_into Z (F ++ []) F (append-nil F) c) (sub_trans F (F ++ x ∷ []) ((F ++ x ∷ []) ++ L) (sub_left F (x ∷ [])) (sub_left (F ++ x ∷ []) L))
 
 lt_trans_test : (a x z : ℕ) → a < x → nat_lt x z ≡ true → nat_lt a z ≡ true
-lt_trans_test a x z h e = of_lt a z (let k : x < z = lt_of x z e in omega arith)
+lt_trans_test a x z h e = lt-ltb a z (let k : x < z = ltb-true x z e in omega arith)
 
 -- two terms come in front in place of x
 split_up : (ts : List Tree) (F : List Tree) (Z : List Tree) (z : ℕ) (x a b : TermId) (r : List TermId) → a.0 < x.0 → b.0 < x.0
@@ -292,7 +271,7 @@ module _ (ns : List Node) (t : TermId) (seen : List Bool) (found : List TermId) 
   rest_in = second_so (nat_lt x.0 (t.0 + 1)) (ids_below (t.0 + 1) r) w.open_in
 
   pub here_seen : x.0 < length seen
-  here_seen = let h : x.0 < t.0 + 1 = lt_of x.0 (t.0 + 1) here_in in omega (arith, w.length_is)
+  here_seen = let h : x.0 < t.0 + 1 = ltb-true x.0 (t.0 + 1) here_in in omega (arith, w.length_is)
 
   -- x was seen
   own_found : slice_get seen x.0 ≡ Some true → Sub (all_conjuncts (tree_at (trees ns) x)) (map (tree_at (trees ns)) found)
@@ -326,19 +305,19 @@ module _ (ns : List Node) (t : TermId) (seen : List Bool) (found : List TermId) 
       let B = all_conjuncts (tree_at (trees ns) b) in
       let X = all_conjuncts (tree_at (trees ns) x) in
       let R = flats (trees ns) r in
-      let h : x.0 < t.0 + 1 = lt_of x.0 (t.0 + 1) here_in in
+      let h : x.0 < t.0 + 1 = ltb-true x.0 (t.0 + 1) here_in in
       record {
         length_is = seen_length;
-        open_in = and_both_true (nat_lt a.0 (t.0 + 1)) (ids_below (t.0 + 1) (b ∷ r)) (of_lt a.0 (t.0 + 1) (omega arith))
-            (and_both_true (nat_lt b.0 (t.0 + 1)) (ids_below (t.0 + 1) r) (of_lt b.0 (t.0 + 1) (omega arith)) rest_in);
+        open_in = and_from (nat_lt a.0 (t.0 + 1)) (ids_below (t.0 + 1) (b ∷ r)) (lt-ltb a.0 (t.0 + 1) (omega arith))
+            (and_from (nat_lt b.0 (t.0 + 1)) (ids_below (t.0 + 1) r) (lt-ltb b.0 (t.0 + 1) (omega arith)) rest_in);
         found_in = w.found_in;
         goes = ap (with_terms F) (sym (append_assoc A B R) ∙ ap (λ m. m ++ R) (sym j)) ∙ w.goes;
         covers = λ z e. elim (get_set seen x.0 z.0 e) [
           | inl m ↦
               let same : z ≡ x = same_id z x m in
               let L = flats (trees ns) (lower x.0 r) in
-              let new : flats (trees ns) (lower x.0 (a ∷ b ∷ r)) ≡ A ++ (B ++ L) = in_front (trees ns) x.0 a (b ∷ r) true (of_lt a.0 x.0 p)
-              ∙ ap (λ k. A ++ k) (in_front (trees ns) x.0 b r true (of_lt b.0 x.0 q)) in
+              let new : flats (trees ns) (lower x.0 (a ∷ b ∷ r)) ≡ A ++ (B ++ L) = in_front (trees ns) x.0 a (b ∷ r) true (lt-ltb a.0 x.0 p)
+              ∙ ap (λ k. A ++ k) (in_front (trees ns) x.0 b r true (lt-ltb b.0 x.0 q)) in
               let own : Sub X (F ++ (A ++ (B ++ L))) = sub_same (A ++ B) X (F ++ (A ++ (B ++ L))) (sym j)
               (sub_trans (A ++ B) ((A ++ B) ++ L) (F ++ (A ++ (B ++ L))) (sub_left (A ++ B) L)
               (sub_into ((A ++ B) ++ L) (F ++ ((A ++ B) ++ L)) (F ++ (A ++ (B ++ L))) (ap (λ k. F ++ k) (append_assoc A B L)) (sub_right F ((A ++ B) ++ L))))
@@ -422,7 +401,7 @@ walk_start ns t =
     let n = t.0 + 1 in
     record {
       length_is = replicate_length n;
-      open_in = and_both_true (nat_lt t.0 (t.0 + 1)) true (of_lt t.0 (t.0 + 1) (omega arith)) refl;
+      open_in = and_from (nat_lt t.0 (t.0 + 1)) true (lt-ltb t.0 (t.0 + 1) (omega arith)) refl;
       found_in = refl;
       goes = ap (with_terms []) (append-nil (all_conjuncts (tree_at (trees ns) t)));
       covers = λ z e. absurd (no_flag n z.0 e);
@@ -431,14 +410,14 @@ walk_start ns t =
 
 any_at : (ts : List Tree) (u : Tree) (xs : List TermId) → list_any (same_tree u) (map (tree_at ts) xs) ≡ true → (i : ℕ) × (k : TermId) × (slice_get xs i ≡ Some k) × (u ≡ tree_at ts k)
 any_at ts u [] e = cc
-any_at ts u (x ∷ xs) e = elim (or_split (same_tree u (tree_at ts x)) (list_any (same_tree u) (map (tree_at ts) xs)) e) [
+any_at ts u (x ∷ xs) e = elim (or_cases (same_tree u (tree_at ts x)) (list_any (same_tree u) (map (tree_at ts) xs)) e) [
   | inl p ↦ (0, x, refl, same_tree-is u (tree_at ts x) p)
   | inr p ↦ let (i, k, at, is) = any_at ts u xs p in (suc i, k, at, is)
 ]
 
-id_below : (k : ℕ) (xs : List TermId) (i : ℕ) (x : TermId) → ids_below k xs ≡ true → slice_get xs i ≡ Some x → x.0 < k
+pub id_below : (k : ℕ) (xs : List TermId) (i : ℕ) (x : TermId) → ids_below k xs ≡ true → slice_get xs i ≡ Some x → x.0 < k
 id_below k [] i x h e = cc
-id_below k (y ∷ xs) zero x h e = let q : y ≡ x = cc in let P : TermId → Type 0 = λ z. z.0 < k in subst P q (lt_of y.0 k (first_so (nat_lt y.0 k) (ids_below k xs) h))
+id_below k (y ∷ xs) zero x h e = let q : y ≡ x = cc in let P : TermId → Type 0 = λ z. z.0 < k in subst P q (ltb-true y.0 k (first_so (nat_lt y.0 k) (ids_below k xs) h))
 id_below k (y ∷ xs) (suc i) x h e = id_below k xs i x (second_so (nat_lt y.0 k) (ids_below k xs) h) e
 
 -- a term whose flag is not set is not found yet
@@ -451,7 +430,7 @@ not_found ns t seen found x r w apart h e = by (list_any (same_tree (tree_at (tr
     by true p =
         let (i, k, at, is) = any_at (trees ns) (tree_at (trees ns) x) found p in
         let kin : k.0 < t.0 + 1 = id_below (t.0 + 1) found i k w.found_in at in
-        let xin : x.0 < t.0 + 1 = lt_of x.0 (t.0 + 1) (first_so (nat_lt x.0 (t.0 + 1)) (ids_below (t.0 + 1) r) w.open_in) in
+        let xin : x.0 < t.0 + 1 = ltb-true x.0 (t.0 + 1) (first_so (nat_lt x.0 (t.0 + 1)) (ids_below (t.0 + 1) r) w.open_in) in
         let one : x ≡ k = apart x k (omega arith) (omega arith) is in
         let m : slice_get seen x.0 ≡ Some true = ap (λ z. slice_get seen z.0) one ∙ w.marked i k at in
         cc
@@ -476,8 +455,8 @@ finds_joined : (ns : List Node) (x : TermId) (op : Op) (xs : List TermId) → id
 finds_joined ns x And [] h t e = let k = t.1.row.1 in cc
 finds_joined ns x And (q ∷ []) h t e = let k = t.1.row.1 in cc
 finds_joined ns x And (q ∷ a ∷ []) h t e = (
-  lt_of q.0 x.0 (first_so (nat_lt q.0 x.0) (nat_lt a.0 x.0 && true) h),
-  lt_of a.0 x.0 (first_so (nat_lt a.0 x.0) true (second_so (nat_lt q.0 x.0) (nat_lt a.0 x.0 && true) h)),
+  ltb-true q.0 x.0 (first_so (nat_lt q.0 x.0) (nat_lt a.0 x.0 && true) h),
+  ltb-true a.0 x.0 (first_so (nat_lt a.0 x.0) true (second_so (nat_lt q.0 x.0) (nat_lt a.0 x.0 && true) h)),
   joined_and (tree_at (trees ns) q) (tree_at (trees ns) a) e,
 )
 finds_joined ns x And (q ∷ a ∷ b ∷ xs) h t e = let k = t.1.row.1 in cc
@@ -503,7 +482,7 @@ pub popped : (ns : List Node) (t : TermId) (seen : List Bool) (found items left 
 popped ns t seen found items left x p w = let P : List TermId → Type 0 = λ s. Walk ns t seen found s in subst P (ap tops p ∙ tops_push left x) w
 
 pub open_within : (ns : List Node) (t : TermId) (seen : List Bool) (found : List TermId) (x : TermId) (r : List TermId) → Walk ns t seen found (x ∷ r) → x.0 < t.0 + 1
-open_within ns t seen found x r w = lt_of x.0 (t.0 + 1) (here_in ns t seen found x r w)
+open_within ns t seen found x r w = ltb-true x.0 (t.0 + 1) (here_in ns t seen found x r w)
 
 pub two_more : (ns : List Node) (t : TermId) (seen : List Bool) (found left more all : List TermId) (a b : TermId) → more ≡ left ++ b ∷ [] → all ≡ more ++ a ∷ []
     → Walk ns t seen found (a ∷ b ∷ tops left) → Walk ns t seen found (tops all)

@@ -1,10 +1,11 @@
 -- The order of instants is total, and tests of it fit together.
-use Rattle.std.proofs.Common.{◌≡◌, true, not, refl, ap, ◌∙◌}
+use Rattle.std.proofs.Common.{◌≡◌, true, not, refl, ap, ◌∙◌, ℕ, ◌<◌, nat_cmp, arith}
 use Rattle.std.specs.declared.cmp.Ordering.{Ordering}
 use Rattle.std.specs.declared.cmp.Ordering.TheVariants.{Less, Equal, Greater}
 use Rattle.std.specs.Ordering.{is_lt, is_le, ordering_reverse}
 use Rattle.std.specs.Cmp.{IsTotalOrder}
 use Rattle.std.proofs.lemmas.Cmp.{then_total, on_total, nat_cmp_total}
+use Rattle.std.proofs.lemmas.Bool.Decides.{nat_tests}
 use Rattle.lh_time.specs.declared.Instant.{Instant}
 use Rattle.lh_time.specs.declared.Delay.{Delay}
 use Rattle.lh_time.specs.Order.{instant_cmp, delay_cmp, instant_lt, instant_le}
@@ -17,7 +18,7 @@ instant_cmp_total = then_total (on_total (λ (t : Instant). t.fs) nat_cmp_total)
 pub delay_cmp_total : IsTotalOrder delay_cmp
 delay_cmp_total = then_total (on_total (λ (d : Delay). d.fs) nat_cmp_total) (then_total (on_total (λ (d : Delay). d.delta) nat_cmp_total) (on_total (λ (d : Delay). d.eps) nat_cmp_total))
 
-is_less : (o : Ordering) → is_lt o ≡ true → o ≡ Less
+pub is_less : (o : Ordering) → is_lt o ≡ true → o ≡ Less
 is_less Less h = refl
 is_less Equal h = cc
 is_less Greater h = cc
@@ -51,3 +52,12 @@ reversed Greater = refl
 -- earlier is the same as not: no later the other way round
 pub instant_lt-not_le : (a b : Instant) → instant_lt a b ≡ not (instant_le b a)
 instant_lt-not_le a b = ap is_lt (instant_cmp_total.antisymm a b) ∙ reversed (instant_cmp b a)
+
+pub nat_less : (a b : ℕ) → a < b → nat_cmp a b ≡ Less
+nat_less a b h = grind (arith, nat_tests)
+
+pub nat_is_less : (a b : ℕ) → nat_cmp a b ≡ Less → a < b
+nat_is_less a b h = grind (arith, nat_tests)
+
+pub nat_same : (n : ℕ) → nat_cmp n n ≡ Equal
+nat_same n = grind arith

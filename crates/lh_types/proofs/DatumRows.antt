@@ -1,10 +1,12 @@
 -- Rows of values, walked by an index.
 use Rattle.std.proofs.Common.{◌≡◌, ℕ, ◌+◌, ◌<◌, zero, suc, List, [], ◌∷◌, length, get_or, drop, map, ◌≢◌, ◌&&◌, true, false, refl, ap, sym, ◌∙◌, add-one, drop-cons, arith}
 use Rattle.std.proofs.lemmas.List.{get_or-map, length-map}
-use Rattle.lh_types.specs.Values.{Datum, more_values, data_row, datum_count, datum_count_row}
+use Rattle.lh_types.specs.Values.{Datum, more_values, data_row, datum_count, datum_count_row, DatumRow, no_values}
 use Rattle.lh_types.specs.ValueOf.{datum_of}
 use Rattle.lh_types.specs.declared.val.Val.{Val}
 use Rattle.lh_types.specs.SameValue.{same_datum, same_parts}
+use Rattle.lh_types.specs.Fits.{part_count}
+use Rattle.lh_types.specs.Parts.{parts_of}
 
 pub data_row-drop : (xs : List Datum) (i : ℕ) (d : Datum) → i < length xs → data_row (drop i xs) ≡ more_values (get_or xs i d) (data_row (drop (i + 1) xs))
 data_row-drop xs i d h = rw (add-one, drop-cons xs i d) refl
@@ -56,3 +58,20 @@ datum_count-get_or (v ∷ vs) (suc i) d h = omega (arith, datum_count-get_or vs 
 
 pub part-datum_count : (all : List Datum) (vs : List Val) (i : ℕ) (v : Val) → map datum_of vs ≡ all → i < length vs → v ≡ get_or vs i v → datum_count (datum_of v) < datum_count_row (data_row all)
 part-datum_count all vs i v w h e = omega (arith, datum_count-get_or vs i v h, ap (λ x. datum_count (datum_of x)) e, ap (λ xs. datum_count_row (data_row xs)) w)
+
+-- a row of values is a list of values
+pub parts_of-data_row : (vs : List Datum) → parts_of (data_row vs) ≡ vs
+parts_of-data_row [] = refl
+parts_of-data_row (v ∷ vs) = ap (λ ws. v ∷ ws) (parts_of-data_row vs)
+
+pub data_row-parts_of : (vs : DatumRow) → data_row (parts_of vs) ≡ vs
+data_row-parts_of no_values = refl
+data_row-parts_of (more_values v vs) = ap (more_values v) (data_row-parts_of vs)
+
+pub part_count-data_row : (vs : List Datum) → part_count (data_row vs) ≡ length vs
+part_count-data_row [] = refl
+part_count-data_row (v ∷ vs) = omega (arith, part_count-data_row vs)
+
+pub length-parts_of : (vs : DatumRow) → length (parts_of vs) ≡ part_count vs
+length-parts_of no_values = refl
+length-parts_of (more_values v vs) = omega (arith, length-parts_of vs)

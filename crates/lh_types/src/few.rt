@@ -13,7 +13,7 @@ pub struct FewOf<T> {
     items: Few<T>,
 }
 
-/// What such a list holds.
+/// The items of a list that is mostly short, as they are held.
 #[derive(Drop)]
 pub enum Few<T> {
     /// One item, in place.

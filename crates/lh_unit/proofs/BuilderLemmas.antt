@@ -5,7 +5,7 @@ use Rattle.std.proofs.lemmas.Option.{get_or_from_slice_get}
 use Rattle.lh_types.specs.Types.{TypeTree}
 use Rattle.lh_types.specs.declared.ty.NoMemory.{NoMemory}
 use Rattle.lh_unit.specs.Contents as text
-use Rattle.lh_unit.specs.Contents.{ItemText, UnitText, BlockText, LineText, ArgText, unit_text, declare_text, new_unit, change_last, defines_unit, defines_value, defines_label, line_count}
+use Rattle.lh_unit.specs.Contents.{UnitText, change_last, defines_value, defines_label, line_count}
 use Rattle.lh_unit.specs.Table.{Table, IsTable, HasBlocks, ResultWithin, no_table, is_block, is_defined, result_defined, insts_at, line_at}
 use Rattle.lh_unit.specs.TableCalls.{with_value, with_label, with_arg, with_result, with_block, with_line, FindsValueIn, FindsLabelIn, TakesArg, TakesBlock, TakesLine}
 use Rattle.lh_names.specs.Distinct.{has_name}
@@ -106,7 +106,7 @@ few-written a u t f g h v l = record { more_units = omega (arith, length-set a.u
         (subst (λ s. length s.labels ≤ length (table_at a u).labels + g u) (sym (table_at-same a u t h)) l)
     labels w (other e) = subst (λ s. length s.labels ≤ length (table_at a w).labels + g w) (sym (table_at-other a u w t e)) (omega arith)
 
-one-here : (u : ℕ) → one_more_in u u ≡ 1
+pub one-here : (u : ℕ) → one_more_in u u ≡ 1
 one-here u = ap (λ (b : Bool). if b then 1 else 0) (nat_eq-refl u)
 
 value-labels : (t : Table) (n : List ℕ) → (with_value t n).labels ≡ t.labels

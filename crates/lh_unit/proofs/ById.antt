@@ -1,5 +1,5 @@
 -- What is asked of names in a unit is what is asked of ids.
-use Rattle.std.proofs.Common.{◌≡◌, ℕ, ◌<◌, zero, suc, Bool, true, false, ◌||◌, nat_eq, if◌then◌else◌, List, [], ◌∷◌, ◌++◌, map, get_or, Option, Some, None, IsSome, is_some, slice_get, refl, ap, sym, ◌∙◌}
+use Rattle.std.proofs.Common.{◌≡◌, ℕ, ◌<◌, zero, suc, Bool, true, false, ◌||◌, nat_eq, if◌then◌else◌, List, [], ◌∷◌, ◌++◌, map, get_or, Option, Some, None, IsSome, is_some, slice_get, refl, ap, sym, ◌∙◌, eqb-true}
 use Rattle.std.specs.Option.{option_map}
 use Rattle.lh_names.specs.UnitNames.{same_unit_name}
 use Rattle.lh_unit.specs.Contents.{LineText, BlockText, is_result_name, lines_define, blocks_define, args_define, defines_value, defines_label, defines_unit}
@@ -48,7 +48,7 @@ chosen_or : {X : Type 0} (c : Bool) (x : X) (p q r : Option X) → p ≡ or_else
 chosen_or true x p q r e = refl
 chosen_or false x p q r e = e
 
-line_giving-append : (n : List ℕ) (xs ys : List LineText) → line_giving n (xs ++ ys) ≡ or_else (line_giving n xs) (line_giving n ys)
+pub line_giving-append : (n : List ℕ) (xs ys : List LineText) → line_giving n (xs ++ ys) ≡ or_else (line_giving n xs) (line_giving n ys)
 line_giving-append n [] ys = refl
 line_giving-append n (x ∷ xs) ys = chosen_or (is_result_name n x.result) x.inst (line_giving n (xs ++ ys)) (line_giving n xs) (line_giving n ys) (line_giving-append n xs ys)
 
@@ -210,3 +210,28 @@ module _ (a : Arena) (u : ℕ) (o : IsArena a) (h : u < unit_count a) where
           ∙ choose (nat_eq x.0 b) (is_block bs b) (block_text (naming a u) (table_at a u) x) (block_text (naming a u) (table_at a u) record { 0 = b }) (block_of (label_name_at a u b)
           (map (block_text (naming a u) (table_at a u)) bs))
           (λ e. ap (block_text (naming a u) (table_at a u)) (λ i. record { 0 = nat_eq-is x.0 b e i })) (by bs w.1)
+
+pub line_giving-later : (n : List ℕ) (xs ys : List LineText) → line_giving n xs ≡ None → line_giving n (xs ++ ys) ≡ line_giving n ys
+line_giving-later n [] ys h = refl
+line_giving-later n (x ∷ xs) ys h = at (is_result_name n x.result) refl (line_giving-later n xs ys)
+  where
+    at : (b : Bool) → is_result_name n x.result ≡ b → (line_giving n xs ≡ None → line_giving n (xs ++ ys) ≡ line_giving n ys) → line_giving n ((x ∷ xs) ++ ys) ≡ line_giving n ys
+    at true q r = let e : Some x.inst ≡ None = (rw q at h) in absurd cc
+    at false q r = rw q (r (rw q at h))
+
+pub lines_define-append : (n : List ℕ) (xs ys : List LineText) → lines_define n xs ≡ true → lines_define n (xs ++ ys) ≡ true
+lines_define-append n [] ys h = absurd cc
+lines_define-append n (x ∷ xs) ys h = at (is_result_name n x.result) refl (lines_define-append n xs ys)
+  where
+    at : (b : Bool) → is_result_name n x.result ≡ b → (lines_define n xs ≡ true → lines_define n (xs ++ ys) ≡ true) → lines_define n ((x ∷ xs) ++ ys) ≡ true
+    at true q r = rw q refl
+    at false q r = rw q (r (rw q at h))
+
+-- where a block stands
+pub is_block-index : (bs : List BlockId) (b : ℕ) → is_block bs b ≡ true → (j : ℕ) × (slice_get bs j ≡ Some (record { 0 = b }))
+is_block-index [] b e = cc
+is_block-index (x ∷ bs) b e = by (nat_eq x.0 b) refl (λ r. is_block-index bs b r)
+  where
+    by : (c : Bool) → nat_eq x.0 b ≡ c → (is_block bs b ≡ true → (j : ℕ) × (slice_get bs j ≡ Some (record { 0 = b }))) → (j : ℕ) × (slice_get (x ∷ bs) j ≡ Some (record { 0 = b }))
+    by true p f = let q : x.0 ≡ b = eqb-true x.0 b p in (0, λ i. Some (record { 0 = q i }))
+    by false p f = let r = f (ap (λ z. z || is_block bs b) (sym p) ∙ e) in (suc r.0, r.1)

@@ -4,7 +4,7 @@ use Rattle.std.proofs.lemmas.List.{map-append, get_or-set_same, get_or_append_le
 use Rattle.std.proofs.lemmas.Option.{slice_get_within}
 use Rattle.lh_types.specs.Types.{TypeTree}
 use Rattle.lh_unit.specs.Contents as text
-use Rattle.lh_unit.specs.Contents.{ItemText, UnitText, BlockText, LineText, ArgText, unit_text, declare_text, new_unit, change_last, last_unit, line_at_end, defines_unit}
+use Rattle.lh_unit.specs.Contents.{ItemText, UnitText, BlockText, LineText, unit_text, declare_text, new_unit, change_last, last_unit, line_at_end, blocks_define}
 use Rattle.lh_unit.specs.Table.{Table, IsTable, HasBlocks, is_block, insts_at, line_at, no_line}
 use Rattle.lh_unit.specs.TableCalls.{with_arg, with_result, with_block, with_line, last_block}
 use Rattle.lh_unit.specs.Naming.{Naming, naming_of, line_text, arg_text, label_text, block_text, kind_text, table_text}
@@ -18,12 +18,17 @@ use Rattle.lh_unit.specs.declared.inst.Arg.{Arg}
 use Rattle.lh_unit.specs.declared.inst.Item.{Item}
 use Rattle.lh_unit.specs.declared.inst.Item.TheVariants as item
 use Rattle.lh_unit.specs.declared.table.Line.{Line}
-use Rattle.lh_unit.proofs.Lists.{map-same, map-each}
+use Rattle.lh_unit.proofs.Lists.{map-same, map-each, Each-left, Each-right}
 use Rattle.lh_names.proofs.Lists.{slice_get-push, slice_get-push_before}
+use Rattle.lh_names.specs.declared.name.UnitName.{UnitName}
 use Rattle.lh_unit.proofs.Tables.{last-split, front-apart, insts_at-written, last-within, apart}
 use Rattle.lh_unit.proofs.Arenas.{with_table, table_at-same, table_at-other, open-within, open-item}
 use Rattle.lh_unit.proofs.Texts.{insts-within}
 use Rattle.lh_unit.proofs.Defined.{label_text-named}
+use Rattle.lh_unit.specs.declared.inst.UnitKind.{UnitKind}
+use Rattle.lh_unit.specs.Within.{Each}
+use Rattle.lh_unit.specs.Hierarchy.{lines_of}
+use Rattle.lh_unit.specs.declared.inst.UnitKind.TheVariants as kind
 
 -- the text of the unit u, were its table t
 abbrev pub text_with : Arena → ℕ → Table → UnitText
@@ -44,7 +49,7 @@ change_last-push f (declare_text y ∷ []) x = refl
 change_last-push f (unit_text y ∷ z ∷ xs) x = ap (λ l. unit_text y ∷ l) (change_last-push f (z ∷ xs) x)
 change_last-push f (declare_text y ∷ z ∷ xs) x = ap (λ l. declare_text y ∷ l) (change_last-push f (z ∷ xs) x)
 
-line_at_end-push : (l : LineText) (xs : List BlockText) (b : BlockText) → line_at_end l (xs ++ b ∷ []) ≡ xs ++ record b { lines = b.lines ++ l ∷ [] } ∷ []
+pub line_at_end-push : (l : LineText) (xs : List BlockText) (b : BlockText) → line_at_end l (xs ++ b ∷ []) ≡ xs ++ record b { lines = b.lines ++ l ∷ [] } ∷ []
 line_at_end-push l [] b = refl
 line_at_end-push l (x ∷ []) b = refl
 line_at_end-push l (x ∷ y ∷ xs) b = ap (λ z. x ∷ z) (line_at_end-push l (y ∷ xs) b)
@@ -178,3 +183,19 @@ text-with_line a u t r i o h =
         ∙ map-append (λ (k : InstId). line_text f (line_at now k.0)) (insts_at t b) (record { 0 = length t.lines } ∷ [])
         ∙ (λ m. before_it (last_block t) (length s.0) at_last m ++ line_text f (n m) ∷ []) in
         λ m. record { label = label_text f t.kind (last_block t); lines = l m }
+
+-- in a unit that was just begun only the arguments define values
+pub new_unit-blocks : (n : UnitName) (k : UnitKind) (m : List ℕ) → blocks_define m (new_unit n k).blocks ≡ false
+new_unit-blocks n kind.Func m = refl
+new_unit-blocks n kind.Proc m = refl
+new_unit-blocks n kind.Entity m = refl
+
+pub new_unit-args : (n : UnitName) (k : UnitKind) → (new_unit n k).args ≡ []
+new_unit-args n kind.Func = refl
+new_unit-args n kind.Proc = refl
+new_unit-args n kind.Entity = refl
+
+-- from the lines of all blocks to those of each
+pub Each-by_blocks : (P : LineText → Type 0) (bs : List BlockText) → Each P (lines_of bs) → Each (λ (b : BlockText). Each P b.lines) bs
+Each-by_blocks P [] e = tt
+Each-by_blocks P (b ∷ more) e = (Each-left P b.lines (lines_of more) e, Each-by_blocks P more (Each-right P b.lines (lines_of more) e))

@@ -1,6 +1,7 @@
 -- What defines a value: it tells whether the value is defined, and stays the only one as arguments and lines are added.
 use Rattle.std.proofs.Common.{◌≡◌, ℕ, ◌<◌, zero, suc, Bool, true, false, ◌||◌, nat_eq, List, [], ◌∷◌, ◌++◌, length, get_or, Option, Some, None, slice_get, refl, ap, sym, ◌∙◌, subst, arith, length-append}
 use Rattle.std.specs.Option.{option_map}
+use Rattle.std.proofs.lemmas.Bool.{both_ways, or_parts}
 use Rattle.lh_unit.specs.Table.{Table, IsDefinition, is_arg, is_made, is_result, is_defined, result_defined, has_definition, no_line}
 use Rattle.lh_unit.specs.TableCalls.{with_arg, with_line}
 use Rattle.lh_unit.specs.declared.inst.ValueId.{ValueId}
@@ -94,18 +95,11 @@ data After (t : Table) (k : ℕ) (new : ValueDef) (b : Bool) (d : ValueDef) : Ty
   old : IsDefinition t k d → b ≡ false → After t k new b d
   now : b ≡ true → d ≡ new → After t k new b d
 
-contrary : (b : Bool) → b ≡ false → b ≡ true → ⊥
-contrary b f g = cc
-
 once-after : (t : Table) (k : ℕ) (new : ValueDef) (b : Bool) (d e : ValueDef) → (IsDefinition t k d → IsDefinition t k e → d ≡ e) → After t k new b d → After t k new b e → d ≡ e
 once-after t k new b d e o (old p x) (old q y) = o p q
-once-after t k new b d e o (old p x) (now q y) = absurd (contrary b x q)
-once-after t k new b d e o (now p x) (old q y) = absurd (contrary b y p)
+once-after t k new b d e o (old p x) (now q y) = absurd (both_ways b x q)
+once-after t k new b d e o (now p x) (old q y) = absurd (both_ways b y p)
 once-after t k new b d e o (now p x) (now q y) = x ∙ sym y
-
-pub or-none : (b c : Bool) → (b || c) ≡ false → (b ≡ false) × (c ≡ false)
-or-none true c p = cc
-or-none false c p = (refl, p)
 
 fresh : (t : Table) (v k : ℕ) → is_defined t v ≡ false → is_defined t k ≡ true → nat_eq v k ≡ false
 fresh t v k n p = not_true (nat_eq v k) (λ e. let q : is_defined t v ≡ true = ap (is_defined t) (nat_eq-is v k e) ∙ p in cc)
@@ -115,7 +109,7 @@ fresh-result t None k n p = refl
 fresh-result t (Some v) k n p = fresh t v.0 k n p
 
 after-arg : (t : Table) (a : Arg) (k : ℕ) (d : ValueDef) → is_defined t a.value.0 ≡ false → IsDefinition (with_arg t a) k d → After t k (value_def.Arg (length t.args)) (nat_eq a.value.0 k) d
-after-arg t a k value_def.Missing n p = let q = or-none (is_defined t k) (nat_eq a.value.0 k) (sym (is_defined-with_arg t a k) ∙ p) in old q.0 q.1
+after-arg t a k value_def.Missing n p = let q = or_parts (is_defined t k) (nat_eq a.value.0 k) (sym (is_defined-with_arg t a k) ∙ p) in old q.0 q.1
 after-arg t a k (value_def.Inst i) n p = old p (fresh t a.value.0 k n (definition-tells t k (value_def.Inst i) p))
 after-arg t a k (value_def.Arg j) n p = by (trichotomy (length t.args) j)
   where
@@ -131,7 +125,7 @@ after-arg t a k (value_def.Arg j) n p = by (trichotomy (length t.args) j)
 
 after-line : (t : Table) (r : Option ValueId) (i : Inst) (k : ℕ) (d : ValueDef) → result_defined t r ≡ false → IsDefinition (with_line t r i) k d
     → After t k (value_def.Inst record { 0 = length t.lines }) (is_result r k) d
-after-line t r i k value_def.Missing n p = let q = or-none (is_defined t k) (is_result r k) (sym (is_defined-with_line t r i k) ∙ p) in old q.0 q.1
+after-line t r i k value_def.Missing n p = let q = or_parts (is_defined t k) (is_result r k) (sym (is_defined-with_line t r i k) ∙ p) in old q.0 q.1
 after-line t r i k (value_def.Arg j) n p = old p (fresh-result t r k n (definition-tells t k (value_def.Arg j) p))
 after-line t r i k (value_def.Inst x) n p = by (trichotomy (length t.lines) x.0)
   where

@@ -1,6 +1,7 @@
 -- What a definition says of the value: its argument or instruction is the one that is found by a search, and gives its type.
 use Rattle.std.proofs.Common.{◌≡◌, ℕ, ◌<◌, zero, suc, Bool, true, false, ◌||◌, nat_eq, if◌then◌else◌, List, [], ◌∷◌, length, get_or, Option, Some, None, slice_get, refl, ap, sym, ◌∙◌, arith}
 use Rattle.std.specs.Option.{option_map, option_and_then}
+use Rattle.std.proofs.lemmas.Bool.{or_parts}
 use Rattle.lh_unit.specs.Contents.{ArgText}
 use Rattle.lh_unit.specs.Typing.{or_else, result_type, value_type, arg_named, inst_giving}
 use Rattle.lh_unit.specs.Table.{Table, IsTable, IsDefinition, is_arg, is_made, is_result, line_at, no_line}
@@ -15,7 +16,6 @@ use Rattle.lh_unit.specs.declared.inst.Inst.{Inst}
 use Rattle.lh_unit.specs.declared.inst.Arg.{Arg}
 use Rattle.lh_unit.specs.declared.table.Line.{Line}
 use Rattle.lh_unit.proofs.Lists.{nat_eq-refl, nat_eq-is, not_true, some_inj}
-use Rattle.lh_unit.proofs.Defining.{or-none}
 use Rattle.lh_unit.proofs.ById.{arg_named-by_id, inst_giving-by_id}
 
 -- the only argument that is the value, and the only line that gives it
@@ -59,7 +59,7 @@ inst_making-none [] k p = refl
 inst_making-none (l ∷ ls) k p = not-found (is_result l.result k) (is_made ls k) l.inst (inst_making ls k) p (inst_making-none ls k)
 
 -- an argument that is the value stands somewhere
-is_arg-there : (xs : List Arg) (k : ℕ) → is_arg xs k ≡ true → (j : ℕ) × (j < length xs) × (option_map (λ (x : Arg). x.value) (slice_get xs j) ≡ Some (record { 0 = k }))
+pub is_arg-there : (xs : List Arg) (k : ℕ) → is_arg xs k ≡ true → (j : ℕ) × (j < length xs) × (option_map (λ (x : Arg). x.value) (slice_get xs j) ≡ Some (record { 0 = k }))
 is_arg-there [] k p = cc
 is_arg-there (x ∷ xs) k p = by (nat_eq x.value.0 k) refl (is_arg-there xs k)
   where
@@ -109,5 +109,9 @@ module _ (a : Arena) (u : ℕ) (o : IsArena a) (h : u < unit_count a) (v : ℕ) 
 
   pub value_type-missing : IsDefinition (table_at a u) v value_def.Missing → value_type (unit_text_at a u) (value_name_at a u v) ≡ None
   value_type-missing d =
-      let n = or-none (is_arg (args_at a u) v) (is_made (table_at a u).lines v) d in
+      let n = or_parts (is_arg (args_at a u) v) (is_made (table_at a u).lines v) d in
       type-is None None (arg_being-none (args_at a u) v n.0) (inst_making-none (table_at a u).lines v n.1)
+
+-- an argument's definition names it
+pub same-argument : (i j : ℕ) → value_def.Arg i ≡ value_def.Arg j → i ≡ j
+same-argument i j e = cc

@@ -8,6 +8,7 @@ use Rattle.lh_unit.specs.Tokens.{named, first_token, tokens, tokens_after, front
 use Rattle.lh_unit.specs.declared.token.Token.{Token}
 use Rattle.lh_unit.specs.declared.token.TokenKind.{TokenKind}
 use Rattle.lh_unit.specs.declared.token.TokenKind.TheVariants as kind
+use Rattle.lh_types.proofs.Tests.{nat_eq-suc_zero}
 
 drop-next : (at : ℕ) (text : List ℕ) (b : ℕ) (bs : List ℕ) → drop at text ≡ b ∷ bs → drop (at + 1) text ≡ bs
 drop-next at text b bs d = sym (drop-drop 1 at text) ∙ ap (drop 1) d
@@ -20,9 +21,6 @@ bytes_at-first at n text b bs d = let e : at + 1 + n - at ≡ suc n = omega arit
 lexeme_of_first : Result (TokenKind × ℕ) ℕ → ℕ → List ℕ → Option (Lexeme × ℕ)
 lexeme_of_first (Ok p) b bs = Some (lexeme_of p.0 (b ∷ take p.1 bs), p.1)
 lexeme_of_first (Err n) b bs = None
-
-not_zero : (n : ℕ) → nat_eq (suc n) 0 ≡ false
-not_zero n = grind (arith, common_steps)
 
 above_zero : (n : ℕ) → nat_lt 0 (suc n) ≡ true
 above_zero n = grind (arith, common_steps)
@@ -37,7 +35,7 @@ sigil : (k : TokenKind) (name : List ℕ → Lexeme) (b n : ℕ) (bs : List ℕ)
     → (if fits_name n then Some (name (take n bs), n) else None) ≡ lexeme_of_first (named k n) b bs
 unfolding lexeme_of_first
 sigil k name b zero bs h = refl
-sigil k name b (suc n) bs h = rw (above_zero n, not_zero n) (sigil_test k name (nat_lt (suc n) 256) b (suc n) bs h)
+sigil k name b (suc n) bs h = rw (above_zero n, nat_eq-suc_zero n) (sigil_test k name (nat_lt (suc n) 256) b (suc n) bs h)
 
 -- by the tests of the first byte
 by_tests : (name g l dash more mark : Bool) (b n : ℕ) (bs : List ℕ) →
@@ -119,7 +117,7 @@ IsOkOf r p = r ≡ Ok p
 
 named-ok : (k : TokenKind) (n : ℕ) (p : TokenKind × ℕ) → named k n ≡ Ok p → ((k, n) ≡ p) × (1 ≤ n) × (n ≤ 255)
 named-ok k zero p e = cc
-named-ok k (suc n) p e = few (nat_lt (suc n) 256) refl (rw (not_zero n) at e)
+named-ok k (suc n) p e = few (nat_lt (suc n) 256) refl (rw (nat_eq-suc_zero n) at e)
   where
     few : (t : Bool) → nat_lt (suc n) 256 ≡ t → IsOkOf (if t then Ok (k, suc n) else Err 256) p → ((k, suc n) ≡ p) × (1 ≤ suc n) × (suc n ≤ 255)
     few true l f = (cc, omega arith, grind (arith, common_steps))

@@ -1,14 +1,20 @@
 -- Lists with one more item, distinct keys, maps and lists of lists.
-use Rattle.std.proofs.Common.{◌≡◌, ◌≢◌, ℕ, ◌+◌, ◌<◌, zero, suc, true, nat_eq, List, [], ◌∷◌, ◌++◌, length, map, drop, get_or, Option, Some, None, is_some, slice_get, refl, ap, sym, ◌∙◌, subst, arith, append_assoc}
+use Rattle.std.proofs.Common.{◌≡◌, ◌≢◌, ℕ, ◌+◌, ◌<◌, zero, suc, true, nat_eq, List, [], ◌∷◌, ◌++◌, length, map, drop, get_or, Option, Some, None, is_some, slice_get, refl, ap, sym, ◌∙◌, subst, arith, append_assoc, Bool, false}
 use Rattle.std.proofs.lemmas.List.{map-append, drop_more}
 use Rattle.std.proofs.lemmas.Grind.{common_steps}
 use Rattle.lh_names.proofs.Lists.{before, at, past, trichotomy}
 use Rattle.lh_unit.specs.Table.{flat}
 use Rattle.lh_unit.specs.Within.{Each}
+use Rattle.lh_unit.specs.Design.{first_some}
+use Rattle.lh_unit.specs.Typing.{or_else, if_made}
 -- std's laws of tests and of equal options
 pub use Rattle.std.proofs.Math.Bool.{or-false as or_false, or-true as or_true, or_assoc as or-assoc}
 pub use Rattle.std.proofs.lemmas.Bool.{false_from_ne_true as not_true, ne_eqb as nat_eq-other, eqb-true as nat_eq-is}
 pub use Rattle.std.proofs.lemmas.Option.{same_Some as some_inj}
+use Rattle.std.proofs.lemmas.Bool.{or_parts}
+use Rattle.std.specs.List.{list_any}
+use Rattle.lh_types.specs.declared.ty.TyFault.{TyFault}
+use Rattle.lh_types.specs.Types.{TypeTree}
 
 -- two numbers are one or not
 pub data Same (a b : ℕ) : Type 0 where
@@ -110,3 +116,40 @@ Each-part P g (y ∷ xs) (suc i) x p w = Each-part P g xs i x p (Each-right P (g
 pub Each-flat : {X Y : Type 0} (P : Y → Type 0) (g : X → List Y) (xs : List X) → Each P (flat (map g xs)) → Each (λ x. Each P (g x)) xs
 Each-flat P g [] w = tt
 Each-flat P g (x ∷ xs) w = (Each-left P (g x) (flat (map g xs)) w, Each-flat P g xs (Each-right P (g x) (flat (map g xs)) w))
+
+pub Each-from : {X : Type 0} (P : X → Type 0) (xs : List X) → ((i : ℕ) (x : X) → slice_get xs i ≡ Some x → P x) → Each P xs
+Each-from P [] h = tt
+Each-from P (x ∷ xs) h = (h 0 x refl, Each-from P xs (λ i y e. h (suc i) y e))
+
+pub Each-zip : {X : Type 0} → (P Q R : X → Type 0) → ((x : X) → P x → Q x → R x) → (xs : List X) → Each P xs → Each Q xs → Each R xs
+Each-zip P Q R f [] d e = tt
+Each-zip P Q R f (x ∷ xs) d e = (f x d.0 e.0, Each-zip P Q R f xs d.1 e.1)
+
+pub Each-of-map : {X Y : Type 0} (P : Y → Type 0) (f : X → Y) (xs : List X) → Each P (map f xs) → Each (λ (x : X). P (f x)) xs
+Each-of-map P f [] e = tt
+Each-of-map P f (x ∷ xs) e = (e.0, Each-of-map P f xs e.1)
+
+pub Each-next : {X : Type 0} (P : X → Type 0) (xs : List X) (i : ℕ) (d : X) → i < length xs → Each P (drop i xs) → Each P (drop (i + 1) xs)
+Each-next P xs i d h e = (subst (Each P) (drop_more xs i d h) e).1
+
+-- tests of which none or the first holds
+pub Each-fails : {X : Type 0} → (p : X → Bool) (xs : List X) → list_any p xs ≡ false → Each (λ x. p x ≡ false) xs
+Each-fails p [] h = tt
+Each-fails p (x ∷ xs) h = let b = or_parts (p x) (list_any p xs) h in (b.0, Each-fails p xs b.1)
+
+pub list_any-none : {X : Type 0} (test : X → Bool) (xs : List X) → Each (λ x. test x ≡ false) xs → list_any test xs ≡ false
+list_any-none test [] h = refl
+list_any-none test (x ∷ xs) h = rw h.0 (list_any-none test xs h.1)
+
+pub first_some-none : {A B : Type 0} (f : A → Option B) (xs : List A) → Each (λ x. f x ≡ None) xs → first_some f xs ≡ None
+first_some-none f [] h = refl
+first_some-none f (x ∷ xs) h = ap (λ o. or_else o (first_some f xs)) h.0 ∙ first_some-none f xs h.1
+
+pub or_else-none : {X : Type 0} → (o : Option X) → or_else o None ≡ o
+or_else-none None = refl
+or_else-none (Some x) = refl
+
+-- a type that was made has no fault, and is the one that was to be made
+pub if_made-is : (f : Option TyFault) (t s : TypeTree) → if_made f t ≡ Some s → (f ≡ None) × (t ≡ s)
+if_made-is None t s q = (refl, cc)
+if_made-is (Some x) t s q = cc

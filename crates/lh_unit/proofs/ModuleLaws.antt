@@ -1,6 +1,8 @@
 -- What callers may cite of a module: entries stay, names tell ids apart, what holds of the open unit.
-use Rattle.std.proofs.Common.{◌≡◌, ℕ, ◌<◌, suc, List, [], ◌∷◌, ◌++◌, length, Option, Some, None, IsSomeAnd, slice_get, refl, ap, sym, ◌∙◌, subst, arith}
+use Rattle.std.proofs.Common.{◌≡◌, ℕ, ◌<◌, suc, List, [], ◌∷◌, ◌++◌, length, Option, Some, None, IsSomeAnd, slice_get, refl, ap, sym, ◌∙◌, subst, arith, inl, inr, get_or}
 use Rattle.std.proofs.lemmas.Option.{slice_get-get_or}
+use Rattle.std.proofs.lemmas.Bool.{cases_lt}
+use Rattle.std.proofs.lemmas.List.{get_or_past}
 use Rattle.lh_unit.specs.Contents.{ItemText, UnitText, BlockText, LineText, unit_text, declare_text, last_unit, change_last, line_at_end}
 use Rattle.lh_unit.specs.Builders.{HasContents}
 use Rattle.lh_unit.specs.Within.{Each, ValueWithin, MaybeWithin, OperandWithin, TriggerWithin, EdgeWithin}
@@ -18,6 +20,8 @@ use Rattle.lh_unit.proofs.Tables.{is_block-at, stands-within}
 use Rattle.lh_unit.proofs.Within.{InstWithin-more, OperandWithin-more, TriggerWithin-more, EdgeWithin-more, MaybeWithin-more}
 use Rattle.lh_unit.proofs.Texts.{Agree, inst-same, operand-same, trigger-same, edge-same, maybe-same, value-same, insts-within}
 use Rattle.lh_unit.proofs.ContentsLemmas.{last_unit-push}
+use Rattle.lh_unit.proofs.Lists.{Each-at}
+use Rattle.lh_unit.specs.Table.{line_at, no_line}
 
 -- entries that stay
 pub KeepsEntries-refl : (a : Arena) → KeepsEntries a a
@@ -164,3 +168,13 @@ length-line_at_end l (b ∷ c ∷ bs) = ap suc (length-line_at_end l (c ∷ bs))
 
 pub OfOpen-map : (a : Arena) (P Q : UnitText → Type 0) → ((t : UnitText) → P t → Q t) → OfOpen a P → OfOpen a Q
 OfOpen-map a P Q f h = let t = of_some (last_unit (contents a)) P h in OfOpen-from a Q t.0 t.1 (f t.0 t.2)
+
+pub insts-at : (n i : ℕ) (d : InstId) (xs ys : List InstId) → i < length xs → xs ≡ ys → Each (λ (x : InstId). x.0 < n) ys → (get_or xs i d).0 < n
+insts-at n i d xs ys l e h = Each-at (λ (x : InstId). x.0 < n) xs i d (subst (Each (λ (x : InstId). x.0 < n)) (sym e) h) l
+
+-- each instruction is placed
+pub line-placed : (a : Arena) (u i : ℕ) → IsArena a → InstPlaced a u (line_at (table_at a u) i).inst
+line-placed a u i o = elim (cases_lt i (length (table_at a u).lines)) [
+  | inl l ↦ o.placed u i (line_at (table_at a u) i) (slice_get-get_or (table_at a u).lines i no_line l)
+  | inr l ↦ let e : line_at (table_at a u) i ≡ no_line = get_or_past (table_at a u).lines i no_line l in subst (λ x. InstPlaced a u x.inst) (sym e) tt
+]

@@ -19,7 +19,7 @@ use Rattle.lh_unit.proofs.Lists.{nat_eq-refl, some-within, Each-flat}
 use Rattle.lh_unit.proofs.Texts.{ids-within}
 use Rattle.lh_unit.proofs.ById.{ResultWithin-at}
 
-ArgsWithin-at : (n : ℕ) (xs : List Arg) (i : ℕ) (d : Arg) → ArgsWithin n xs → i < length xs → (get_or xs i d).value.0 < n
+pub ArgsWithin-at : (n : ℕ) (xs : List Arg) (i : ℕ) (d : Arg) → ArgsWithin n xs → i < length xs → (get_or xs i d).value.0 < n
 ArgsWithin-at n [] i d w h = absurd (omega arith)
 ArgsWithin-at n (x ∷ xs) zero d w h = w.0
 ArgsWithin-at n (x ∷ xs) (suc i) d w h = ArgsWithin-at n xs i d w.1 (omega arith)

@@ -8,9 +8,7 @@ use Rattle.lh_unit.specs.declared.inst.InstId.{InstId}
 use Rattle.lh_verify.specs.declared.spots.Spot.{Spot}
 use Rattle.lh_verify.specs.Spots.{is_other, is_empty, spots_in, spots_from}
 use Rattle.std.proofs.lemmas.List.{drop_more}
-
-suc-eq : (a b : ℕ) → nat_eq (suc a) (suc b) ≡ nat_eq a b
-suc-eq a b = grind (arith, common_steps)
+use Rattle.lh_types.proofs.Tests.{nat_eq-suc}
 
 -- the last is that behind which none is left
 pub last-empty : (is : List InstId) (k : ℕ) → k < length is → nat_eq (k + 1) (length is) ≡ is_empty (drop (k + 1) is)
@@ -20,7 +18,7 @@ last-empty (i ∷ j ∷ is) zero h = grind (arith, common_steps)
 last-empty (i ∷ is) (suc k) h =
     let e : suc k + 1 ≡ suc (k + 1) = omega arith in
     ap (λ m. nat_eq m (suc (length is))) e
-    ∙ suc-eq (k + 1) (length is)
+    ∙ nat_eq-suc (k + 1) (length is)
     ∙ last-empty is k (omega arith)
     ∙ ap (λ m. is_empty (drop m (i ∷ is))) (sym e)
 

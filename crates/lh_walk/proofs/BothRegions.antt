@@ -11,7 +11,7 @@ use Rattle.lh_term.specs.Arena.{Grows}
 use Rattle.lh_term.specs.declared.term.Node.{Node}
 use Rattle.lh_rows.specs.Rows as text
 use Rattle.lh_rows.specs.Regions as texts
-use Rattle.lh_rows.specs.Regions.{lines_at, RegionRefusal, head_phi, Course, stops, comes_to, first_region, second_region, one_target, no_regions, with_first, with_second, second_if, regions_of}
+use Rattle.lh_rows.specs.Regions.{lines_at, RegionRefusal, head_phi, Course, comes_to, first_region, second_region, one_target, no_regions, with_first, with_second, second_if, regions_of}
 use Rattle.lh_walk.specs.declared.walk.Region.{Region}
 use Rattle.lh_walk.specs.declared.walk.Walk.{Walk}
 use Rattle.lh_region.specs.declared.rows.EndRow.{EndRow}

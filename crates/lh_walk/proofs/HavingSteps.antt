@@ -45,6 +45,7 @@ use Rattle.lh_parts.specs.declared.step.PartStep.{PartStep}
 use Rattle.lh_rows.specs.Typed.{Among}
 use Rattle.lh_rows.specs.Right.{as_block}
 use Rattle.lh_rows.proofs.Among.{in-each}
+use Rattle.lh_rows.proofs.Operations.{carried-is}
 use Rattle.lh_region.specs.Forms.{Names}
 use Rattle.lh_walk.specs.Walked.{process_by}
 use Rattle.lh_walk.proofs.Parting.{argument-none}
@@ -164,9 +165,6 @@ defined a (x ∷ xs) (inr h) = by (same_name x.name a.name) (defined a xs h)
 
 -- ---- what a step leads to
 
-same-carried : (x y : TypeTree) → signal_type x ≡ signal_type y → x ≡ y
-same-carried x y e = cc
-
 -- the part that is taken of a signal has the bits of the type that is written
 taken-fits : (u : UnitText) (x : OperandText) (k : Step) (whole ty : TypeTree) (r : Range) → TakesPart u k (x ∷ []) → value_type u x.value ≡ Some (signal_type whole) → x.ty ≡ Some (signal_type ty)
     → Parts.range_of whole (k ∷ []) ≡ Some r → r.len ≡ bit_count ty
@@ -174,7 +172,7 @@ taken-fits u x k whole ty r t v w g =
     let same : x ≡ t.operand = cc_operand in
     let z = leads-is k t.whole t.of whole t.leads (same_Some t.whole (signal_type whole) (sym t.is ∙ ap (λ (y : OperandText). value_type u y.value) (sym same) ∙ v)) in
     let of : t.of ≡ signal_type ty = same_Some t.of (signal_type ty) (sym t.written ∙ ap (λ (y : OperandText). y.ty) (sym same) ∙ w) in
-    let same-ty : z.0.of ≡ ty = same-carried z.0.of ty (sym z.2 ∙ of) in
+    let same-ty : z.0.of ≡ ty = carried-is z.0.of ty (sym z.2 ∙ of) in
     ap (λ (y : Range). y.len) (sym (same_Some (part_range z.0) r (sym (parts_have_ranges whole k z.0 z.1) ∙ g))) ∙ ap bit_count same-ty
   where
     first-of : (a b : OperandText) → a ∷ [] ≡ b ∷ [] → a ≡ b

@@ -1,5 +1,5 @@
 -- The part of a value by ids is the part of its name.
-use Rattle.std.proofs.Common.{◌≡◌, ◌≢◌, ◌⊎◌, inl, inr, ℕ, zero, suc, ◌+◌, ◌<◌, Bool, true, false, ◌||◌, nat_eq, if◌then◌else◌, List, [], ◌∷◌, ◌++◌, length, map, Option, Some, None, refl, ap, sym, ◌∙◌, subst}
+use Rattle.std.proofs.Common.{◌≡◌, ◌≢◌, ◌⊎◌, inl, inr, ℕ, zero, suc, ◌+◌, ◌<◌, Bool, true, false, nat_eq, if◌then◌else◌, List, [], ◌∷◌, ◌++◌, length, map, Option, Some, None, refl, ap, sym, ◌∙◌, subst}
 use Rattle.std.specs.Option.{option_map, option_and_then}
 use Rattle.std.proofs.lemmas.Bool.{false≢true, or_parts}
 use Rattle.std.proofs.lemmas.Option.{same_Some, none-some}
@@ -48,8 +48,8 @@ use Rattle.lh_rows.specs.Places.{stepped}
 use Rattle.lh_rows.specs.Typed.{Among, argument_part, IsPartOf, of_argument, of_step}
 use Rattle.lh_rows.specs.Right.{as_block}
 use Rattle.lh_rows.proofs.Among.{in-each, among-split, among-left, among-right}
-use Rattle.lh_rows.proofs.PartsNamed.{part-argument}
-use Rattle.lh_rows.proofs.Heads.{define-last}
+use Rattle.lh_rows.proofs.PartsNamed.{part-argument, part-is as same-known}
+use Rattle.lh_rows.proofs.Heads.{define-last, define-append}
 use Rattle.lh_region.specs.Forms.{Names}
 use Rattle.lh_walk.specs.Walked.{process_by}
 
@@ -177,14 +177,6 @@ among-insts f k (b ∷ bs) l a p = by (λ c. among-insts f (k + 1) bs l c p) (am
 
 -- ---- arguments by their names
 
-define-front : (n : List ℕ) (xs ys : List ArgText) → args_define n xs ≡ true → args_define n (xs ++ ys) ≡ true
-define-front n [] ys e = absurd cc
-define-front n (x ∷ xs) ys e = by (same_name x.name n) e (define-front n xs ys)
-  where
-    by : (b : Bool) → (b || args_define n xs) ≡ true → (args_define n xs ≡ true → args_define n (xs ++ ys) ≡ true) → (b || args_define n (xs ++ ys)) ≡ true
-    by true e go = refl
-    by false e go = go e
-
 module _ (f : Naming) (t : Flat) (n : Names t f) (v : ℕ) (l : v < t.values) where
   abbrev ArgsBelow : List Arg → Type 0
   ArgsBelow xs = Each (λ (a : Arg). a.value.0 < t.values) xs
@@ -202,7 +194,7 @@ module _ (f : Naming) (t : Flat) (n : Names t f) (v : ℕ) (l : v < t.values) wh
       let p = or_parts (args_define (f.value_name a.value.0) seen) (args_repeat (seen ++ arg_text f a ∷ []) (map (arg_text f) xs)) r in
       let other : nat_eq a.value.0 v ≡ false = by (nat_eq a.value.0 v) refl p.0 in
       or-none (argument_from (k + 1) xs v) (if nat_eq a.value.0 v then option_map (whole_of k) (carried a.ty) else None)
-      (args-none (seen ++ arg_text f a ∷ []) (k + 1) xs b.1 (define-front (f.value_name v) seen (arg_text f a ∷ []) d) p.1)
+      (args-none (seen ++ arg_text f a ∷ []) (k + 1) xs b.1 (define-append (f.value_name v) seen (arg_text f a ∷ []) d) p.1)
       (ap (λ (c : Bool). if c then option_map (whole_of k) (carried a.ty) else None) other)
     where
       by : (c : Bool) → nat_eq a.value.0 v ≡ c → args_define (f.value_name a.value.0) seen ≡ false → c ≡ false
@@ -233,9 +225,6 @@ record StepIs (o : Op) (v : ValueId) (ty : Option TypeTree) (w p : Part) : Type 
   is : step_if o v (step_of o) ty ≡ Some step
   from : step.from ≡ v
   leads : ids.stepped w step ≡ Some p
-
-same-known : (p q : Part) → Some (known_part p) ≡ Some (known_part q) → p ≡ q
-same-known p q e = cc
 
 step-is : (o : Op) (v : ValueId) (ty : Option TypeTree) (w p : Part) → stepped (Some w) ty (step_of o) ≡ Some (known_part p) → StepIs o v ty w p
 step-is o v ty w p e = by (step_of o) refl ty e

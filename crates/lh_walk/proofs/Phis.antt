@@ -1,5 +1,6 @@
 -- The `phi`s of a block are taken from the last line to the first.
 use Rattle.std.proofs.Common.{◌≡◌, ℕ, zero, suc, ◌+◌, ◌-◌, ◌<◌, ◌≤◌, false, List, [], ◌∷◌, ◌++◌, length, drop, get_or, Option, Some, None, refl, ap, sym, ◌∙◌, subst, arith}
+use Rattle.std.proofs.lemmas.List.{map_push}
 use Rattle.lh_unit.specs.Contents.{InstText, phi_text}
 use Rattle.lh_unit.specs.Naming.{Naming, maybe_text, inst_text}
 use Rattle.lh_unit.specs.Within.{Each}
@@ -13,7 +14,6 @@ use Rattle.lh_flat.specs.declared.flat.Merge.{Merge}
 use Rattle.lh_flat.specs.declared.flat.FlatInst.{FlatInst}
 use Rattle.lh_term.specs.Arena.{Grows}
 use Rattle.lh_term.specs.declared.term.Node.{Node}
-use Rattle.lh_term.proofs.Arenas.{map_push}
 use Rattle.lh_term.proofs.Swaps.{grows_on}
 use Rattle.lh_joins.proofs.Conditions.{grows-none}
 use Rattle.lh_rows.specs.Known.{Knowledge}

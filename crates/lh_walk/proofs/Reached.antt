@@ -272,11 +272,11 @@ module _ (ns : List Node) (r : Region) (w : Walk) (turns block : ℕ) (l : block
     stops-block e t f name s c h = stops-place ns f name r w turns block s c h l some ms q at b lt e t
 
 -- what begins is the place to which these edges lead
-pub begins-by : (ns ms : List Node) (w q : Walk) (turns block : ℕ) (at : WalkPoint) (es fs : List Edge) → es ≡ led_to w.ahead.here.items block → fs ≡ es → (led_to w.ahead.here.items block ≡ [] → ⊥)
+pub begins-by : (ns ms : List Node) (w q : Walk) (turns block : ℕ) (at : WalkPoint) (into fs : List Edge) → into ≡ led_to w.ahead.here.items block → fs ≡ into → (led_to w.ahead.here.items block ≡ [] → ⊥)
     → IsReached w.ahead.here.items block q.ahead.here.items → q.ahead.next ≡ w.ahead.next → q.insts ≡ w.insts → q.rows ≡ w.rows → q.sources ≡ w.sources → Grows ns ms
-    → IsBegun w.places.items block es q.places.items → BeginsJoined w.places.items es q.places.items → at.place ≡ length w.places.items → at.block ≡ block → at.turns ≡ turns
+    → IsBegun w.places.items block into q.places.items → BeginsJoined w.places.items into q.places.items → at.place ≡ length w.places.items → at.block ≡ block → at.turns ≡ turns
     → StandsForTree ms at.cond (any_taken (edges_on ns fs)) → PlaceBegins ns ms w q turns block at
-begins-by ns ms w q turns block at es fs e f some reached next insts rows sources grows begun joined place of_block of_turns cond = record {
+begins-by ns ms w q turns block at into fs e f some reached next insts rows sources grows begun joined place of_block of_turns cond = record {
   some = some;
   reached = reached;
   next = next;
@@ -292,5 +292,5 @@ begins-by ns ms w q turns block at es fs e f some reached next insts rows source
   cond = subst (λ x. StandsForTree ms at.cond (any_taken (edges_on ns x))) (f ∙ e) cond;
 }
 
-pub some-led : (es led : List Edge) (n : ℕ) → es ≡ led → n ≡ length es → (n ≡ 0 → ⊥) → led ≡ [] → ⊥
-some-led es led n e l not f = not (l ∙ ap length (e ∙ f))
+pub some-led : (into led : List Edge) (n : ℕ) → into ≡ led → n ≡ length into → (n ≡ 0 → ⊥) → led ≡ [] → ⊥
+some-led into led n e l not f = not (l ∙ ap length (e ∙ f))

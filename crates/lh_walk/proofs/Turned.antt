@@ -1,6 +1,7 @@
 -- A turn and all turns: what each place passes, a turn passes, and what each turn passes, all of them.
 use Rattle.std.proofs.Common.{◌≡◌, ◌⊎◌, inl, inr, ℕ, zero, suc, ◌+◌, ◌-◌, ◌<◌, ◌≤◌, List, [], ◌∷◌, length, true, ◌&&◌, refl, sym, ◌∙◌, subst, arith}
 use Rattle.std.proofs.lemmas.List.{append-nil}
+use Rattle.std.specs.Cmp.{first_so, second_so}
 use Rattle.lh_names.specs.declared.name.UnitName.{UnitName}
 use Rattle.lh_unit.specs.Naming.{Naming}
 use Rattle.lh_term.specs.Arena.{Grows}
@@ -19,7 +20,7 @@ use Rattle.lh_region.specs.Stands.{AreRows, refusal_of}
 use Rattle.lh_region.specs.Walking.{Story, place_of, AreSources}
 use Rattle.lh_walk.specs.Walked.{region_text, StopsFor}
 use Rattle.lh_walk.specs.Turns.{places_of, turns_below, IsWalk, IsTurn, CanWalk, CanTurn, Beginning, Passes, Stops, walks_at, turns_at, PassesAll}
-use Rattle.lh_walk.proofs.Turning.{ahead-turned, nothing-here, nothing-next, nothing-led, and-first, and-second, places-more, turns-more, places-none, turns-none, places-stop, turns-stop, passes-on, stops-on}
+use Rattle.lh_walk.proofs.Turning.{ahead-turned, nothing-here, nothing-next, nothing-led, places-more, turns-more, places-none, turns-none, places-stop, turns-stop, passes-on, stops-on}
 
 pub stops-memory : (From : Beginning) (r : Region) (ps : List RegionPlace) (e : RegionFault) → e ≡ fault.OutOfMemory → Stops From r ps e
 stops-memory From r ps e q f name s c from = subst (λ x. StopsFor (through_all (region_text f r) ps c) (refusal_of x)) (sym q) tt
@@ -158,8 +159,8 @@ module _ (ns : List Node) (r : Region) (w : Walk) (first n : ℕ) (ms : List Nod
   turns-end l m e f name s c t =
       let x = h.passes f name s c t in
       let a = x.3.course.so_far.ahead in
-      let here = nothing-here ms x.0 k q.ahead x.1.edges a (nothing-led q.ahead.here.items (and-first (none_led q.ahead.here.items) (none_led q.ahead.next.items) e)) in
-      let next = nothing-next ms x.0 k q.ahead x.1.edges a (nothing-led q.ahead.next.items (and-second (none_led q.ahead.here.items) (none_led q.ahead.next.items) e)) in
+      let here = nothing-here ms x.0 k q.ahead x.1.edges a (nothing-led q.ahead.here.items (first_so (none_led q.ahead.here.items) (none_led q.ahead.next.items) e)) in
+      let next = nothing-next ms x.0 k q.ahead x.1.edges a (nothing-led q.ahead.next.items (second_so (none_led q.ahead.here.items) (none_led q.ahead.next.items) e)) in
       let z : k + (257 - k) ≡ 257 = omega (arith, l) in (
         k,
         (

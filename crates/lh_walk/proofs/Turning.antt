@@ -1,11 +1,11 @@
 -- Places one after the other, by the definition and by a walk: what passes some and then others passes all of them.
-use Rattle.std.proofs.Common.{◌≡◌, ℕ, zero, suc, ◌+◌, ◌<◌, ◌≤◌, Bool, true, false, ◌&&◌, nat_eq, List, [], ◌∷◌, ◌++◌, Option, Some, None, refl, ap, sym, ◌∙◌, subst, append_assoc, arith}
+use Rattle.std.proofs.Common.{◌≡◌, ℕ, zero, suc, ◌+◌, ◌<◌, ◌≤◌, true, nat_eq, List, [], ◌∷◌, ◌++◌, Option, Some, None, refl, ap, sym, ◌∙◌, subst, append_assoc, arith}
 use Rattle.std.specs.List.{flat_map}
-use Rattle.std.proofs.lemmas.List.{append-nil}
+use Rattle.std.proofs.lemmas.List.{append-nil, map_push}
 use Rattle.std.proofs.lemmas.Bool.{cond-false}
+use Rattle.std.specs.Cmp.{first_so, second_so}
 use Rattle.lh_unit.proofs.Lists.{nat_eq-other}
 use Rattle.lh_term.specs.declared.term.Node.{Node}
-use Rattle.lh_term.proofs.Arenas.{map_push}
 use Rattle.lh_rows.specs.Joins.{RegionPlace, RegionEdge}
 use Rattle.lh_rows.specs.Places.{Region as RegionText}
 use Rattle.lh_rows.specs.Regions.{RegionRefusal, Course, Coursed, stops, comes_to, then_course, edges_to, through_reached, through_all, numbers_below}
@@ -72,18 +72,10 @@ no-edge : (es : List Edge) → is_no_edge es ≡ true → es ≡ []
 no-edge [] e = refl
 no-edge (x ∷ es) e = absurd cc
 
-pub and-first : (a b : Bool) → (a && b) ≡ true → a ≡ true
-and-first true b e = refl
-and-first false b e = e
-
-pub and-second : (a b : Bool) → (a && b) ≡ true → b ≡ true
-and-second true b e = e
-and-second false b e = absurd cc
-
 pub nothing-led : (led : List (List Edge)) → none_led led ≡ true → (b : ℕ) → led_to led b ≡ []
 nothing-led [] e b = refl
-nothing-led (es ∷ led) e zero = no-edge es (and-first (is_no_edge es) (none_led led) e)
-nothing-led (es ∷ led) e (suc b) = nothing-led led (and-second (is_no_edge es) (none_led led) e) b
+nothing-led (es ∷ led) e zero = no-edge es (first_so (is_no_edge es) (none_led led) e)
+nothing-led (es ∷ led) e (suc b) = nothing-led led (second_so (is_no_edge es) (none_led led) e) b
 
 -- ---- places one after the other
 

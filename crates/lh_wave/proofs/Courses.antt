@@ -1,9 +1,10 @@
 -- A run from one of its points to a later one, and where it broke off.
-use Rattle.std.proofs.Common.{◌≡◌, ℕ, ◌+◌, ◌≤◌, Bool, true, false, ◌||◌, List, [], ◌∷◌, ◌++◌, length, take, drop, refl, ap, sym, ◌∙◌, append_assoc, subst, Option, Some, None, arith}
+use Rattle.std.proofs.Common.{◌≡◌, ℕ, ◌+◌, ◌≤◌, Bool, ◌||◌, List, [], ◌∷◌, ◌++◌, length, take, drop, refl, ap, sym, ◌∙◌, append_assoc, subst, Option, Some, None, arith}
 use Rattle.std.specs.List.{list_any}
 use Rattle.std.proofs.lemmas.List.{append-nil, length-append, take-append-drop, take-append-le}
 use Rattle.std.proofs.Math.Seq.{take-append-add, take-append_seam}
 use Rattle.std.proofs.lemmas.List.Folds.{list_any-append}
+use Rattle.std.proofs.Math.Bool.{or_assoc, or-false}
 use Rattle.lh_types.specs.declared.frame.Outcome.{Outcome}
 use Rattle.lh_types.specs.declared.frame.Frame as frames
 use Rattle.lh_types.specs.Values.{Datum}
@@ -93,10 +94,6 @@ told_broken e old new before f was now a b more left end w p h =
     subst (λ (x : WaveFault). BreaksOff x a b (was ++ text_left old before (f ∷ more) left end)) (sym w)
     (subst (AppendsProperPrefix a b) (p.text more left end) (in_front_of a b now (text_left new (Some f.values) more left end) h))
 
-or_assoc : (a b c : Bool) → (a || b) || c ≡ a || (b || c)
-or_assoc true b c = refl
-or_assoc false b c = refl
-
 pub went_on : (a b c : Going) → Went a b → Went b c → Went a c
 went_on a b c g h = record {
   since = g.since ++ h.since;
@@ -125,15 +122,11 @@ stays_put a = record {
   end = refl;
   reported = refl;
   reports = sym (append-nil a.reports);
-  failed = or_false a.failed;
+  failed = sym (or-false a.failed);
   text = refl;
   told = told_none a.written;
   seen = λ now s. s;
 }
-  where
-    or_false : (f : Bool) → f ≡ f || false
-    or_false true = refl
-    or_false false = refl
 
 pub broke_on : (a b : Going) (e : WaveFault) (written : Option (List ℕ)) (now : List Member) → Went a b → BrokeOff b e written now → BrokeOff a e written now
 broke_on a b e written now g h = record {
@@ -147,10 +140,6 @@ broke_now a e written now o w m = record {
   text = subst (λ (x : Option (List ℕ)). BreaksOff e a.written x (text_ahead a)) (sym w) (none_of e a.written (text_ahead a) o);
   seen = subst (HaveSeen (pictures_ahead a) a.members) (sym m) (no_more (pictures_ahead a) a.members);
 }
-
-or_false : (f : Bool) → f ≡ f || false
-or_false true = refl
-or_false false = refl
 
 -- a frame was told and shown
 pub frame_went : (t : Teller) (s' : Scribe) (waits : List ℕ) (before : Option (List Datum)) (v : Frame) (p : Picture) (ms ms' : List Member) (rest : ShownRun) (wr wr' : Option (List ℕ)) (rp rp' : List ℕ)
@@ -166,7 +155,7 @@ frame_went t s' waits before v p ms ms' rest wr wr' rp rp' failed n told m r f =
   end = refl;
   reported = refl;
   reports = r;
-  failed = f ∙ ap (λ b. t.failed || b) (or_false (has_failed v.outcomes));
+  failed = f ∙ ap (λ b. t.failed || b) (sym (or-false (has_failed v.outcomes)));
   text = told.text rest.frames rest.left rest.end;
   told = told.told;
   seen = λ now s. one_more (picture_by before v) (pictures (Some v.values) rest.frames) ms now

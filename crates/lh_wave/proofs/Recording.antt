@@ -3,6 +3,7 @@ use Rattle.std.proofs.Common.{◌≡◌, ℕ, zero, suc, ◌+◌, ◌-◌, ◌<�
 use Rattle.std.specs.Prelude.{nat_eq, ◌||◌, Result, Ok, Err, OnOk}
 use Rattle.std.proofs.lemmas.Bool.Decides.{nat_tests}
 use Rattle.std.proofs.lemmas.List.{append-nil, drop_all, drop_more, take_more, map-append, length-map, get_or-map}
+use Rattle.std.proofs.Math.Bool.{or-true}
 use Rattle.lh_types.specs.Values.{Datum, int_value}
 use Rattle.lh_types.specs.ValueOf.{datum_of}
 use Rattle.lh_types.specs.SameValue.{same_datum}
@@ -44,15 +45,11 @@ values_more vs more cs i c v w h e s g =
     ap (map datum_of) g ∙ map-append datum_of vs (v ∷ []) ∙ ap (λ l. l ++ datum_of v ∷ []) w ∙ ap (λ x. map value (take i cs) ++ datum_of x ∷ []) s
     ∙ ap (λ x. map value (take i cs) ++ value x ∷ []) e ∙ sym (map-append value (take i cs) (get_or cs i c ∷ [])) ∙ ap (map value) (sym (take_more cs i c h))
 
-or_true : (b : Bool) → true ≡ (b || true)
-or_true true = refl
-or_true false = refl
-
 pub differs_at : (old now : List Datum) (k : ℕ) (w v : Datum) → k < length old → k < length now → get_or old k w ≡ w → get_or now k v ≡ v → same_datum w v ≡ false → true ≡ any_differs old now
 differs_at [] now k w v lw lv ew ev e = absurd (omega arith)
 differs_at (x ∷ old) [] k w v lw lv ew ev e = absurd (omega arith)
 differs_at (x ∷ old) (y ∷ now) zero w v lw lv ew ev e = let d : same_datum x y ≡ false = ap (λ z. same_datum z y) ew ∙ ap (same_datum w) ev ∙ e in ap (λ b. not b || any_differs old now) (sym d)
-differs_at (x ∷ old) (y ∷ now) (suc k) w v lw lv ew ev e = or_true (not (same_datum x y)) ∙ ap (λ b. not (same_datum x y) || b) (differs_at old now k w v (omega arith) (omega arith) ew ev e)
+differs_at (x ∷ old) (y ∷ now) (suc k) w v lw lv ew ev e = sym (or-true (not (same_datum x y))) ∙ ap (λ b. not (same_datum x y) || b) (differs_at old now k w v (omega arith) (omega arith) ew ev e)
 
 pub same_differ : (vs : List Datum) → false ≡ any_differs vs vs
 same_differ [] = refl

@@ -1,17 +1,17 @@
 -- Values that are read from bits are the same where no bit of theirs differs, and changes then lead from the one frame to the next.
-use Rattle.std.proofs.Common.{◌≡◌, ℕ, zero, suc, ◌+◌, ◌^◌, ◌<◌, ◌≤◌, Bool, true, false, List, [], ◌∷◌, ◌++◌, length, take, drop, set, refl, ap, sym, ◌∙◌, append_assoc, nat_eq, if◌then◌else◌, arith}
-use Rattle.std.proofs.Math.Pow.{pow_mono}
-use Rattle.std.proofs.lemmas.List.{length-append, length-take, set_at}
+use Rattle.std.proofs.Common.{◌≡◌, ℕ, zero, suc, ◌+◌, ◌^◌, ◌<◌, Bool, true, false, List, [], ◌∷◌, ◌++◌, length, take, drop, set, refl, ap, sym, ◌∙◌, append_assoc, nat_eq, if◌then◌else◌, arith}
+use Rattle.std.proofs.lemmas.List.{length-append, set_at}
 use Rattle.std.proofs.lemmas.Bool.Decides.{nat_tests}
 use Rattle.lh_types.specs.Types.{TypeTree, TypeRow, int_type, time_type, void_type, array_type, tuple_type, signal_type, pointer_type, no_types, more_types, bit_count}
 use Rattle.lh_types.specs.Values.{Datum, int_value, array_value, tuple_value, more_values}
 use Rattle.lh_types.specs.Bits.{value_bits, row_bits, value_from_bits, row_from_bits, repeat_parts, number_bits, bits_number, differing}
 use Rattle.lh_types.specs.Pictures.{Showing}
-use Rattle.lh_bits.proofs.NumberBits.{length-number_bits, bits_number-number_bits, bits_number-lt}
+use Rattle.lh_bits.proofs.NumberBits.{length-number_bits, bits_number-number_bits}
 use Rattle.lh_unit.specs.Design.{Signal}
 use Rattle.lh_unit.specs.Trace.{signal_value}
 use Rattle.lh_unit.specs.Frames.{toggled, change_if, changed_from, signal_values}
 use Rattle.lh_wave.specs.Recorded.{changed_values}
+use Rattle.lh_meaning.proofs.ProbesLaw.{number_below}
 
 -- lists of one length that differ nowhere are the same
 same_bits : (xs ys : List Bool) → length xs ≡ length ys → differing xs ys ≡ 0 → xs ≡ ys
@@ -33,13 +33,6 @@ split (x ∷ a) (y ∷ b) c d l e =
     let t : a ++ c ≡ b ++ d = cc in
     let s = split a b c d (omega arith) t in
     (ap (λ z. z ∷ a) h ∙ ap (λ bs. y ∷ bs) s.0, s.1)
-
--- the number of the first n bits has at most n bits
-number_below : (n : ℕ) (bs : List Bool) → bits_number (take n bs) < 2 ^ n
-number_below n bs =
-    let few : length (take n bs) ≤ n = omega (arith, length-take n bs) in
-    let grows : 2 ^ length (take n bs) ≤ 2 ^ n = pow_mono few in
-    omega (arith, bits_number-lt (take n bs))
 
 same_number : (n a b : ℕ) → a < 2 ^ n → b < 2 ^ n → number_bits n a ≡ number_bits n b → a ≡ b
 same_number n a b p q e = sym (bits_number-number_bits n a p) ∙ ap bits_number e ∙ bits_number-number_bits n b q

@@ -8,7 +8,6 @@ use Rattle.lh_types.specs.History.{bits_at}
 use Rattle.lh_types.specs.declared.frame.Frame as frames
 use Rattle.lh_unit.specs.Contents.{ItemText}
 use Rattle.lh_unit.specs.Arena.{Arena, contents}
-use Rattle.lh_unit.specs.Design.{Signal}
 use Rattle.lh_unit.specs.Design as text
 use Rattle.lh_unit.specs.World.{World, Act, acts_at, world_after, next_instant, bits_of}
 use Rattle.lh_unit.specs.Trace.{Frame, Run, max_instructions, least_runaway, frame_of, goes_on, at_bound, run_at, run_from}

@@ -7,14 +7,13 @@ use Rattle.std.specs.Ordering.{ordering_then, is_lt, nat_cmp}
 use Rattle.std.proofs.lemmas.Cmp.{tied_itself}
 use Rattle.lh_time.specs.declared.Instant.{Instant}
 use Rattle.lh_time.specs.Order.{instant_cmp, instant_lt}
-use Rattle.lh_time.proofs.OrderLemmas.{instant_cmp_total}
+use Rattle.lh_time.proofs.OrderLemmas.{instant_cmp_total, nat_is_less}
 use Rattle.lh_types.specs.Wish.{Wish, due_bit, IsInOrder, bits_due, writes_wish}
 use Rattle.lh_history.proofs.Instants.{instant_one}
 use Rattle.lh_wishes.specs.declared.run.WishRun.{WishRun}
 use Rattle.lh_bits.specs.Writes.{numbered}
 use Rattle.lh_wishes.specs.Grouped.{is_filled, BitsRise, IsGrouped, Apart}
 use Rattle.lh_wishes.specs.Runs.{row_wish, run_wish}
-use Rattle.lh_history.proofs.DueBits.{nat_is_less}
 use Rattle.lh_wishes.proofs.RunLemmas.{all-right, ordered-right}
 
 -- ---- what is written

@@ -204,7 +204,7 @@ is_filled-by (b ∷ bs) h = refl
 
 -- ---- the steps of the code
 
-get-at : {X : Type 0} (xs : List X) (i : ℕ) (x : X) → i < length xs → x ≡ get_or xs i x → slice_get xs i ≡ Some x
+pub get-at : {X : Type 0} (xs : List X) (i : ℕ) (x : X) → i < length xs → x ≡ get_or xs i x → slice_get xs i ≡ Some x
 get-at [] i x h e = absurd (omega arith)
 get-at (y ∷ ys) zero x h e = ap Some (sym e)
 get-at (y ∷ ys) (suc i) x h e = get-at ys i x (omega arith) e

@@ -1,14 +1,15 @@
 use Rattle.lh_unit.specs.declared.inst.Inst.TheVariants as inst
 use Rattle.lh_term.proofs.Swaps.{grows_on}
 use Rattle.lh_bodies.specs.Putting.{PutsDriveNot}
-use Rattle.lh_bodies.proofs.Testing.{err-has, err-memory}
+use Rattle.lh_bodies.proofs.Testing.{err-memory}
 use Rattle.lh_bodies.proofs.Driven.{can-delay, can-cond, can-part, value-not, after-value, delay-not, after-delay, cond-not, after-cond, part-not, has-room, drv-within, put-ok, put-err}
 use Rattle.lh_bodies.proofs.bodies.put_drive.Goals as goal
+use Rattle.lh_emit.proofs.Walking.{err-cause}
 
 pub returns-in_err-value-clause-cause : goal.returns-in_err-value-clause-cause
 returns-in_err-value-clause-cause c =
     let o = c.args.origin.now in let row = c.args.row.now in let ns = c.args.terms.now in let x = c.args.emitter.now in
-    err-has c.from_residual.result c.in_err-value.field-0.0 (PutsDriveNot ns o x row) c.from_residual.ensures.1 (value-not o row ns x c.in_err-value.field-0.0 c.in_err-value.ensures.cause)
+    err-cause c.from_residual.result c.in_err-value.field-0.0 (PutsDriveNot ns o x row) c.from_residual.ensures.1 (value-not o row ns x c.in_err-value.field-0.0 c.in_err-value.ensures.cause)
 
 pub term-requires-2 : goal.term-requires-2
 term-requires-2 c =
@@ -18,7 +19,7 @@ term-requires-2 c =
 pub returns-in_err-after-clause-cause : goal.returns-in_err-after-clause-cause
 returns-in_err-after-clause-cause c =
     let o = c.args.origin.now in let row = c.args.row.now in let ns = c.args.terms.now in let x = c.args.emitter.now in
-    err-has c.from_residual-in_err-after.result c.in_err-after.field-0.0 (PutsDriveNot ns o x row) c.from_residual-in_err-after.ensures.1
+    err-cause c.from_residual-in_err-after.result c.in_err-after.field-0.0 (PutsDriveNot ns o x row) c.from_residual-in_err-after.ensures.1
     (delay-not o row ns x _ _ c.in_ok-value.value c.in_ok-value.ensures.kept c.in_ok-value.ensures.needed c.in_err-after.field-0.0 c.in_err-after.ensures.cause)
 
 pub condition-requires : goal.condition-requires
@@ -30,7 +31,7 @@ condition-requires c =
 pub returns-in_err-cond-clause-cause : goal.returns-in_err-cond-clause-cause
 returns-in_err-cond-clause-cause c =
     let o = c.args.origin.now in let row = c.args.row.now in let ns = c.args.terms.now in let x = c.args.emitter.now in
-    err-has c.from_residual-in_err-cond.result c.in_err-cond.field-0.0 (PutsDriveNot ns o x row) c.from_residual-in_err-cond.ensures.1
+    err-cause c.from_residual-in_err-cond.result c.in_err-cond.field-0.0 (PutsDriveNot ns o x row) c.from_residual-in_err-cond.ensures.1
     (cond-not o row ns x _ _ c.in_ok-value.value c.in_ok-value.ensures.kept c.in_ok-value.ensures.needed _ _ c.in_ok-after.after c.in_ok-after.ensures.kept c.in_ok-after.ensures.needed
     c.in_err-cond.field-0.0 c.in_err-cond.ensures.cause)
 
@@ -44,7 +45,7 @@ part-requires c =
 pub returns-in_err-part-clause-cause : goal.returns-in_err-part-clause-cause
 returns-in_err-part-clause-cause c =
     let o = c.args.origin.now in let row = c.args.row.now in let ns = c.args.terms.now in let x = c.args.emitter.now in
-    err-has c.from_residual-in_err-part.result c.in_err-part.field-0.0 (PutsDriveNot ns o x row) c.from_residual-in_err-part.ensures.1
+    err-cause c.from_residual-in_err-part.result c.in_err-part.field-0.0 (PutsDriveNot ns o x row) c.from_residual-in_err-part.ensures.1
     (part-not o row ns x _ _ c.in_ok-value.value c.in_ok-value.ensures.kept c.in_ok-value.ensures.needed _ _ c.in_ok-after.after c.in_ok-after.ensures.kept c.in_ok-after.ensures.needed
     _ _ c.in_ok-cond.cond c.in_ok-cond.ensures.kept c.in_ok-cond.ensures.tested c.in_err-part.field-0.0 c.in_err-part.ensures.cause)
 

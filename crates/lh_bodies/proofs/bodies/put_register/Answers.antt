@@ -1,9 +1,9 @@
 use Rattle.std.proofs.Common.{◌≡◌, length, sym, ◌∙◌, arith}
 use Rattle.lh_unit.specs.declared.inst.Inst.TheVariants as inst
 use Rattle.lh_bodies.specs.Putting.{PutsRegisterNot}
-use Rattle.lh_bodies.proofs.Testing.{err-has}
 use Rattle.lh_bodies.proofs.Registers.{none-registered, reg-triggers-not, reg-can-part, reg-part-not, reg-has-room, reg-within, reg-put-ok, reg-put-err}
 use Rattle.lh_bodies.proofs.bodies.put_register.Goals as goal
+use Rattle.lh_emit.proofs.Walking.{err-cause}
 
 pub returns-then-len-eq0-clause-put : goal.returns-then-len-eq0-clause-put
 returns-then-len-eq0-clause-put c = none-registered c.args.origin.now c.args.row.now c.args.terms.now c.args.emitter.now (sym c.len.ensures ∙ grind (arith, c.if-len-eq0.true))
@@ -12,7 +12,7 @@ pub returns-in_err-triggers-clause-cause : goal.returns-in_err-triggers-clause-c
 returns-in_err-triggers-clause-cause c =
     let o = c.args.origin.now in let row = c.args.row.now in let ns = c.args.terms.now in let x = c.args.emitter.now in
     let some : length row.triggers ≡ 0 → ⊥ = λ q. grind (arith, q, c.if-len-eq0.false, c.len.ensures) in
-    err-has c.from_residual.result c.in_err-triggers.field-0.0 (PutsRegisterNot ns o x row) c.from_residual.ensures.1
+    err-cause c.from_residual.result c.in_err-triggers.field-0.0 (PutsRegisterNot ns o x row) c.from_residual.ensures.1
     (reg-triggers-not o row ns x some c.in_err-triggers.field-0.0 c.in_err-triggers.ensures.cause)
 
 pub part-requires : goal.part-requires
@@ -25,7 +25,7 @@ pub returns-in_err-part-clause-cause : goal.returns-in_err-part-clause-cause
 returns-in_err-part-clause-cause c =
     let o = c.args.origin.now in let row = c.args.row.now in let ns = c.args.terms.now in let x = c.args.emitter.now in
     let some : length row.triggers ≡ 0 → ⊥ = λ q. grind (arith, q, c.if-len-eq0.false, c.len.ensures) in
-    err-has c.from_residual-in_err-part.result c.in_err-part.field-0.0 (PutsRegisterNot ns o x row) c.from_residual-in_err-part.ensures.1
+    err-cause c.from_residual-in_err-part.result c.in_err-part.field-0.0 (PutsRegisterNot ns o x row) c.from_residual-in_err-part.ensures.1
     (reg-part-not o row ns x some _ _ c.in_ok-triggers.triggers c.in_ok-triggers.ensures.kept c.in_ok-triggers.ensures.needed c.in_err-part.field-0.0 c.in_err-part.ensures.cause)
 
 pub put-requires-clause-room : goal.put-requires-clause-room

@@ -3,15 +3,15 @@ use Rattle.std.proofs.lemmas.List.{drop_all}
 use Rattle.lh_unit.proofs.Lists.{drop-item}
 use Rattle.lh_term.proofs.Swaps.{grows_on}
 use Rattle.lh_bodies.specs.Putting.{PutsRegistersNot}
-use Rattle.lh_bodies.proofs.Testing.{err-has}
 use Rattle.lh_bodies.proofs.Growing.{grows-same}
 use Rattle.lh_bodies.proofs.Registers.{registers-begin, registers-can, registers-next, registers-not, registers-end}
 use Rattle.lh_bodies.proofs.bodies.put_registers.Goals as goal
+use Rattle.lh_emit.proofs.Walking.{err-cause}
 
 pub returns-in_err-put_register-clause-cause : goal.returns-in_err-put_register-clause-cause
 returns-in_err-put_register-clause-cause c =
     let o = c.args.origin.now in let ns = c.args.terms.now in let x = c.args.emitter.now in let all = c.args.rows.now in let i = c.loop-row.row-index in
-    err-has c.from_residual.result c.in_err-put_register.field-0.0 (PutsRegistersNot ns o x all) c.from_residual.ensures.1
+    err-cause c.from_residual.result c.in_err-put_register.field-0.0 (PutsRegistersNot ns o x all) c.from_residual.ensures.1
     (registers-not o all ns x c.loop-row.terms c.loop-row.emitter c.row-item.result (drop (i + 1) all) (drop i all) (drop-item all i c.row-item.result c.loop-row-test.true c.row-item.is)
     c.loop-row.invariant
     c.in_err-put_register.field-0.0 c.in_err-put_register.ensures.cause)

@@ -1,14 +1,14 @@
 use Rattle.lh_term.proofs.Swaps.{grows_on}
 use Rattle.lh_bodies.specs.Putting.{NeedsTriggerNot}
-use Rattle.lh_bodies.proofs.Testing.{err-has}
 use Rattle.lh_bodies.proofs.Tells.{names-then}
 use Rattle.lh_bodies.proofs.Triggered.{can-now, can-gate, can-delay, value-not, after-value, now-not, after-now, gate-not, after-gate, delay-not, needs-trigger}
 use Rattle.lh_bodies.proofs.bodies.reg_trigger.Goals as goal
+use Rattle.lh_emit.proofs.Walking.{err-cause}
 
 pub returns-in_err-value-clause-cause : goal.returns-in_err-value-clause-cause
 returns-in_err-value-clause-cause c =
     let o = c.args.origin.now in let row = c.args.row.now in let g = c.args.trigger.now in let ns = c.args.terms.now in let x = c.args.emitter.now in
-    err-has c.from_residual.result c.in_err-value.field-0.0 (NeedsTriggerNot ns o x row g) c.from_residual.ensures.1
+    err-cause c.from_residual.result c.in_err-value.field-0.0 (NeedsTriggerNot ns o x row g) c.from_residual.ensures.1
     (value-not o row g ns x c.in_err-value.field-0.0 c.in_err-value.ensures.cause)
 
 pub now-requires : goal.now-requires
@@ -19,7 +19,7 @@ now-requires c =
 pub returns-in_err-now-clause-cause : goal.returns-in_err-now-clause-cause
 returns-in_err-now-clause-cause c =
     let o = c.args.origin.now in let row = c.args.row.now in let g = c.args.trigger.now in let ns = c.args.terms.now in let x = c.args.emitter.now in
-    err-has c.from_residual-in_err-now.result c.in_err-now.field-0.0 (NeedsTriggerNot ns o x row g) c.from_residual-in_err-now.ensures.1
+    err-cause c.from_residual-in_err-now.result c.in_err-now.field-0.0 (NeedsTriggerNot ns o x row g) c.from_residual-in_err-now.ensures.1
     (now-not o row g ns x _ _ c.in_ok-value.value c.in_ok-value.ensures.kept c.in_ok-value.ensures.needed c.in_err-now.field-0.0 c.in_err-now.ensures.cause)
 
 pub condition-requires : goal.condition-requires
@@ -31,7 +31,7 @@ condition-requires c =
 pub returns-in_err-gate-clause-cause : goal.returns-in_err-gate-clause-cause
 returns-in_err-gate-clause-cause c =
     let o = c.args.origin.now in let row = c.args.row.now in let g = c.args.trigger.now in let ns = c.args.terms.now in let x = c.args.emitter.now in
-    err-has c.from_residual-in_err-gate.result c.in_err-gate.field-0.0 (NeedsTriggerNot ns o x row g) c.from_residual-in_err-gate.ensures.1
+    err-cause c.from_residual-in_err-gate.result c.in_err-gate.field-0.0 (NeedsTriggerNot ns o x row g) c.from_residual-in_err-gate.ensures.1
     (gate-not o row g ns x _ _ c.in_ok-value.value c.in_ok-value.ensures.kept c.in_ok-value.ensures.needed _ _ c.in_ok-now.now c.in_ok-now.ensures.kept c.in_ok-now.ensures.needed
     c.in_err-gate.field-0.0 c.in_err-gate.ensures.cause)
 
@@ -45,7 +45,7 @@ term-requires-2 c =
 pub returns-in_err-after-clause-cause : goal.returns-in_err-after-clause-cause
 returns-in_err-after-clause-cause c =
     let o = c.args.origin.now in let row = c.args.row.now in let g = c.args.trigger.now in let ns = c.args.terms.now in let x = c.args.emitter.now in
-    err-has c.from_residual-in_err-after.result c.in_err-after.field-0.0 (NeedsTriggerNot ns o x row g) c.from_residual-in_err-after.ensures.1
+    err-cause c.from_residual-in_err-after.result c.in_err-after.field-0.0 (NeedsTriggerNot ns o x row g) c.from_residual-in_err-after.ensures.1
     (delay-not o row g ns x _ _ c.in_ok-value.value c.in_ok-value.ensures.kept c.in_ok-value.ensures.needed _ _ c.in_ok-now.now c.in_ok-now.ensures.kept c.in_ok-now.ensures.needed
     _ _ c.in_ok-gate.gate c.in_ok-gate.ensures.kept c.in_ok-gate.ensures.tested c.in_err-after.field-0.0 c.in_err-after.ensures.cause)
 

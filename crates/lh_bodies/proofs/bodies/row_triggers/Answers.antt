@@ -3,10 +3,11 @@ use Rattle.std.proofs.lemmas.List.{drop_all}
 use Rattle.lh_unit.proofs.Lists.{drop-item}
 use Rattle.lh_term.proofs.Swaps.{grows_on}
 use Rattle.lh_bodies.specs.Putting.{NeedsTriggersNot}
-use Rattle.lh_bodies.proofs.Testing.{err-has, err-memory}
+use Rattle.lh_bodies.proofs.Testing.{err-memory}
 use Rattle.lh_bodies.proofs.Growing.{grows-same}
 use Rattle.lh_bodies.proofs.Registers.{TriggersSoFar, triggers-begin, triggers-can, triggers-next, triggers-not, triggers-end}
 use Rattle.lh_bodies.proofs.bodies.row_triggers.Goals as goal
+use Rattle.lh_emit.proofs.Walking.{err-cause}
 
 pub loop-trigger-init : goal.loop-trigger-init
 loop-trigger-init c =
@@ -25,7 +26,7 @@ pub returns-in_err-made-clause-cause : goal.returns-in_err-made-clause-cause
 returns-in_err-made-clause-cause c =
     let o = c.args.origin.now in let row = c.args.row.now in let ns = c.args.terms.now in let x = c.args.emitter.now in
     let all = c.as_slice-trigger-items.result.now in let i = c.loop-trigger.trigger-index in
-    err-has c.from_residual.result c.in_err-made.field-0.0 (NeedsTriggersNot ns o x row) c.from_residual.ensures.1
+    err-cause c.from_residual.result c.in_err-made.field-0.0 (NeedsTriggersNot ns o x row) c.from_residual.ensures.1
     (triggers-not o row ns x c.loop-trigger.terms c.loop-trigger.emitter c.loop-trigger.triggers c.trigger-item.result (drop (i + 1) all) (drop i all)
     (drop-item all i c.trigger-item.result c.loop-trigger-test.true c.trigger-item.is) c.loop-trigger.invariant c.in_err-made.field-0.0 c.in_err-made.ensures.cause)
 

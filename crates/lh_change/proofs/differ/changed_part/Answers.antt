@@ -1,9 +1,10 @@
 use Rattle.std.proofs.Common.{◌≡◌, arith, length, Option, refl, sym, subst, ◌∙◌}
 use Rattle.std.specs.Option.{IsSomeAnd}
+use Rattle.std.proofs.lemmas.Bool.{false≢true}
 use Rattle.lh_types.specs.Types.{bit_count}
 use Rattle.lh_design.specs.declared.Signal.{Signal}
 use Rattle.lh_change.proofs.Filled.{there, fits_there}
-use Rattle.lh_change.proofs.Same.{stays_by_len, row_differs, false_true}
+use Rattle.lh_change.proofs.Same.{stays_by_len, row_differs}
 use Rattle.lh_change.proofs.differ.changed_part.Goals as goal
 
 pub bits-len-requires : goal.bits-len-requires
@@ -35,7 +36,7 @@ returns-else-same_part-clause-differs c =
     c.index-signals-signal.result c.requires.fill c.signals.ensures c.requires.known c.index-signals-signal.is in
     row_differs c.bits-len.result c.index-signals-signal.result.lo c.args.old.now c.args.now.now
     (omega (arith, f.1, c.requires.in_old, c.bits-len.ensures)) (omega (arith, f.1, c.requires.in_now, c.bits-len.ensures))
-    (λ e. false_true (sym c.if-same_part.false ∙ c.same_part.ensures.1 e))
+    (λ e. false≢true (sym c.if-same_part.false ∙ c.same_part.ensures.1 e))
 
 pub returns-else-same_part-clause-part : goal.returns-else-same_part-clause-part
 returns-else-same_part-clause-part c =

@@ -1,7 +1,8 @@
 use Rattle.std.proofs.Common.{length, refl}
 use Rattle.std.proofs.lemmas.List.{get_or_default}
+use Rattle.std.proofs.lemmas.Bool.{false≢true}
 use Rattle.lh_change.proofs.Touching.{part_within}
-use Rattle.lh_change.proofs.Same.{part_same, part_differs, false_true}
+use Rattle.lh_change.proofs.Same.{part_same, part_differs}
 use Rattle.lh_change.proofs.differ.differs.Goals as goal
 
 pub same_part-requires-clause-within : goal.same_part-requires-clause-within
@@ -17,7 +18,7 @@ returns-then-not-same_part c =
     part_differs c.args.old.now c.args.now.now c.args.parts.now c.loop-part.part-index _ c.loop-part-test.true (get_or_default _ _ _ _ c.loop-part-test.true)
     (part_within (length c.args.old.now) c.args.parts.now c.loop-part.part-index _ c.requires.in_old c.loop-part-test.true (get_or_default _ _ _ _ c.loop-part-test.true))
     (part_within (length c.args.now.now) c.args.parts.now c.loop-part.part-index _ c.requires.in_now c.loop-part-test.true (get_or_default _ _ _ _ c.loop-part-test.true))
-    (λ e. false_true (c.if-not-same_part.ensures.1 e)) c.loop-part.invariant
+    (λ e. false≢true (c.if-not-same_part.ensures.1 e)) c.loop-part.invariant
 
 pub loop-part-preserved : goal.loop-part-preserved
 loop-part-preserved c =

@@ -1,5 +1,6 @@
-use Rattle.std.proofs.Common.{◌≡◌, true, false, List, sym, subst}
+use Rattle.std.proofs.Common.{true, false, List, sym, subst}
 use Rattle.std.specs.Ordering.{nat_cmp}
+use Rattle.std.proofs.lemmas.Bool.{false≢true}
 use Rattle.std.specs.BTreeSet as sorted
 use Rattle.lh_term.specs.declared.term.TermId.{TermId}
 use Rattle.lh_term.specs.Arena.{trees}
@@ -36,8 +37,5 @@ loop-i-preserved c =
     subst (λ (ids : List TermId). ReachedSoFar leads c.args.terms.now c.args.xs.now h ids) (sym c.in_ok-put.ensures)
     (reached_next leads c.args.terms.now c.args.xs.now c.loop-i.joined.items f g h x k at t (c.in_ok-leave_joined.ensures k at) c.loop-i.invariant)
 
-not-some : false ≡ true → ⊥
-not-some e = cc
-
 pub returns : goal.returns
-returns c = reached_end _ _ _ _ _ (no-keys c.loop-i.left (λ l. not-some (c.in_default.ensures.variant.1 l))) c.loop-i.invariant
+returns c = reached_end _ _ _ _ _ (no-keys c.loop-i.left (λ l. false≢true (c.in_default.ensures.variant.1 l))) c.loop-i.invariant

@@ -2,8 +2,9 @@ use Rattle.std.proofs.Common.{◌≡◌, ◌+◌, ◌<◌, true, false, drop, ge
 use Rattle.lh_unit.specs.Arena.{table_at, inst_count}
 use Rattle.lh_unit.specs.Table.{line_at}
 use Rattle.lh_unit.specs.declared.inst.InstId.{InstId}
+use Rattle.lh_unit.proofs.Lists.{Each-next}
 use Rattle.lh_exec.specs.Taking.{taken_of, all_taken, one_taken, TakesMore}
-use Rattle.lh_exec.proofs.Lists.{take-stops, take-goes, each-next}
+use Rattle.lh_exec.proofs.Lists.{take-stops, take-goes}
 use Rattle.lh_exec.proofs.jumps.take_phis.Goals as goal
 
 pub returns-then-not-branch : goal.returns-then-not-branch
@@ -30,5 +31,5 @@ loop-inst-preserved c =
     record {
       same = take-goes c.args.frame.now.block c.args.frame.now.slots t c.args.insts.now i c.loop-inst-test.true (map taken_of c.loop-inst.taken.items) (map taken_of c.take_phi.new.taken.items)
           (all_taken c.args.frame.now.block c.args.frame.now.slots t c.args.insts.now) e c.loop-inst.invariant.same;
-      within = each-next (λ (k : InstId). k.0 < inst_count c.args.m.now c.args.frame.now.unit.0) c.args.insts.now i (record { 0 = 0 }) c.loop-inst-test.true c.loop-inst.invariant.within;
+      within = Each-next (λ (k : InstId). k.0 < inst_count c.args.m.now c.args.frame.now.unit.0) c.args.insts.now i (record { 0 = 0 }) c.loop-inst-test.true c.loop-inst.invariant.within;
     }

@@ -1,6 +1,7 @@
 use Rattle.std.proofs.Common.{◌-◌, refl, sym, ◌∙◌, subst, arith}
 use Rattle.lh_unit.specs.Table.{ArgsWithin}
-use Rattle.lh_flat.proofs.Building.{bound-none, arg-within}
+use Rattle.lh_unit.proofs.Placing.{ArgsWithin-at}
+use Rattle.lh_flat.proofs.Building.{bound-none}
 use Rattle.lh_flat.proofs.copy.bind.Goals as goal
 
 pub loop-k-init : goal.loop-k-init
@@ -13,5 +14,5 @@ loop-k-init c = record {
 
 pub index_mut-requires : goal.index_mut-requires
 index_mut-requires c =
-    arg-within _ c.args.params.now (c.loop-k.k - 1) c.index-params-k.result
+    ArgsWithin-at _ c.args.params.now (c.loop-k.k - 1) c.index-params-k.result
     (subst (λ n. ArgsWithin n c.args.params.now) (c.args.values.now.ok.0 ∙ sym c.loop-k.invariant.long ∙ sym c.loop-k.values.ok.0) c.requires) (omega arith)

@@ -1,6 +1,7 @@
 use Rattle.std.proofs.Common.{◌≡◌, ◌+◌, ◌-◌, drop, get_or, sym, ap, ◌∙◌, arith, IfOk, Ok, Err, ℕ}
 use Rattle.lh_types.specs.declared.ty.NoMemory.{NoMemory}
 use Rattle.std.specs.declared.result.Result.{Result}
+use Rattle.std.proofs.lemmas.List.{drop_more}
 use Rattle.lh_unit.specs.Arena.{Arena, inst_at}
 use Rattle.lh_unit.specs.declared.inst.BlockId.{BlockId}
 use Rattle.lh_unit.specs.declared.inst.InstId.{InstId}
@@ -9,7 +10,6 @@ use Rattle.lh_flat.proofs.Reading.{placed-at}
 use Rattle.lh_flat.proofs.Building.{no_room, flat_room, room-more}
 use Rattle.lh_flat.specs.Graph.{callee_of}
 use Rattle.lh_flat.specs.Building.{insts_room, block_room, blocks_room, unit_room, call_room}
-use Rattle.lh_flat.proofs.Loops.{drop-at}
 use Rattle.lh_flat.proofs.layout.+room.Goals as goal
 
 pub call_room-returns-in_default : goal.call_room-returns-in_default
@@ -46,7 +46,7 @@ unit_room-loop-block-preserved t c =
     let items = c.blocks-block-items.result.now in
     let b : BlockId = get_or items c.loop-block.block-index (record { 0 = 0 }) in
     let e : blocks_room room a u (drop c.loop-block.block-index items) ≡ block_room room a u b + blocks_room room a u (drop (c.loop-block.block-index + 1) items) =
-    ap (blocks_room room a u) (drop-at items c.loop-block.block-index (record { 0 = 0 }) c.loop-block-test.true) in
+    ap (blocks_room room a u) (drop_more items c.loop-block.block-index (record { 0 = 0 }) c.loop-block-test.true) in
     omega (arith, e, c.in_ok-room.ensures, c.in_ok-plus.ensures, c.in_ok-insts_room.ensures, c.loop-block.invariant)
 
 pub insts_room-loop-inst-preserved : goal.insts_room-loop-inst-preserved
@@ -59,5 +59,5 @@ insts_room-loop-inst-preserved t c =
     let n : c.in_ok-call_room.field-0 ≡ room (callee_of a (inst_at a u id.0)) = c.in_ok-call_room.ensures
     ∙ (λ i. call_room c.args.depth (c.module.ensures.module i) ((c.callee-function.ensures.callee ∙ ap (callee_of a) c.inst.ensures.inst) i)) in
     let e : insts_room room a u (drop c.loop-inst.inst-index items) ≡ room (callee_of a (inst_at a u id.0)) + insts_room room a u (drop (c.loop-inst.inst-index + 1) items) =
-    ap (insts_room room a u) (drop-at items c.loop-inst.inst-index (record { 0 = 0 }) c.loop-inst-test.true) in
+    ap (insts_room room a u) (drop_more items c.loop-inst.inst-index (record { 0 = 0 }) c.loop-inst-test.true) in
     omega (arith, e, n, c.in_ok-room.ensures, c.loop-inst.invariant)

@@ -1,10 +1,9 @@
 use Rattle.std.proofs.Common.{◌≡◌, ℕ, ◌+◌, drop, get_or, set, replicate, ap, sym, ◌∙◌, arith}
-use Rattle.std.proofs.lemmas.List.{drop_all}
+use Rattle.std.proofs.lemmas.List.{drop_all, drop_more}
 use Rattle.lh_unit.specs.Arena.{block_insts_at}
 use Rattle.lh_unit.specs.declared.inst.BlockId.{BlockId}
 use Rattle.lh_flat.specs.Building.{call_room, insts_room, spans_with, span_at}
 use Rattle.lh_flat.specs.Renames.{no_span}
-use Rattle.lh_flat.proofs.Loops.{drop-at}
 use Rattle.lh_flat.proofs.Reading.{placed-at}
 use Rattle.lh_flat.proofs.layout.layout.Goals as goal
 
@@ -32,7 +31,7 @@ loop-block-preserved c =
     let s : c.set_span.new.spans.items ≡ set c.loop-block.spans.items b.0 (span_at c.loop-block.next x) = c.set_span.ensures
     ∙ ap (λ k. set c.loop-block.spans.items b.0 (record { first = record { 0 = c.loop-block.next }; last = record { 0 = k } })) l in
     (λ i. spans_with room a u (n i) (drop (c.loop-block.block-index + 1) items) (s i))
-    ∙ sym (ap (λ bs. spans_with room a u c.loop-block.next bs c.loop-block.spans.items) (drop-at items c.loop-block.block-index (record { 0 = 0 }) c.loop-block-test.true))
+    ∙ sym (ap (λ bs. spans_with room a u c.loop-block.next bs c.loop-block.spans.items) (drop_more items c.loop-block.block-index (record { 0 = 0 }) c.loop-block-test.true))
     ∙ c.loop-block.invariant
 
 pub returns : goal.returns

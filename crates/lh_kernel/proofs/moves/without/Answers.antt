@@ -1,5 +1,5 @@
-use Rattle.std.proofs.Common.{ℕ, List, ◌+◌, get_or, refl, sym, ◌∙◌, subst}
-use Rattle.lh_kernel.proofs.Moving.{LeftOver, over_more, over_same, over_all, true_false}
+use Rattle.std.proofs.Common.{ℕ, List, ◌+◌, get_or, refl, sym, ◌∙◌, subst, true≢false}
+use Rattle.lh_kernel.proofs.Moving.{LeftOver, over_more, over_same, over_all}
 use Rattle.lh_kernel.proofs.moves.without.Goals as goal
 use Rattle.lh_kernel.proofs.moves.without.Goals.{then-not-has+in_ok-enter, else-not-has}
 
@@ -12,7 +12,7 @@ loop-number-preserved c =
       | then-not-has+in_ok-enter w ↦
           subst P (sym w.rest-is)
           (over_more items c.args.those.now i (get_or items i 0) c.loop-number-test.true refl c.loop-number.rest w.enter.new.self
-          (λ h. true_false (sym (c.has.ensures.1 h) ∙ w.if-not-has.true)) c.loop-number.invariant w.in_ok-enter.ensures.has)
+          (λ h. true≢false (sym (c.has.ensures.1 h) ∙ w.if-not-has.true)) c.loop-number.invariant w.in_ok-enter.ensures.has)
       | else-not-has w ↦
           subst P (sym w.rest-is) (over_same items c.args.those.now i (get_or items i 0) c.loop-number-test.true refl c.loop-number.rest (c.has.ensures.0 w.if-not-has.false) c.loop-number.invariant)
     ]

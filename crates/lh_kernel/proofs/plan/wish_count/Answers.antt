@@ -1,8 +1,9 @@
 use Rattle.std.proofs.Common.{◌≡◌, ◌∙◌, ◌+◌, ℕ, List, length, drop, ap, arith}
 use Rattle.lh_kernel.specs.Puts.{wishes_ran}
 use Rattle.lh_kernel.specs.declared.run.Activation.{Activation}
-use Rattle.lh_kernel.proofs.Putting.{count_on, none_beyond}
+use Rattle.lh_kernel.proofs.Putting.{count_on}
 use Rattle.lh_kernel.proofs.plan.wish_count.Goals as goal
+use Rattle.lh_types.proofs.Lists.{drop_end}
 
 pub loop-done-preserved : goal.loop-done-preserved
 loop-done-preserved c = λ t.
@@ -13,5 +14,5 @@ loop-done-preserved c = λ t.
 pub returns : goal.returns
 returns c = λ t.
     let e : length (wishes_ran t (drop c.loop-done.done-index c.args.acts.now)) ≡ 0 =
-    ap (λ (xs : List Activation). length (wishes_ran t xs)) (none_beyond c.args.acts.now c.loop-done.done-index c.loop-done-test.false) in
+    ap (λ (xs : List Activation). length (wishes_ran t xs)) (drop_end c.args.acts.now c.loop-done.done-index c.loop-done-test.false) in
     omega (arith, e, c.loop-done.invariant t)

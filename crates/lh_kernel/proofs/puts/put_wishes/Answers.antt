@@ -1,7 +1,8 @@
 use Rattle.std.proofs.Common.{◌≡◌, List, ℕ, suc, Bool, length, ap, sym, subst, arith}
+use Rattle.std.proofs.lemmas.List.{nil_from_length}
 use Rattle.lh_time.specs.declared.Instant.{Instant}
 use Rattle.lh_kernel.specs.Puts.{wishes_by}
-use Rattle.lh_kernel.proofs.Putting.{AreToBePut, puts_start, puts_on, puts_end, none_left}
+use Rattle.lh_kernel.proofs.Putting.{AreToBePut, puts_start, puts_on, puts_end}
 use Rattle.lh_kernel.proofs.puts.put_wishes.Goals as goal
 
 pub loop-due-init : goal.loop-due-init
@@ -53,7 +54,7 @@ returns-clause-put c =
     AreToBePut c.args.queue.now.held (wishes_by c.args.at c.args.instance c.args.wishes) c.loop-due.queue.held
     (wishes_by c.args.at c.args.instance ds) in
     puts_end c.args.queue.now.held (wishes_by c.args.at c.args.instance c.args.wishes) c.loop-due.queue.held
-    (subst P (none_left c.loop-due.due-iterator.rest.items (omega (arith, c.in-None.ensures.steps.0, c.loop-due.due-iterator.rest.ok)))
+    (subst P (nil_from_length c.loop-due.due-iterator.rest.items (omega (arith, c.in-None.ensures.steps.0, c.loop-due.due-iterator.rest.ok)))
     c.loop-due.invariant.2)
 
 pub returns-clause-spare : goal.returns-clause-spare

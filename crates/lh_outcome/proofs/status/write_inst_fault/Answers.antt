@@ -1,8 +1,8 @@
-use Rattle.std.proofs.Common.{ℕ, List, ◌∷◌, ◌++◌, codes, decimal}
+use Rattle.std.proofs.Common.{ℕ, List, ◌∷◌, ◌++◌, codes, decimal, le_trans}
 use Rattle.std.proofs.lemmas.Result.{err_from_is_err_and}
 use Rattle.lh_names.specs.declared.name.UnitName.{UnitName}
 use Rattle.lh_outcome.specs.StatusLines.{name_of_fault}
-use Rattle.lh_outcome.proofs.Writes.{BreaksOff_first, BreaksOff_second, Puts_second, Puts_regrouped, Appends_more, rises_twice}
+use Rattle.lh_outcome.proofs.Writes.{BreaksOff_first, BreaksOff_second, Puts_second, Puts_regrouped, Appends_more}
 use Rattle.lh_outcome.proofs.status.write_inst_fault.Goals as goal
 
 abbrev unit_part : UnitName → List ℕ
@@ -37,4 +37,4 @@ returns-clause-puts g c =
     let both = Appends_more _ _ _ u i c.in_ok-write_unit.ensures.puts c.in_ok-write_number.ensures.puts in
     let last = rw c.fault_name.ensures at c.write_number-2.ensures.puts in
     Puts_regrouped c.write_number-2.result _ (u ++ i) d n
-    (Puts_second c.write_number-2.result _ _ _ _ _ _ (u ++ i) (d ++ n) both (rises_twice _ _ _ c.in_ok-write_unit.ensures.never_fall c.in_ok-write_number.ensures.never_fall) last)
+    (Puts_second c.write_number-2.result _ _ _ _ _ _ (u ++ i) (d ++ n) both (le_trans c.in_ok-write_unit.ensures.never_fall c.in_ok-write_number.ensures.never_fall) last)

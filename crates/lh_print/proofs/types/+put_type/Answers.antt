@@ -2,9 +2,10 @@ use Rattle.std.proofs.Common.{arith, ◌<◌, ◌++◌, map, refl, ap, sym, ◌�
 use Rattle.std.proofs.lemmas.List.{append-nil, at_drop_all}
 use Rattle.lh_types.specs.Types.{row_of, node_count, node_count_row}
 use Rattle.lh_types.proofs.Rows.{node_count-get_or}
+use Rattle.lh_types.proofs.Lists.{append_twice}
 use Rattle.lh_unit.specs.CanonTypes.{type_pieces}
 use Rattle.lh_unit.proofs.Lists.{drop-item}
-use Rattle.lh_print.proofs.Joined.{in_row, in_row-types, row_step, two}
+use Rattle.lh_print.proofs.Joined.{in_row, in_row-types, row_step}
 use Rattle.lh_print.proofs.types.+put_type.Goals as goal
 
 pub put_types-loop-t-init : goal.put_types-loop-t-init
@@ -20,7 +21,7 @@ put_types-put_type-requires t c = (
 pub put_types-loop-t-preserved : goal.put_types-loop-t-preserved
 put_types-loop-t-preserved t c = row_step _ _ _ c.loop-t.before.now _ (type_pieces c.t-item.result) _ _
     (ap (λ l. map type_pieces l) (drop-item c.args.types.now c.loop-t.t-index c.t-item.result c.loop-t-test.true c.t-item.is)) refl
-    (two _ _ _ _ _ c.in_ok-put.ensures c.in_ok-put_type.ensures) c.loop-t.invariant
+    (append_twice _ _ _ _ _ c.in_ok-put.ensures c.in_ok-put_type.ensures) c.loop-t.invariant
 
 pub put_types-returns : goal.put_types-returns
 put_types-returns t c = sym (append-nil c.loop-t.out.items)

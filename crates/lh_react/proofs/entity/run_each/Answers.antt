@@ -6,6 +6,7 @@ use Rattle.lh_unit.specs.Pass.{Passed, pass, pass_from}
 use Rattle.lh_unit.specs.Within.{Each}
 use Rattle.lh_unit.specs.declared.inst.InstId.{InstId}
 use Rattle.lh_unit.specs.declared.inst.UnitKind.{UnitKind}
+use Rattle.lh_unit.proofs.Lists.{Each-of-map}
 use Rattle.lh_eval.specs.Sound.{InstIsSound}
 use Rattle.lh_eval.specs.WishOf.{writes_wish}
 use Rattle.lh_react.specs.Standing.{StandsForPass, line_in, passed_all, trigger_count, MemoryFits}
@@ -14,7 +15,6 @@ use Rattle.lh_sound.proofs.FitLaws.{unit-is-sound, begins-fit}
 use Rattle.lh_eval.specs.Wishing.{WishWithin}
 use Rattle.lh_eval.proofs.Wishing.{writes-within}
 use Rattle.lh_react.proofs.PassFits.{pass-seen, pass-within}
-use Rattle.lh_formed.proofs.EachItem.{each-of-map}
 use Rattle.lh_react.proofs.entity.run_each.Goals as goal
 
 pub begin-requires-clause-within : goal.begin-requires-clause-within
@@ -40,7 +40,7 @@ run_insts-requires-clause-sound c =
     (entity-lines m u o c.requires.unit c.requires.entity)
     (unit-is-sound m u o c.requires.unit c.requires.formed (subst (λ (k : Option UnitKind). IsSome k) (sym c.requires.entity) refl)).lines in
     subst (Each (λ (i : InstId). InstIsSound (unit_text_at m u) (line_in m u i))) (sym c.insts_of-insts.ensures.insts)
-    (each-of-map (InstIsSound (unit_text_at m u)) (line_in m u) (block_insts_at m u 0) all)
+    (Each-of-map (InstIsSound (unit_text_at m u)) (line_in m u) (block_insts_at m u 0) all)
 
 pub run_insts-requires-clause-fit : goal.run_insts-requires-clause-fit
 run_insts-requires-clause-fit c =

@@ -1,12 +1,12 @@
 use Rattle.std.proofs.Common.{◌≡◌, ◌<◌, ◌∙◌, length, map, sym, subst, arith}
 use Rattle.std.proofs.lemmas.Bool.Decides.{nat_tests}
+use Rattle.std.proofs.lemmas.List.{nil_from_length}
 use Rattle.lh_unit.specs.Activation.{Next, waiting, wake_at}
 use Rattle.lh_unit.specs.Arena.{naming}
 use Rattle.lh_unit.specs.Held.{parts_at}
 use Rattle.lh_unit.specs.Naming.{value_text, maybe_text}
 use Rattle.lh_exec.specs.declared.machine.Flow.TheVariants as flow
 use Rattle.lh_exec.specs.Standing.{InstLeads}
-use Rattle.lh_exec.proofs.Lists.{nil-of}
 use Rattle.lh_exec.proofs.Steps.{some-callers, does-not-end}
 use Rattle.lh_exec.proofs.WaitSteps.{no-parts}
 use Rattle.lh_exec.proofs.machine.Machine.run_wait.Goals as goal
@@ -20,7 +20,7 @@ returns-then-not-is_empty c = λ a h p st.
     (wake_at c.args.at p.control.held (maybe_text f c.args.after))) (some-callers a c.args.self.now.callers.items p.callers l st.callers))) tt
 
 pub wait_on-requires-clause-calls : goal.wait_on-requires-clause-calls
-wait_on-requires-clause-calls c = let n : length c.args.self.now.callers.items ≡ 0 = grind (arith, nat_tests) in nil-of c.args.self.now.callers.items n
+wait_on-requires-clause-calls c = let n : length c.args.self.now.callers.items ≡ 0 = grind (arith, nat_tests) in nil_from_length c.args.self.now.callers.items n
 
 pub returns-in-Some : goal.returns-in-Some
 returns-in-Some c = λ a h p st. c.wait_on.ensures a c.args.signals.now h c.requires.signals (sym c.in_ok-parts.ensures ∙ c.in-Some.is) p st

@@ -1,11 +1,10 @@
 use Rattle.std.proofs.Common.{◌≡◌, ◌+◌, drop, get_or, OnOk, ap, sym, ◌∙◌, subst, arith}
-use Rattle.std.proofs.lemmas.List.{drop_all}
+use Rattle.std.proofs.lemmas.List.{drop_all, drop_more}
 use Rattle.lh_unit.specs.declared.inst.InstId.{InstId}
 use Rattle.lh_unit.specs.declared.table.Line.{Line}
 use Rattle.lh_flat.specs.declared.build.Text.{Text}
 use Rattle.lh_flat.specs.Graph.{callee_of}
 use Rattle.lh_flat.specs.Building.{line_of, put, taken, line_added, insts_added, blocks_added, call_added}
-use Rattle.lh_flat.proofs.Loops.{drop-at}
 use Rattle.lh_flat.proofs.Reading.{placed-at}
 use Rattle.lh_flat.proofs.Building.{call_added-none, call_added-is}
 use Rattle.lh_flat.proofs.build.Text.+copying.Goals as goal
@@ -38,7 +37,7 @@ add_unit-loop-block-preserved t c =
     let r = c.args.copy.now.ids in
     let items = c.blocks-block-items.result.now in
     ap (blocks_added (call_added c.args.depth a) a u r (drop (c.loop-block.block-index + 1) items)) c.in_ok-add_block.ensures
-    ∙ sym (ap (λ bs. blocks_added (call_added c.args.depth a) a u r bs c.loop-block.self) (drop-at items c.loop-block.block-index (record { 0 = 0 }) c.loop-block-test.true)) ∙ c.loop-block.invariant
+    ∙ sym (ap (λ bs. blocks_added (call_added c.args.depth a) a u r bs c.loop-block.self) (drop_more items c.loop-block.block-index (record { 0 = 0 }) c.loop-block-test.true)) ∙ c.loop-block.invariant
 
 pub add_block-loop-id-preserved : goal.add_block-loop-id-preserved
 add_block-loop-id-preserved t c =
@@ -56,7 +55,7 @@ add_block-loop-id-preserved t c =
       | add_block-in-Some+in_ok-add_call-in-Some w ↦ w.self-is ∙ w.in_ok-add_call-in-Some.ensures ∙ ap (λ o. line_added called r l o c.loop-id.self) (sym w.in-Some.is ∙ k)
     ]) in
     ap (insts_added called a u r (drop (c.loop-id.id-index + 1) items)) step
-    ∙ sym (ap (λ is. insts_added called a u r is c.loop-id.self) (drop-at items c.loop-id.id-index (record { 0 = 0 }) c.loop-id-test.true)) ∙ c.loop-id.invariant
+    ∙ sym (ap (λ is. insts_added called a u r is c.loop-id.self) (drop_more items c.loop-id.id-index (record { 0 = 0 }) c.loop-id-test.true)) ∙ c.loop-id.invariant
 
 pub add_block-returns : goal.add_block-returns
 add_block-returns t c =

@@ -5,14 +5,14 @@ use Rattle.lh_kernel.specs.Phases.{awake_in, woken_in, RisesWithin}
 use Rattle.lh_kernel.proofs.Noting.{on_err}
 use Rattle.lh_kernel.proofs.Tallies.{rises_none, rises_woken}
 use Rattle.lh_kernel.specs.declared.machine.SimState.{SimState}
-use Rattle.lh_kernel.proofs.Looking.{length_values}
 use Rattle.lh_kernel.proofs.machine.SimState.ahead.Goals as goal
+use Rattle.lh_meaning.proofs.ValuesLaw.{as_many}
 
 pub put_signals-requires-clause-width : goal.put_signals-requires-clause-width
 put_signals-requires-clause-width g c =
     let s = c.args.self.now in
     let h : length c.look_due.new.now ≡ length s.design.init =
-    ap length c.look_due.ensures.bits ∙ length_values (entries s.queue.held) c.args.at 0 s.looked ∙ ap length c.requires.kept.same ∙ c.requires.kept.width in
+    ap length c.look_due.ensures.bits ∙ as_many (entries s.queue.held) c.args.at 0 s.looked ∙ ap length c.requires.kept.same ∙ c.requires.kept.width in
     ap (λ (m : SimState). length m.looked) c.prepared.ensures.same ∙ h ∙ sym (ap (λ (m : SimState). length m.design.init) c.prepared.ensures.same)
 
 pub put_signals-requires-clause-known : goal.put_signals-requires-clause-known

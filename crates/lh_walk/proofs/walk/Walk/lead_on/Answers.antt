@@ -1,7 +1,7 @@
-use Rattle.std.proofs.Common.{◌≡◌, ◌∙◌, ◌&&◌, ℕ, false, true, nat_eq, refl, sym, subst}
+use Rattle.std.proofs.Common.{◌≡◌, ◌∙◌, ◌&&◌, false, true, nat_eq, refl, sym, eq-eqb}
 use Rattle.std.proofs.lemmas.Bool.{and_right}
 use Rattle.std.proofs.lemmas.Result.{on_ok_weaker}
-use Rattle.lh_unit.proofs.Lists.{nat_eq-refl, nat_eq-other}
+use Rattle.lh_unit.proofs.Lists.{nat_eq-other}
 use Rattle.lh_rows.specs.Rows as text
 use Rattle.lh_walk.specs.declared.walk.Walk.{Walk}
 use Rattle.lh_walk.specs.Leaving.{EndsThere, LeadsThere}
@@ -9,13 +9,10 @@ use Rattle.lh_walk.proofs.Departing.{leads-head, led-edge, led-edge-not}
 use Rattle.lh_walk.proofs.walk.Walk.lead_on.Goals as goal
 use Rattle.lh_walk.proofs.walk.Walk.lead_on.Goals.{else-region-via-then-region+else-to-region, else-region-via-else-region}
 
-is-equal : (a b : ℕ) → a ≡ b → nat_eq a b ≡ true
-is-equal a b e = subst (λ (n : ℕ). nat_eq a n ≡ true) e (nat_eq-refl a)
-
 pub returns-then-to-region-clause-led : goal.returns-then-to-region-clause-led
 returns-then-to-region-clause-led c =
     let ns = c.args.terms.now in let r = c.args.region.now in let w = c.args.self.now in let q = c.end_there.new.self in
-    let e : (r.ends_at_head && nat_eq c.args.to r.head) ≡ true = λ j. c.if-region.true j && is-equal c.args.to r.head c.if-to-region.true j in
+    let e : (r.ends_at_head && nat_eq c.args.to r.head) ≡ true = λ j. c.if-region.true j && eq-eqb c.args.to r.head c.if-to-region.true j in
     on_ok_weaker {P = EndsThere w c.args.at c.args.cond text.enters_head q} {Q = LeadsThere ns r w c.args.at c.args.cond c.args.to q} c.end_there.result
     (λ x. leads-head ns r w q c.args.at c.args.cond c.args.to c.requires.to (sym c.never_holds.ensures ∙ c.if-never_holds.false) e x) c.end_there.ensures.ended
 

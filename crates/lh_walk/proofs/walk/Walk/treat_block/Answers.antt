@@ -1,5 +1,6 @@
-use Rattle.std.proofs.Common.{◌≡◌, List, [], ◌∷◌, ◌+◌, length, refl, sym, subst, ◌∙◌, arith}
+use Rattle.std.proofs.Common.{[], ◌∷◌, ◌+◌, refl, sym, subst, ◌∙◌}
 use Rattle.std.proofs.lemmas.Result.{err_from_is_err_and, IfErr-weaker, on_ok_weaker}
+use Rattle.std.proofs.lemmas.List.{nil_from_length}
 use Rattle.lh_joins.specs.Joins.{AreConditions}
 use Rattle.lh_walk.specs.declared.walk.Walk.{Walk}
 use Rattle.lh_walk.specs.declared.walk.WalkPoint.{WalkPoint}
@@ -10,7 +11,6 @@ use Rattle.lh_walk.proofs.Reached.{reached-none, edges-can, begins-by, some-led,
 use Rattle.lh_term.proofs.Swaps.{grows_on}
 use Rattle.lh_region.specs.declared.rows.RegionFault.TheVariants.{OutOfMemory}
 use Rattle.lh_walk.proofs.Turned.{stops-memory}
-use Rattle.lh_joins.specs.declared.edge.Edge.{Edge}
 use Rattle.lh_walk.proofs.walk.Walk.treat_block.Goals as goal
 
 pub any_of-requires : goal.any_of-requires
@@ -74,12 +74,8 @@ returns-in_err-begin-clause-cause c =
     let p = err_from_is_err_and c.from_residual-in_err-begin.result c.from_residual-in_err-begin.ensures.1 in
     rw (p.1, p.2) (stops-memory (walks_at c.args.terms.now c.args.region.now c.args.self.now c.args.turn c.args.block) c.args.region.now (place_of c.args.turn c.args.block ∷ []) OutOfMemory refl)
 
-empty : (es : List Edge) → length es ≡ 0 → es ≡ []
-empty [] e = refl
-empty (x ∷ xs) e = absurd (omega (arith, e))
-
 pub returns-then-len-eq0-clause-passed : goal.returns-then-len-eq0-clause-passed
 returns-then-len-eq0-clause-passed c =
     let w = c.args.self.now in
-    let none = empty c.reach-edges.result (sym c.len.ensures ∙ c.if-len-eq0.true) in
+    let none = nil_from_length c.reach-edges.result (sym c.len.ensures ∙ c.if-len-eq0.true) in
     reached-none c.args.terms.now c.args.region.now w (record { places = w.places; ahead = c.reach-edges.new.self; insts = w.insts; rows = w.rows; sources = w.sources }) c.args.turn c.args.block (sym c.reach-edges.ensures.edges ∙ none) refl c.reach-edges.ensures.here c.reach-edges.ensures.next refl refl refl

@@ -1,5 +1,5 @@
 -- A type has no fault exactly where it is within its limits.
-use Rattle.std.proofs.Common.{◌≡◌, ℕ, ◌+◌, ◌*◌, ◌<◌, ◌≤◌, Bool, true, false, List, [], ◌∷◌, Some, None, nat_eq, nat_lt, refl, arith}
+use Rattle.std.proofs.Common.{◌≡◌, ℕ, ◌+◌, ◌*◌, ◌<◌, ◌≤◌, Bool, true, false, List, [], ◌∷◌, Some, None, nat_eq, nat_lt, refl, arith, ltb-false, le-ltb}
 use Rattle.std.specs.Prelude.{if◌then◌else◌, ◌||◌, ◌^◌, not}
 use Rattle.std.proofs.lemmas.Grind.{common_steps}
 use Rattle.std.proofs.lemmas.Bool.{and_parts}
@@ -17,16 +17,10 @@ four_none false true true d w x y z p = cc
 four_none false true false true w x y z p = cc
 four_none false true false false w x y z p = (refl, refl, refl, refl)
 
-not_below : (x y : ℕ) → nat_lt x y ≡ false → y ≤ x
-not_below x y e = grind (arith, common_steps)
-
-at_most : (x y : ℕ) → y ≤ x → nat_lt x y ≡ false
-at_most x y h = grind (arith, common_steps)
-
 not_zero : (n : ℕ) → nat_eq n 0 ≡ false → 1 ≤ n
 not_zero n e = grind (arith, common_steps)
 
-above_zero : (n : ℕ) → 1 ≤ n → nat_eq n 0 ≡ false
+pub above_zero : (n : ℕ) → 1 ≤ n → nat_eq n 0 ≡ false
 above_zero n h = grind (arith, common_steps)
 
 -- the limits of arrays and structs
@@ -43,11 +37,11 @@ all_data-yes (more_types t r) h = rw (is_data-yes t h.0, all_data-yes r h.1) ref
 pub array-sound : (n : ℕ) (t : TypeTree) → IsData t → n < 2 ^ 32 → array_fault n t ≡ None → IsData (array_type n t)
 array-sound n t d h e =
     let f = four_none (nat_eq n 0) (is_data t) (nat_lt 16 (depth_of t + 1)) (nat_lt 65536 (n * bit_count t)) _ _ _ _ e in
-    (d, not_zero n f.0, h, not_below 65536 (n * bit_count t) f.3, not_below 16 (depth_of t + 1) f.2)
+    (d, not_zero n f.0, h, ltb-false 65536 (n * bit_count t) f.3, ltb-false 16 (depth_of t + 1) f.2)
 
 pub array-again : (n : ℕ) (t : TypeTree) → IsData (array_type n t) → array_fault n t ≡ None
 array-again n t h =
-    let a = above_zero n h.1 in let b = is_data-yes t h.0 in let c = at_most 16 (depth_of t + 1) h.4 in let d = at_most 65536 (n * bit_count t) h.3 in
+    let a = above_zero n h.1 in let b = is_data-yes t h.0 in let c = le-ltb 16 (depth_of t + 1) h.4 in let d = le-ltb 65536 (n * bit_count t) h.3 in
     rw (a, b, c, d) refl
 
 some_bits : (r : TypeRow) → AreData r → is_empty_row r ≡ false → 0 < bit_count_row r
@@ -61,11 +55,11 @@ not_empty (more_types t r) h = refl
 pub tuple-sound : (r : TypeRow) → AreData r → tuple_fault r ≡ None → IsData (tuple_type r)
 tuple-sound r d e =
     let f = four_none (is_empty_row r) (all_data r) (nat_lt 16 (depth_of_row r + 1)) (nat_lt 65536 (bit_count_row r)) _ _ _ _ e in
-    (d, some_bits r d f.0, not_below 65536 (bit_count_row r) f.3, not_below 16 (depth_of_row r + 1) f.2)
+    (d, some_bits r d f.0, ltb-false 65536 (bit_count_row r) f.3, ltb-false 16 (depth_of_row r + 1) f.2)
 
 pub tuple-again : (r : TypeRow) → IsData (tuple_type r) → tuple_fault r ≡ None
 tuple-again r h =
-    let a = not_empty r h.1 in let b = all_data-yes r h.0 in let c = at_most 16 (depth_of_row r + 1) h.3 in let d = at_most 65536 (bit_count_row r) h.2 in
+    let a = not_empty r h.1 in let b = all_data-yes r h.0 in let c = le-ltb 16 (depth_of_row r + 1) h.3 in let d = le-ltb 65536 (bit_count_row r) h.2 in
     rw (a, b, c, d) refl
 
 -- signals and pointers
