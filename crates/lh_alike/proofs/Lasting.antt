@@ -10,7 +10,7 @@ use Rattle.lh_unit.specs.declared.inst.UnitKind.TheVariants as kind
 use Rattle.lh_unit.specs.Contents.{LineText, ArgText, UnitText, wait_text}
 use Rattle.lh_unit.specs.Held.{Held, datum_held, cell_held, part_held, Env, nothing_held, with_args}
 use Rattle.lh_unit.specs.Activation.{Stand, is_new, waits, halted, ProcessState, Control, Activated, control_from, start_point, run, activate, functions}
-use Rattle.lh_unit.specs.World.{waited, wake_at}
+use Rattle.lh_unit.specs.World.{waited, wake_at, begun}
 use Rattle.lh_unit.specs.Arena.{Arena, IsArena, contents, unit_count, kind_at, unit_text_at}
 use Rattle.lh_unit.specs.Naming.{kind_text}
 use Rattle.lh_unit.specs.WellFormed.{in_entity, IsWellFormed}
@@ -30,7 +30,7 @@ use Rattle.lh_exec.proofs.Steady.{PointHolds}
 use Rattle.lh_exec.proofs.Reached.{reached, run-holds}
 use Rattle.lh_exec.proofs.Begins.{process-blocks, activation-is}
 use Rattle.lh_flat.specs.Flat.{FlatText, flat_unit}
-use Rattle.lh_inlined.specs.Activates.{flat_stand, begun, StandsAlike, EndsAlike}
+use Rattle.lh_inlined.specs.Activates.{flat_stand, StandsAlike, EndsAlike}
 use Rattle.lh_inlined.proofs.Activating.{flat-is, activates_alike, begins_alike}
 use Rattle.lh_inlined.proofs.Tidying.{functions_are_tidy, processes_are_tidy}
 use Rattle.lh_alike.specs.Padding.{padded, reach}

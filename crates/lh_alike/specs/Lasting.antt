@@ -7,7 +7,7 @@ use Rattle.lh_unit.specs.declared.inst.UnitKind.TheVariants as kind
 use Rattle.lh_unit.specs.Contents.{UnitText}
 use Rattle.lh_unit.specs.Held.{Env, part_held, nothing_held, with_args}
 use Rattle.lh_unit.specs.Activation.{Stand, is_new, waits, halted, ProcessState, Activated, activate, functions}
-use Rattle.lh_unit.specs.World.{waited, wake_at}
+use Rattle.lh_unit.specs.World.{waited, wake_at, begun}
 use Rattle.lh_unit.specs.Arena.{Arena, IsArena, contents, unit_count, kind_at, unit_text_at}
 use Rattle.lh_unit.specs.WellFormed.{IsWellFormed}
 use Rattle.lh_eval.specs.Fitting.{Fits}
@@ -15,7 +15,7 @@ use Rattle.lh_sound.specs.Ranges.{RangesFit, arg_types}
 use Rattle.lh_exec.specs.Standing.{scene_of}
 use Rattle.lh_exec.specs.States.{WaitsIn, HoldsThere}
 use Rattle.lh_flat.specs.Flat.{FlatText, flattened, flat_of, flat_unit}
-use Rattle.lh_inlined.specs.Activates.{begun, StandsAlike, EndsAlike}
+use Rattle.lh_inlined.specs.Activates.{StandsAlike, EndsAlike}
 use Rattle.lh_alike.specs.Padding.{HaveWidths}
 
 -- What a process holds serves where it stands: a new one holds its arguments, and one that waits does so at a `wait` of its unit and holds a value under each name that is

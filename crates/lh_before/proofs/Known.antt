@@ -15,7 +15,8 @@ use Rattle.lh_term.specs.SameTree.{same_tree}
 use Rattle.lh_term.specs.Make.{bit_of, make_operation, make_choice}
 use Rattle.lh_term.specs.Conjuncts.{conjuncts_of, conjunction}
 use Rattle.lh_term.specs.declared.part.Part.{Part}
-use Rattle.lh_rows.specs.Known.{Known, known_value, known_cell, known_part, Knowledge, with_given, as_value, as_cell, as_part, value_known, cell_known, part_known, values_known, parts_known, whole_argument, with_arguments}
+use Rattle.lh_rows.specs.Known.{Known, known_value, known_cell, known_part, Knowledge, with_given, as_value, as_cell, as_part, value_known, cell_known, part_known, values_known, parts_known, with_arguments}
+use Rattle.lh_term.specs.Parts.{whole_argument}
 use Rattle.lh_rows.specs.Joins.{RegionEdge, or_any, any_taken, in_each, selector, chosen_from, merged, on_each, merged_by, first_one, joined, phi_on, with_phi, with_phis, known_at}
 use Rattle.lh_before.proofs.Trees.{turned, all_turned, make-turned, choice-turned, any-turned, conjuncts-turned, conjunction-turned, filter-turned}
 

@@ -11,7 +11,7 @@ use Rattle.lh_unit.specs.Within.{Each}
 use Rattle.lh_flat.specs.Flat.{FlatBlockText, FlatText, with_merge}
 use Rattle.lh_term.specs.Tree.{Tree, constant, past_of, now_of}
 use Rattle.lh_term.specs.Make.{bit_of}
-use Rattle.lh_term.specs.Same.{nat_eq-is}
+use Rattle.lh_types.specs.Same.{nat_eq-is}
 use Rattle.lh_term.specs.declared.part.Part.{Part}
 use Rattle.lh_term.proofs.Arenas.{map_length}
 use Rattle.lh_rows.specs.Known.{Knowledge, known_value, nothing_known, with_arguments}

@@ -6,7 +6,7 @@ use Rattle.lh_unit.specs.Contents.{UnitText}
 use Rattle.lh_unit.specs.Within.{Each}
 use Rattle.lh_unit.proofs.Within.{Each-more}
 use Rattle.lh_inlined.specs.Formed.{IsFormed}
-use Rattle.lh_flat.specs.Flat.{FlatBlockText, FlatText, flat_unit}
+use Rattle.lh_flat.specs.Flat.{FlatBlockText, FlatText, flat_unit, as_block}
 use Rattle.lh_term.specs.Tree.{Tree, past_of, now_of}
 use Rattle.lh_term.specs.declared.part.Part.{Part}
 use Rattle.lh_rows.specs.Known.{Knowledge}
@@ -14,8 +14,8 @@ use Rattle.lh_rows.specs.Rows.{Way, halts, enters_head, waits, RegionEnd}
 use Rattle.lh_rows.specs.Places.{Region}
 use Rattle.lh_rows.specs.Regions.{begins_with_phi, lines_at, head_of, edge_into, edges_of_ends, waits_for, one_target, Course, comes_to, then_course, region_from, first_region, second_region}
 use Rattle.lh_rows.specs.Typed.{JoinEdge}
-use Rattle.lh_rows.specs.Laws.{DriveTyped, EndTyped}
-use Rattle.lh_rows.specs.Right.{as_block, BlockAt, JoinsAt, WayRight}
+use Rattle.lh_rows.specs.Laws.{EndTyped}
+use Rattle.lh_rows.specs.Right.{DriveTyped, BlockAt, JoinsAt, WayRight}
 use Rattle.lh_rows.proofs.Steps.{RegionOf}
 use Rattle.lh_rows.proofs.Second.{past-typed, now-typed}
 use Rattle.lh_rows.proofs.Activations as Activations
@@ -93,7 +93,7 @@ module _ (name : UnitName) (t : FlatText) (f : IsFormed (flat_unit name t)) wher
 
       pub second-typed : Each DriveTyped second.rows.drives × Each (EndTyped u) second.rows.ends
       second-typed = (
-        Each-more (Courses.DriveFine u second_of second-region-of) DriveTyped second.rows.drives (λ d k. record { cond = k.cond; part = k.part; value = k.value; delay = k.delay }) second-right.drives,
+        second-right.drives,
         Each-more (Courses.EndFine u second_of second-region-of) (EndTyped u) second.rows.ends (λ x k. record { cond = k.cond; known = k.known }) second-right.ends,
       )
 

@@ -1,5 +1,5 @@
 -- The first region of a flat text by the values that parts had before, beside the one by their values now; and the second region, which stands on it.
-use Rattle.std.specs.Prelude.{◌≡◌, ℕ, List, length, map, false, Some}
+use Rattle.std.specs.Prelude.{◌≡◌, ℕ, length, map, false, Some}
 use Rattle.lh_names.specs.declared.name.UnitName.{UnitName}
 use Rattle.lh_unit.specs.Within.{Each}
 use Rattle.lh_inlined.specs.Formed.{IsFormed}
@@ -7,7 +7,8 @@ use Rattle.lh_flat.specs.Flat.{FlatText, flat_unit}
 use Rattle.lh_term.specs.Tree.{past_of, now_of}
 use Rattle.lh_rows.specs.Rows.{Drive, RegionEnd, Rows}
 use Rattle.lh_rows.specs.Regions.{begins_with_phi, lines_at, head_of, RegionRefusal, Course, stops, comes_to, first_region, second_region, waits_for, one_target}
-use Rattle.lh_rows.specs.Laws.{DriveTyped, EndTyped}
+use Rattle.lh_rows.specs.Laws.{EndTyped}
+use Rattle.lh_rows.specs.Right.{DriveTyped}
 
 -- ---- the first region, with values before and with values now
 

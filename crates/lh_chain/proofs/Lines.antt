@@ -1,5 +1,5 @@
 -- Lines of the file of a chain, and what spells them.
-use Rattle.std.proofs.Common.{◌≡◌, ℕ, ◌<◌, ◌^◌, inl, Bool, true, ◌&&◌, List, [], ◌∷◌, length, nat_le, Option, Some, None, refl, arith}
+use Rattle.std.proofs.Common.{◌≡◌, ℕ, ◌<◌, ◌^◌, inl, Bool, true, ◌&&◌, List, [], ◌∷◌, length, nat_le, Some, None, refl, arith}
 use Rattle.std.specs.Prelude.{codes}
 use Rattle.std.proofs.lemmas.Bool.{and_parts}
 use Rattle.std.proofs.lemmas.Grind.{common_steps}
@@ -10,7 +10,7 @@ use Rattle.lh_types.specs.declared.op.Op.{Op}
 use Rattle.lh_names.specs.declared.name.UnitName.{UnitName}
 use Rattle.lh_names.specs.Names.{all_name_bytes, IsName}
 use Rattle.lh_unit.specs.Numerals.{number_of}
-use Rattle.lh_unit.specs.Contents.{OperandText, InstText, const_text, pure_text, var_text, ld_text, st_text, sig_text, prb_text, drv_text, child_text, call_text, br_text, branch_text, wait_text, halt_text}
+use Rattle.lh_unit.specs.Contents.{OperandText, const_text, pure_text, var_text, ld_text, st_text, sig_text, prb_text, drv_text, child_text, call_text, br_text, branch_text, wait_text, halt_text}
 use Rattle.lh_unit.specs.Lexemes.{Lexeme, word, global, local, arrow}
 use Rattle.lh_unit.specs.Marks.{open_paren, close_paren, comma, dollar, star, equals}
 use Rattle.lh_unit.specs.Pieces.{IsLexeme}
@@ -19,10 +19,10 @@ use Rattle.lh_unit.specs.Within.{Each}
 use Rattle.lh_unit.specs.SpellsTypes.{SpellsType}
 use Rattle.lh_unit.specs.SpellsNumbers.{SpellsNumber, SpellsTime}
 use Rattle.lh_unit.specs.SpellsParts.{SpellsBehind, SpellsOperand}
-use Rattle.lh_unit.specs.SpellsInst.{typed as typed_column, bare as bare_column, SpellsColumns, columns, IsOpWord, SpellsWordOp, SpellsInst, SpellsLine}
+use Rattle.lh_unit.specs.SpellsInst.{typed as typed_column, bare as bare_column, SpellsColumns, columns, IsOpWord, SpellsWordOp, SpellsInst}
 use Rattle.lh_spelled.specs.Printable.{HasInstLine}
 use Rattle.lh_spelled.proofs.Spacing.{word-lexeme}
-use Rattle.lh_spelled.proofs.Insts.{line-again}
+use Rattle.lh_spelled.proofs.Insts.{line-has}
 use Rattle.lh_chain.specs.Words.{typed, plain, signal, gives, does, number}
 
 -- ---- names and types
@@ -69,9 +69,6 @@ pointer-said : (n : ℕ) (w : Width n) (more : List Lexeme) → SpellsType (poin
 pointer-said n w more = ((w.digits, refl, w.says), w.fits)
 
 -- ---- lines
-
-line-has : (r : Option (List ℕ)) (i : InstText) (ts : List Lexeme) → Each IsLexeme ts → SpellsLine r i ts → HasInstLine (record { result = r; inst = i })
-line-has r i ts w h = let a = line-again r i ts w h in (a.spaced, a.spelled)
 
 pub time-line : (r : List ℕ) (d : Delay) (ts : List Lexeme) → IsNamed r → Each IsLexeme ts → SpellsTime d ts → HasInstLine (gives r (const_text (time_value d)))
 time-line r d ts ir w h =

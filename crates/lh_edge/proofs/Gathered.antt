@@ -9,7 +9,8 @@ use Rattle.lh_term.specs.declared.term.Term.{Term}
 use Rattle.lh_term.specs.declared.term.Term.TheVariants.{Konst, Past, Now, Op as Applied, Choice}
 use Rattle.lh_term.specs.declared.term.Node.{Node}
 use Rattle.lh_term.specs.Tree.{Tree, constant, past_of, now_of, operation, choice_of, tree_row}
-use Rattle.lh_term.specs.Same.{same_part, same_part-is, nat_eq-is, nat_eq-refl}
+use Rattle.lh_term.specs.Same.{same_part, same_part-is}
+use Rattle.lh_types.specs.Same.{nat_eq-refl, nat_eq-is}
 use Rattle.lh_term.specs.SameTree.{same_tree, same_tree-refl}
 use Rattle.lh_term.specs.Make.{bit_of}
 use Rattle.lh_term.specs.Arena.{tree_at, trees, term_tree, ids_below, IsIn, Grows, StandsForTree}

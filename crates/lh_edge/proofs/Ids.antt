@@ -16,7 +16,7 @@ use Rattle.lh_term.specs.Arena.{tree_at, trees, trees_at, terms_in, term_tree, t
 use Rattle.lh_term.specs.Conjuncts.{conjuncts_of, conjunction, conjunction_from}
 use Rattle.lh_term.specs.Make.{make_operation, bit_of}
 use Rattle.lh_term.specs.Reach.{operands_of}
-use Rattle.lh_term.specs.Same.{nat_eq-is, nat_eq-refl}
+use Rattle.lh_types.specs.Same.{nat_eq-refl, nat_eq-is}
 use Rattle.lh_term.proofs.Arenas.{ids_more}
 use Rattle.lh_term.proofs.Sound.{IntTerm, operation_sound, bit_typed}
 use Rattle.lh_term.proofs.Conditions.{AllBits, conjuncts_are_bits, and_typed}

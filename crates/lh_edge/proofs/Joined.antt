@@ -7,7 +7,7 @@ use Rattle.lh_term.specs.declared.term.Term.{Term}
 use Rattle.lh_term.specs.declared.term.Term.TheVariants.{Konst, Past, Now, Op as Applied, Choice}
 use Rattle.lh_term.specs.declared.term.Node.{Node}
 use Rattle.lh_term.specs.Tree.{Tree, constant, choice_of, tree_row, operation_on}
-use Rattle.lh_term.specs.Same.{nat_eq-is, nat_eq-refl}
+use Rattle.lh_types.specs.Same.{nat_eq-refl, nat_eq-is}
 use Rattle.lh_term.specs.Arena.{tree_at, trees, term_tree}
 use Rattle.lh_term.specs.Reach.{is_on}
 use Rattle.lh_edge.specs.Atoms.{is_one_bit, is_connective, subterms, subterms_in, has}

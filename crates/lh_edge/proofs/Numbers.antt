@@ -4,7 +4,7 @@ use Rattle.std.specs.List.{list_any}
 use Rattle.std.specs.Cmp.{first_so, second_so}
 use Rattle.std.proofs.lemmas.Bool.{and_from, or_cases, or_left, or_right, not-true, cases_Bool}
 use Rattle.lh_term.specs.declared.part.Part.{Part}
-use Rattle.lh_term.specs.Same.{nat_eq-is}
+use Rattle.lh_types.specs.Same.{nat_eq-is}
 use Rattle.lh_term.specs.Tree.{Tree}
 use Rattle.lh_term.specs.SameTree.{same_tree, same_tree-is}
 use Rattle.lh_edge.specs.Atoms.{has}

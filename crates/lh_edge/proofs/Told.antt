@@ -8,7 +8,7 @@ use Rattle.lh_types.specs.declared.op.Op.{Op}
 use Rattle.lh_term.specs.Reach.{operands_of, Leads, is_on, AllPass, GoOn, none_left}
 use Rattle.lh_term.specs.declared.term.Node.{Node}
 use Rattle.lh_term.specs.Tree.{Tree}
-use Rattle.lh_term.specs.Same.{nat_eq-is, nat_eq-refl}
+use Rattle.lh_types.specs.Same.{nat_eq-refl, nat_eq-is}
 use Rattle.lh_term.specs.Arena.{tree_at, trees}
 use Rattle.lh_term.proofs.Reaching.{is_behind}
 use Rattle.lh_edge.specs.Reached.{Tells, TellsNext}

@@ -20,6 +20,7 @@ use Rattle.lh_unit.specs.declared.inst.UnitKind.{UnitKind}
 use Rattle.lh_unit.proofs.ById.{same_unit-by_id}
 use Rattle.lh_formed.specs.Graphs.{met_or, is_open, IsIn}
 use Rattle.lh_formed.proofs.Capped.{both_capped}
+use Rattle.lh_formed.proofs.Graphs.{item_units, in-units}
 use Rattle.lh_elab.specs.declared.graph.HierarchyNode.{HierarchyNode}
 use Rattle.lh_elab.specs.Graph.{max_counted, no_node, node_at, node_by, targets_at, IsGraph}
 use Rattle.lh_descent.specs.Measures.{cycle_in, NodesWithin, HasBusy}
@@ -123,11 +124,6 @@ cycle-named (suc k) table name g opened u o h l =
     (o.within u)
 
 -- the units that items define
-abbrev pub item_units : List Item → List ℕ
-item_units [] = []
-item_units (item.Unit u ∷ more) = u.0 ∷ item_units more
-item_units (item.Declare d ∷ more) = item_units more
-
 abbrev pub defined : Arena → List ℕ
 defined a = item_units a.items
 
@@ -138,13 +134,6 @@ length-units a (item.Declare d ∷ more) = length-units a more
 
 pub length-defined : (a : Arena) → length (defined a) ≡ length (hierarchies (contents a))
 length-defined a = length-units a a.items
-
-in-units : (items : List Item) (i : ℕ) (u : UnitId) → slice_get items i ≡ Some (item.Unit u) → IsIn (item_units items) u.0
-in-units [] i u e = cc
-in-units (item.Unit v ∷ more) zero u e = let q : v ≡ u = cc in inl (ap (λ (x : UnitId). x.0) q)
-in-units (item.Declare d ∷ more) zero u e = cc
-in-units (item.Unit v ∷ more) (suc i) u e = inr (in-units more i u e)
-in-units (item.Declare d ∷ more) (suc i) u e = in-units more i u e
 
 begun-in : (a : Arena) (u : ℕ) → IsArena a → u < unit_count a → is_some (kind_at a u) ≡ true → IsIn (defined a) u
 begun-in a u o l e = let r = o.items_defined record { 0 = u } l e in in-units a.items r.0 record { 0 = u } r.1

@@ -19,6 +19,7 @@ use Rattle.lh_elab.specs.declared.graph.HierarchyNode.{HierarchyNode}
 use Rattle.lh_elab.specs.Graph.{no_node, node_after, node_from, node_by, node_of, node_at, targets_at, IsGraph}
 use Rattle.lh_descent.specs.Measures.{NodesWithin}
 use Rattle.lh_elab.specs.Measures.{measuring}
+use Rattle.lh_formed.proofs.Graphs.{Inside}
 
 -- an entity has one block
 pub entity-blocks : (a : Arena) (u : ℕ) → IsArena a → u < unit_count a → kind_at a u ≡ Some kind.Entity → blocks_at a u ≡ entity_block ∷ []
@@ -53,9 +54,6 @@ GraphTo-push a n g h x o e f = subst (GraphTo a (n + 1)) (sym e) record {
 
 pub GraphTo-all : (a : Arena) (n : ℕ) (g : List HierarchyNode) → n ≡ unit_count a → GraphTo a n g → IsGraph a g
 GraphTo-all a n g e o = record { long = o.long ∙ e; nodes = λ u l. o.nodes u (omega (arith, l, e)) }
-
-abbrev Inside : ℕ → List UnitId → Type 0
-Inside n ts = Each (λ (t : UnitId). t.0 < n) ts
 
 after-inside : (a : Arena) (u : ℕ) (n : HierarchyNode) (i : Inst) → InstPlaced a u i → Inside (unit_count a) n.targets → Inside (unit_count a) (node_after n i).targets
 after-inside a u n (inst.Child v inputs outputs) p h = Each-append (λ (t : UnitId). t.0 < unit_count a) n.targets (v ∷ []) h (p.0, tt)

@@ -13,7 +13,7 @@ use Rattle.lh_types.specs.declared.op.Op.TheVariants as op
 use Rattle.lh_types.specs.declared.part.Step.{Step}
 use Rattle.lh_types.specs.declared.part.Step.TheVariants.{Field, Slice}
 use Rattle.lh_unit.specs.Contents.{InstText, const_text, pure_text, prb_text, drv_text, reg_text, LineText, UnitText}
-use Rattle.lh_unit.specs.Kinds.{Use, used, maybe_used, data_needed, time_needed, kind_of, trigger_uses}
+use Rattle.lh_unit.specs.Kinds.{Use, used, maybe_used, data_needed, time_needed, kind_of, trigger_uses, result_kind}
 use Rattle.lh_unit.specs.Typing.{value_type, constant_type, result_type, if_made}
 use Rattle.lh_unit.specs.TypingRows.{may_have_type, part_type, bit, trigger_fits}
 use Rattle.lh_unit.specs.Within.{Each}
@@ -29,7 +29,8 @@ use Rattle.lh_emission.specs.Names.{value_name}
 use Rattle.lh_emission.specs.Emitted.{PartStep, Emitted, gives, gives_term, puts, next_name, with_term, with_part, takes_steps, arg_name, term_name, part_name, typed, signal}
 use Rattle.lh_emission.specs.Needs.{operation_text}
 use Rattle.lh_emission.specs.Entities.{cond_name, trigger_text}
-use Rattle.lh_emission.specs.Ways.{part_by_step, part_by, StepsLead, whole, IsReached}
+use Rattle.lh_emission.specs.Ways.{part_by_step, part_by, StepsLead, IsReached}
+use Rattle.lh_term.specs.Parts.{whole_argument}
 use Rattle.lh_emission.proofs.Induction.{IsNamed, IsNamedPart}
 use Rattle.lh_emission.proofs.Needing.{IsScalar}
 use Rattle.lh_emission.proofs.Rows.{HasRow}
@@ -39,7 +40,6 @@ use Rattle.lh_emission.proofs.Registering.{TriggerNamed}
 use Rattle.lh_emission.proofs.Emitting.{DriveHas, TriggerHas, RowHas, DriveNamed, RowNamed, KeepsRows}
 use Rattle.lh_emission.proofs.Fitting.{has, operation-fits, operation-gives}
 use Rattle.lh_emission.proofs.Typed.{Named, UseRight, IsRight, right-push, named-before, data-right, signal-right, time-right, operands-right, Typed, given-named, gives-typed}
-use Rattle.lh_unit.specs.Kinds.{result_kind}
 use Rattle.lh_unit.proofs.ById.{line_giving-later}
 use Rattle.lh_spelled.proofs.Printed.{results-push}
 
@@ -237,7 +237,7 @@ module _ (f : Frame) (few : HasFewArgs f.unit) where
           let m = h y (begins-before f few y e.lines _ b) in
           gives-kept y e t (prb_text (signal e p)) b m (probe-right y e m p n) (ap Some (sym c.type)) refl;
       stepped = λ p e a r h.
-          let q : Part = whole p.arg r.carries in
+          let q : Part = whole_argument p.arg r.carries in
           steps-kept p q (arg_name (slice_get f.unit.args p.arg)) (f.steps p) e h
           (λ y b. subst (λ o. Named y e.lines (arg_name o) (signal_type r.carries)) (sym r.there) ((h y b).args p.arg r.arg r.carries r.there r.signal))
           r.leads;

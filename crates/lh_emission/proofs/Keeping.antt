@@ -25,7 +25,8 @@ use Rattle.lh_meaning.proofs.ProbesLaw.{read_values_fit}
 use Rattle.lh_emission.specs.Emitted.{PartStep, Emitted, gives, next_name, takes_steps, arg_name, term_name, part_name, typed, bare, signal}
 use Rattle.lh_emission.specs.Needs.{writes_each, each_typed, first_typed, written_type, types_of_all, operation_text}
 use Rattle.lh_emission.specs.Reads.{range_in, reads}
-use Rattle.lh_emission.specs.Ways.{part_by_step, part_by, StepsLead, whole, IsReached}
+use Rattle.lh_emission.specs.Ways.{part_by_step, part_by, StepsLead, IsReached}
+use Rattle.lh_term.specs.Parts.{whole_argument}
 use Rattle.lh_emission.proofs.Computing.{value, values, Computes}
 use Rattle.lh_emission.proofs.Induction.{IsNamed, IsNamedPart}
 use Rattle.lh_emission.proofs.Needing.{IsScalar, IsProbe, Keeps}
@@ -149,7 +150,7 @@ module _ (f : Frame) (few : HasFewArgs f.unit) where
           let m = inv y (begins-before f few y e.lines _ b) in
           term-means f few w ts y e t (prb_text (signal e p)) b m (probe-gives w ts y e m p t c h);
       stepped = λ p e d r inv.
-          let q : Part = whole p.arg r.carries in
+          let q : Part = whole_argument p.arg r.carries in
           steps-keep p q (arg_name (slice_get f.unit.args p.arg)) (f.steps p) e inv
           (λ y b. subst (λ o. HoldsPart f few y (after f few y e.lines).held (arg_name o) q) (sym r.there) ((inv y b).args p.arg r.arg r.carries r.there r.signal))
           r.leads;

@@ -29,3 +29,4 @@ pub mod Operating
 pub mod Times
 pub mod Headed
 pub mod Printing
+pub mod PartsLed

@@ -24,7 +24,8 @@ use Rattle.lh_emission.specs.Names.{free_number}
 use Rattle.lh_emission.specs.Emitted.{PartStep, Source, source_of, Emitted, nothing_emitted, name_if_whole, whole_name, next_name, gives, gives_term, puts, takes_steps, arg_name, term_name, part_name, signal, typed, with_part}
 use Rattle.lh_emission.specs.Needs.{operation_text}
 use Rattle.lh_emission.specs.Entities.{entity_with, comb, edge, once, emit_probes, cond_name, trigger_text, drive_fits, row_fits}
-use Rattle.lh_emission.specs.Ways.{StepsLead, whole, IsReached}
+use Rattle.lh_emission.specs.Ways.{StepsLead, IsReached}
+use Rattle.lh_term.specs.Parts.{whole_argument}
 use Rattle.lh_emission.specs.Laws.{IsRightEntity}
 use Rattle.lh_emission.specs.Printed.{HasPrintableHeader, CombIsPrintable, EdgeIsPrintable, OnceIsPrintable}
 use Rattle.lh_emission.proofs.Induction.{IsNamed, IsNamedPart}
@@ -211,7 +212,7 @@ module _ (u : UnitText) (steps : Part → List PartStep) (few : length u.args < 
   reached-written : (p : Part) (e : Emitted) → IsReached s p → Inv e → Inv (takes_steps s p (arg_name (slice_get u.args p.arg)) (steps p) e)
   reached-written p e r h =
       let a : ArgWritten r.arg = arg-written u.args p.arg r.arg args r.there in
-      steps-written p (whole p.arg r.carries) (arg_name (slice_get u.args p.arg)) (steps p) e h
+      steps-written p (whole_argument p.arg r.carries) (arg_name (slice_get u.args p.arg)) (steps p) e h
       (λ b. subst (λ o. IsName (arg_name o)) (sym r.there) a.name) (carried-data r.arg r.carries a r.signal) r.leads
 
   written-kept : KeepsRows s (IsReached s) Inv

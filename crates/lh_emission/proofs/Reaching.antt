@@ -15,8 +15,10 @@ use Rattle.lh_unit.proofs.Lists.{some_inj}
 use Rattle.lh_term.specs.Same.{same_part, same_part-is, same_part-refl}
 use Rattle.lh_term.specs.declared.part.Part.{Part}
 use Rattle.lh_emission.specs.Emitted.{PartStep, source_of}
-use Rattle.lh_emission.specs.Ways.{part_by_step, part_by, StepsLead, whole, IsReached}
-use Rattle.lh_emission.specs.Reached.{Reached, argument_part, as_argument, stepped_by, further, reached, steps_if, first_steps, steps_in, IsPartOf}
+use Rattle.lh_emission.specs.Ways.{part_by_step, part_by, StepsLead, IsReached}
+use Rattle.lh_term.specs.Parts.{whole_argument}
+use Rattle.lh_emission.specs.Reached.{Reached, as_argument, stepped_by, further, reached, steps_if, first_steps, steps_in, IsPartOf}
+use Rattle.lh_rows.specs.Known.{argument_part}
 
 -- ---- what is reached is reached by its steps
 
@@ -25,7 +27,7 @@ pub record Leads (u : UnitText) (r : Reached) : Type 0 where
   pub carries : TypeTree
   pub there : slice_get u.args r.part.arg ≡ Some arg
   pub signal : arg.ty ≡ signal_type carries
-  pub leads : StepsLead (whole r.part.arg carries) r.steps r.part
+  pub leads : StepsLead (whole_argument r.part.arg carries) r.steps r.part
 
 record IsArgument (xs : List ArgText) (i : ℕ) (p : Part) : Type 0 where
   number : ℕ
@@ -33,7 +35,7 @@ record IsArgument (xs : List ArgText) (i : ℕ) (p : Part) : Type 0 where
   carries : TypeTree
   there : slice_get xs number ≡ Some arg
   signal : arg.ty ≡ signal_type carries
-  is : p ≡ whole (i + number) carries
+  is : p ≡ whole_argument (i + number) carries
 
 carried-is : (t c : TypeTree) → carried t ≡ Some c → t ≡ signal_type c
 carried-is (signal_type t) c h = ap signal_type (some_inj t c h)
@@ -48,18 +50,18 @@ argument-is : (n : List ℕ) (i : ℕ) (xs : List ArgText) (p : Part) → argume
 argument-is n i [] p h = absurd cc
 argument-is n i (a ∷ more) p h = at (same_name a.name n) refl (argument-is n (i + 1) more p)
   where
-    here : (o : Option TypeTree) → carried a.ty ≡ o → option_map (whole i) o ≡ Some p → IsArgument (a ∷ more) i p
+    here : (o : Option TypeTree) → carried a.ty ≡ o → option_map (whole_argument i) o ≡ Some p → IsArgument (a ∷ more) i p
     here None q r = absurd cc
     here (Some c) q r =
         let z : i ≡ i + 0 = omega arith in
-        record { number = 0; arg = a; carries = c; there = refl; signal = carried-is a.ty c q; is = sym (some_inj (whole i c) p r) ∙ ap (λ k. whole k c) z }
+        record { number = 0; arg = a; carries = c; there = refl; signal = carried-is a.ty c q; is = sym (some_inj (whole_argument i c) p r) ∙ ap (λ k. whole_argument k c) z }
 
     at : (b : Bool) → same_name a.name n ≡ b → (argument_part n (i + 1) more ≡ Some p → IsArgument more (i + 1) p) → IsArgument (a ∷ more) i p
     at true q r = here (carried a.ty) refl (rw q at h)
     at false q r =
         let x = r (rw q at h) in
         let z : i + 1 + x.number ≡ i + suc x.number = omega arith in
-        record { number = suc x.number; arg = x.arg; carries = x.carries; there = x.there; signal = x.signal; is = x.is ∙ ap (λ k. whole k x.carries) z }
+        record { number = suc x.number; arg = x.arg; carries = x.carries; there = x.there; signal = x.signal; is = x.is ∙ ap (λ k. whole_argument k x.carries) z }
 
 argument-leads : (u : UnitText) (n : List ℕ) (r : Reached) → as_argument u n ≡ Some r → Leads u r
 argument-leads u n r h = at (argument_part n 0 u.args) refl h
@@ -69,13 +71,13 @@ argument-leads u n r h = at (argument_part n 0 u.args) refl h
     at (Some p) q k =
         let x = argument-is n 0 u.args p q in
         let z : 0 + x.number ≡ x.number = omega arith in
-        let w : p ≡ whole x.number x.carries = x.is ∙ ap (λ m. whole m x.carries) z in
+        let w : p ≡ whole_argument x.number x.carries = x.is ∙ ap (λ m. whole_argument m x.carries) z in
         let y : Leads u (record { part = p; steps = [] }) = record {
           arg = x.arg;
           carries = x.carries;
           there = ap (λ (q : Part). slice_get u.args q.arg) w ∙ x.there;
           signal = x.signal;
-          leads = ap (λ (q : Part). whole q.arg x.carries) w ∙ sym w;
+          leads = ap (λ (q : Part). whole_argument q.arg x.carries) w ∙ sym w;
         } in
         subst (Leads u) (some_inj _ r k) y
 
@@ -123,8 +125,8 @@ step-leads u o from r l h = at (part_by from.part o) refl h
           carries = l.carries;
           there = ap (λ n. slice_get u.args n) a ∙ l.there;
           signal = l.signal;
-          leads = subst (λ n. StepsLead (whole n l.carries) (from.steps ++ record { op = o; to = to } ∷ []) to) (sym a)
-              (steps-then (whole from.part.arg l.carries) from.part to from.steps o l.leads q);
+          leads = subst (λ n. StepsLead (whole_argument n l.carries) (from.steps ++ record { op = o; to = to } ∷ []) to) (sym a)
+              (steps-then (whole_argument from.part.arg l.carries) from.part to from.steps o l.leads q);
         } in
         subst (Leads u) (some_inj _ r k) y
 
@@ -382,7 +384,7 @@ found-leads u p r ss l e s q = record {
   carries = l.carries;
   there = ap (λ (x : Part). slice_get u.args x.arg) (sym e) ∙ l.there;
   signal = l.signal;
-  leads = subst (λ zs. StepsLead (whole p.arg l.carries) zs p) (s ∙ sym q) (subst (λ (x : Part). StepsLead (whole x.arg l.carries) r.steps x) e l.leads);
+  leads = subst (λ zs. StepsLead (whole_argument p.arg l.carries) zs p) (s ∙ sym q) (subst (λ (x : Part). StepsLead (whole_argument x.arg l.carries) r.steps x) e l.leads);
 }
 
 -- it is an argument, or a line gives it

@@ -22,7 +22,8 @@ use Rattle.lh_emission.specs.Emitted.{PartStep, Emitted, gives, gives_term, next
 use Rattle.lh_emission.specs.Needs.{operation_text}
 use Rattle.lh_emission.specs.Laws.{Among}
 use Rattle.lh_emission.specs.Reads.{range_in}
-use Rattle.lh_emission.specs.Ways.{StepsLead, whole}
+use Rattle.lh_emission.specs.Ways.{StepsLead}
+use Rattle.lh_term.specs.Parts.{whole_argument}
 use Rattle.lh_emission.proofs.Induction.{IsNamed, IsNamedPart}
 use Rattle.lh_emission.proofs.Naming.{names_differ, free_from-within}
 use Rattle.lh_emission.proofs.Needing.{NotProbe, IsProbe, Keeps}
@@ -242,7 +243,7 @@ module _ (f : Frame) (few : HasFewArgs f.unit) where
       computed = λ o xs t e c r d n h. other-probes e t (operation_text e o xs) d (λ x ps. refl) h;
       probed = λ p t e c g n h. probe-probes e p t c g n h;
       stepped = λ p e a r h.
-          let q : Part = whole p.arg r.carries in
+          let q : Part = whole_argument p.arg r.carries in
           steps-probe p q (arg_name (slice_get f.unit.args p.arg)) (f.steps p) e a h
           (λ y b. subst (λ o. HoldsPart f few y (static y e.lines) (arg_name o) q) (sym r.there) ((h.senses y b).args p.arg r.arg r.carries r.there r.signal))
           r.leads;

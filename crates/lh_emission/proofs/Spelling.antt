@@ -15,14 +15,14 @@ use Rattle.lh_unit.specs.Within.{Each}
 use Rattle.lh_unit.specs.SpellsTypes.{SpellsType}
 use Rattle.lh_unit.specs.SpellsNumbers.{SpellsNumber, SpellsFemtoseconds, SpellsTime}
 use Rattle.lh_unit.specs.SpellsParts.{SpellsParts, SpellsBehind, SpellsOperand, SpellsBare, SpellsWithType, SpellsMaybe, SpellsTrigger}
-use Rattle.lh_unit.specs.SpellsInst.{SpellsWordTyped, SpellsInst, SpellsLine, gives_value, may_stand_alone}
+use Rattle.lh_unit.specs.SpellsInst.{SpellsWordTyped, SpellsInst, gives_value, may_stand_alone}
 use Rattle.lh_unit.specs.declared.inst.Mode.{Mode}
 use Rattle.lh_unit.specs.declared.inst.Mode.TheVariants as mode
 use Rattle.lh_spelled.specs.Printable.{HasInstLine}
 use Rattle.lh_spelled.proofs.Numerals.{number_of-decimal, decimal-named, decimal-some, all_name_bytes-append}
 use Rattle.lh_spelled.proofs.Spacing.{word-lexeme}
 use Rattle.lh_spelled.proofs.Types.{number-lexeme, type-stands}
-use Rattle.lh_spelled.proofs.Insts.{line-again}
+use Rattle.lh_spelled.proofs.Insts.{line-has}
 use Rattle.lh_emission.specs.Emitted.{typed, bare}
 pub use Rattle.lh_unit.proofs.Lists.{Each-append as each-append}
 
@@ -129,9 +129,6 @@ module _ {A : Type 0} (P : A → List Lexeme → List Lexeme → Type 0) where
       record { toks = comma ∷ r.toks; written = (refl, r.written); spelled = λ more. (r.toks ++ more, refl, r.spelled more) }
 
 -- ---- lines
-
-line-has : (r : Option (List ℕ)) (i : InstText) (ts : List Lexeme) → Each IsLexeme ts → SpellsLine r i ts → HasInstLine (record { result = r; inst = i })
-line-has r i ts w h = let a = line-again r i ts w h in (a.spaced, a.spelled)
 
 -- an instruction that gives a value of this name
 pub given-line : (n : List ℕ) (i : InstText) → IsName n → gives_value i ≡ true → Spelt (SpellsInst i) → HasInstLine (record { result = Some n; inst = i })

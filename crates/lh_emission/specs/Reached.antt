@@ -2,24 +2,19 @@
 use Rattle.std.specs.Prelude.{◌≡◌, ℕ, zero, suc, ◌+◌, List, [], ◌∷◌, ◌++◌, length, if◌then◌else◌, unwrap_or, Option, Some, None}
 use Rattle.std.specs.Option.{option_and_then, option_map}
 use Rattle.lh_types.specs.declared.op.Op.{Op}
-use Rattle.lh_unit.specs.Contents.{InstText, pure_text, LineText, ArgText, UnitText}
-use Rattle.lh_names.specs.Names.{same_name}
+use Rattle.lh_unit.specs.Contents.{InstText, pure_text, LineText, UnitText}
 use Rattle.lh_unit.specs.Hierarchy.{lines_of}
-use Rattle.lh_unit.specs.Typing.{carried, or_else, inst_giving}
+use Rattle.lh_unit.specs.Typing.{or_else, inst_giving}
 use Rattle.lh_term.specs.Same.{same_part}
 use Rattle.lh_term.specs.declared.part.Part.{Part}
+use Rattle.lh_rows.specs.Known.{argument_part}
 use Rattle.lh_emission.specs.Emitted.{PartStep}
-use Rattle.lh_emission.specs.Ways.{part_by, whole}
+use Rattle.lh_emission.specs.Ways.{part_by}
 
 -- a part, and the steps that lead to it from its argument
 pub record Reached : Type 0 where
   pub part : Part
   pub steps : List PartStep
-
--- the argument of this name as a part by itself, the first of these arguments having the number i
-abbrev pub argument_part : List ℕ → (i : ℕ) → List ArgText → Option Part
-argument_part n i [] = None
-argument_part n i (a ∷ more) = if same_name a.name n then option_map (whole i) (carried a.ty) else argument_part n (i + 1) more
 
 abbrev pub as_argument : UnitText → List ℕ → Option Reached
 as_argument u n = option_map (λ p. record { part = p; steps = [] }) (argument_part n 0 u.args)

@@ -1,7 +1,8 @@
 -- Which parts the steps of a source lead to, and which parts a term has.
-use Rattle.std.specs.Prelude.{◌≡◌, ℕ, ◌+◌, List, [], ◌∷◌, Option, Some, slice_get}
+use Rattle.std.specs.Prelude.{◌≡◌, ◌+◌, List, [], ◌∷◌, Option, Some, slice_get}
 use Rattle.std.specs.Option.{option_and_then, option_map}
 use Rattle.lh_types.specs.Types.{TypeTree, int_type, time_type, signal_type, IsData}
+use Rattle.lh_types.specs.Parts as Parts
 use Rattle.lh_types.specs.Parts.{step_part}
 use Rattle.lh_types.specs.declared.op.Op.{Op}
 use Rattle.lh_types.specs.declared.part.Step.{Step}
@@ -10,14 +11,19 @@ use Rattle.lh_unit.specs.Effects.{step_of}
 use Rattle.lh_term.specs.Tree.{Tree}
 use Rattle.lh_term.specs.Leaves.{AllParts}
 use Rattle.lh_term.specs.declared.part.Part.{Part}
+use Rattle.lh_term.specs.Parts.{whole_argument}
 use Rattle.lh_term.specs.Types.{IsTyped, type_of}
 use Rattle.lh_unit.specs.Within.{Each}
 use Rattle.lh_emission.specs.Given.{Drive, TriggerTree, EdgeRowTree}
 use Rattle.lh_emission.specs.Emitted.{PartStep, Source}
 
+-- the part of a part
+abbrev pub inner : Part → Parts.Part → Part
+inner p q = record { arg = p.arg; lo = p.lo + q.lo; ty = q.of }
+
 -- the part of a part to which a step leads
 abbrev pub part_by_step : Part → Step → Option Part
-part_by_step p s = option_map (λ q. record { arg = p.arg; lo = p.lo + q.lo; ty = q.of }) (step_part p.ty s)
+part_by_step p s = option_map (inner p) (step_part p.ty s)
 
 -- the part of a part that `extf` or `exts` names
 abbrev pub part_by : Part → Op → Option Part
@@ -28,17 +34,13 @@ abbrev pub StepsLead : Part → List PartStep → Part → Type 0
 StepsLead p [] q = p ≡ q
 StepsLead p (st ∷ more) q = (part_by p st.op ≡ Some st.to) × StepsLead st.to more q
 
--- the whole of argument i, which carries this type
-abbrev pub whole : ℕ → TypeTree → Part
-whole i t = record { arg = i; lo = 0; ty = t }
-
 -- the steps of a source lead to a part from the whole of its argument
 pub record IsReached (s : Source) (p : Part) : Type 0 where
   pub arg : ArgText
   pub carries : TypeTree
   pub there : slice_get s.args p.arg ≡ Some arg
   pub signal : arg.ty ≡ signal_type carries
-  pub leads : StepsLead (whole p.arg carries) (s.steps p) p
+  pub leads : StepsLead (whole_argument p.arg carries) (s.steps p) p
 
 -- the term is typed, and its parts are reached
 pub record IsGiven (s : Source) (t : Tree) : Type 0 where

@@ -9,6 +9,7 @@ use Rattle.lh_unit.specs.declared.inst.Mode.TheVariants.{Rise, Fall}
 use Rattle.lh_unit.specs.Contents.{OperandText, InstText, const_text, pure_text, drv_text, prb_text, reg_text, LineText, ArgText, UnitText}
 use Rattle.lh_term.specs.Tree.{Tree, constant, now_of, operation_on, choice_of}
 use Rattle.lh_term.specs.declared.part.Part.{Part}
+use Rattle.lh_term.specs.Parts.{whole_argument}
 use Rattle.lh_emission.specs.Given.{Drive}
 use Rattle.lh_emission.specs.Emitted.{PartStep}
 use Rattle.lh_emission.specs.Entities.{emits, comb_emission, edge_emission, once_emission, entity_with}
@@ -54,9 +55,6 @@ process n args = record { kind = kind.Proc; name = global n; args = args; result
 abbrev pub no_steps : Part → List PartStep
 no_steps p = []
 
-abbrev pub whole : ℕ → TypeTree → Part
-whole i t = record { arg = i; lo = 0; ty = t }
-
 abbrev pub time : ℕ → ℕ → Datum
 time fs delta = time_value (record { fs = fs; delta = delta; eps = 0 })
 
@@ -77,7 +75,7 @@ flip_flop = process (codes "acc_ff") (input (codes "clk") bit ∷ input (codes "
 abbrev pub FlipFlopEmits : Type 0
 FlipFlopEmits =
     edge_emission flip_flop no_steps
-    (record { part = whole 2 word; value = now_of (whole 1 word); delay = one_delta; triggers = record { rise = true; part = whole 0 bit; gate = one } ∷ [] } ∷ [])
+    (record { part = whole_argument 2 word; value = now_of (whole_argument 1 word); delay = one_delta; triggers = record { rise = true; part = whole_argument 0 bit; gate = one } ∷ [] } ∷ [])
     ≡ emits (entity_with flip_flop (
     line (codes "v0") (prb_text (typed (of word) (codes "d")))
     ∷ line (codes "v1") (prb_text (typed (of bit) (codes "clk")))
@@ -89,15 +87,15 @@ abbrev pub sum : UnitText
 sum = process (codes "acc_comb") (input (codes "q") word ∷ input (codes "x") word ∷ input (codes "en") bit ∷ output (codes "d") word ∷ [])
 
 abbrev pub q_now : Tree
-q_now = now_of (whole 0 word)
+q_now = now_of (whole_argument 0 word)
 
 abbrev pub SumEmits : Type 0
 SumEmits =
-    comb_emission sum no_steps (whole 0 word ∷ whole 1 word ∷ whole 2 bit ∷ [])
+    comb_emission sum no_steps (whole_argument 0 word ∷ whole_argument 1 word ∷ whole_argument 2 bit ∷ [])
     (record {
       cond = one;
-      part = whole 3 word;
-      value = choice_of (now_of (whole 2 bit)) q_now (operation_on op.Add (q_now ∷ now_of (whole 1 word) ∷ []));
+      part = whole_argument 3 word;
+      value = choice_of (now_of (whole_argument 2 bit)) q_now (operation_on op.Add (q_now ∷ now_of (whole_argument 1 word) ∷ []));
       delay = one_delta;
     } ∷ [])
     ≡ emits (entity_with sum (
@@ -117,16 +115,16 @@ abbrev pub reset_flip_flop : UnitText
 reset_flip_flop = process (codes "ffr") (input (codes "clk") bit ∷ input (codes "rst") bit ∷ input (codes "d") byte ∷ output (codes "q") byte ∷ [])
 
 abbrev pub clk_part : Part
-clk_part = whole 0 bit
+clk_part = whole_argument 0 bit
 
 abbrev pub rst_part : Part
-rst_part = whole 1 bit
+rst_part = whole_argument 1 bit
 
 abbrev pub ResetFlipFlopEmits : Type 0
 ResetFlipFlopEmits =
     edge_emission reset_flip_flop no_steps
     (record {
-      part = whole 3 byte;
+      part = whole_argument 3 byte;
       value = number 8 0;
       delay = one_delta;
       triggers =
@@ -134,7 +132,7 @@ ResetFlipFlopEmits =
           ∷ record { rise = false; part = rst_part; gate = one }
           ∷ [];
     }
-    ∷ record { part = whole 3 byte; value = now_of (whole 2 byte); delay = one_delta; triggers = record { rise = true; part = clk_part; gate = now_of rst_part } ∷ [] }
+    ∷ record { part = whole_argument 3 byte; value = now_of (whole_argument 2 byte); delay = one_delta; triggers = record { rise = true; part = clk_part; gate = now_of rst_part } ∷ [] }
     ∷ [])
     ≡ emits (entity_with reset_flip_flop (
     line (codes "v0") (const_text (int_value 8 0))
@@ -158,7 +156,7 @@ abbrev pub constant_process : UnitText
 constant_process = process (codes "k") (input (codes "e") bit ∷ output (codes "q") byte ∷ [])
 
 abbrev pub five : List Drive
-five = record { cond = one; part = whole 1 byte; value = number 8 5; delay = constant (time 1000000 0) } ∷ []
+five = record { cond = one; part = whole_argument 1 byte; value = number 8 5; delay = constant (time 1000000 0) } ∷ []
 
 abbrev pub ConstantEmits : Type 0
 ConstantEmits =
@@ -171,7 +169,7 @@ ConstantEmits =
 
 abbrev pub ConstantWaits : Type 0
 ConstantWaits =
-    comb_emission constant_process no_steps (whole 0 bit ∷ []) five
+    comb_emission constant_process no_steps (whole_argument 0 bit ∷ []) five
     ≡ emits (entity_with constant_process (
     line (codes "v0") (prb_text (typed (of bit) (codes "e")))
     ∷ line (codes "v1") (const_text (int_value 8 5))
@@ -185,11 +183,11 @@ abbrev pub three_drives : UnitText
 three_drives = process (codes "al") (input (codes "c") bit ∷ output (codes "d") byte ∷ output (codes "e") byte ∷ [])
 
 abbrev pub drive_to : ℕ → ℕ → Tree → Drive
-drive_to i n c = record { cond = c; part = whole i byte; value = number 8 n; delay = one_delta }
+drive_to i n c = record { cond = c; part = whole_argument i byte; value = number 8 n; delay = one_delta }
 
 abbrev pub ThreeDrivesEmit : Type 0
 ThreeDrivesEmit =
-    comb_emission three_drives no_steps (whole 0 bit ∷ []) (drive_to 1 1 one ∷ drive_to 2 2 one ∷ drive_to 1 3 (now_of (whole 0 bit)) ∷ [])
+    comb_emission three_drives no_steps (whole_argument 0 bit ∷ []) (drive_to 1 1 one ∷ drive_to 2 2 one ∷ drive_to 1 3 (now_of (whole_argument 0 bit)) ∷ [])
     ≡ emits (entity_with three_drives (
     line (codes "v0") (prb_text (typed (of bit) (codes "c")))
     ∷ line (codes "v1") (const_text (int_value 8 1))
@@ -208,7 +206,7 @@ sets = process (codes "p") (output (codes "s") byte ∷ [])
 
 abbrev pub SetsEmits : Type 0
 SetsEmits =
-    once_emission sets no_steps (record { cond = one; part = whole 0 byte; value = number 8 1; delay = constant (time 1000000 0) } ∷ [])
+    once_emission sets no_steps (record { cond = one; part = whole_argument 0 byte; value = number 8 1; delay = constant (time 1000000 0) } ∷ [])
     ≡ emits (entity_with sets (
     line (codes "v0") (const_text (int_value 8 1))
     ∷ line (codes "v1") (const_text (time 1000000 0))

@@ -8,7 +8,7 @@ use Rattle.lh_unit.specs.declared.inst.ValueId.{ValueId}
 use Rattle.lh_term.specs.Tree.{Tree}
 use Rattle.lh_term.specs.Arena.{tree_at, trees, IsIn, StandsForTree, OneId, Grows}
 use Rattle.lh_term.proofs.Swaps.{tree_grown, in_grown}
-use Rattle.lh_term.specs.Same.{nat_eq-is, nat_eq-refl}
+use Rattle.lh_types.specs.Same.{nat_eq-refl, nat_eq-is}
 use Rattle.lh_term.specs.SameTree.{same_tree, same_tree-is, same_tree-refl}
 use Rattle.lh_term.specs.declared.term.TermId.{TermId}
 use Rattle.lh_term.specs.declared.term.Node.{Node}

@@ -1,6 +1,6 @@
 -- Need of a part by ids: a whole argument, a part that is there, and one that is new.
 use Rattle.std.proofs.Common.{◌≡◌, ℕ, zero, suc, ◌+◌, ◌<◌, ◌≤◌, Bool, true, false, if◌then◌else◌, List, [], ◌∷◌, ◌++◌, length, map, get_or, Option, Some, None, slice_get, refl, ap, sym, ◌∙◌, subst, arith, length-append}
-use Rattle.std.specs.Prelude.{unwrap_or, slice_index_or}
+use Rattle.std.specs.Prelude.{unwrap_or, slice_index_or, Result, Ok, Err}
 use Rattle.std.specs.Option.{option_map, option_and_then}
 use Rattle.std.proofs.Math.ListN.{get_or-append}
 use Rattle.lh_types.specs.Types.{TypeTree, IsData, IsLimited, int_type}
@@ -14,14 +14,14 @@ use Rattle.lh_term.specs.declared.part.Part.{Part}
 use Rattle.lh_term.specs.declared.term.Node.{Node}
 use Rattle.lh_emission.specs.Emitted.{PartStep, Source, Emitted, whole_name, name_if_whole, arg_name, with_part, takes_steps, unless_there, need_part, part_name}
 use Rattle.lh_emission.specs.Entities.{max_lines}
-use Rattle.lh_emission.specs.Ways.{StepsLead, whole, IsReached}
+use Rattle.lh_emission.specs.Ways.{StepsLead, IsReached}
+use Rattle.lh_term.specs.Parts.{whole_argument}
 use Rattle.lh_emission.proofs.Stepping.{step-well-to}
 use Rattle.lh_body.specs.Lines.{naming, most_lines, LinesAreEmitted}
 use Rattle.lh_emit.specs.Emitting.{ArgumentsFirst, IsEmitted}
 use Rattle.lh_origin.specs.Origins.{AreStepsOf, step_text, route_text, args_of, IsSource}
 use Rattle.lh_emit.specs.Parts.{part_in, KeepsPart}
 use Rattle.lh_emit.specs.Steps.{walk, walk_name, AllData, StillWalks, Walks, WalksNot}
-use Rattle.std.specs.Prelude.{Result, Ok, Err}
 use Rattle.std.specs.Result.{IsErrAnd}
 use Rattle.std.proofs.lemmas.Option.{slice_get_within}
 use Rattle.lh_body.specs.declared.lines.EmitFault.{EmitFault}
@@ -73,7 +73,7 @@ module _ (o : Origin) (s : Source) (src : IsSource o s) (p : Part) (r : IsReache
   arg-type = (same-type (args_of o) s.args p.arg r.arg d (source-types o s src) r.there).1
 
   pub route-types : (route : List RouteStep) → IsLimited (get_or (args_of o) p.arg d).ty → AreStepsOf (s.steps p) route → AllData route
-  route-types route h e = route-data (whole p.arg r.carries) p (s.steps p) route (subst IsLimited (arg-type ∙ r.signal) h) r.leads e
+  route-types route h e = route-data (whole_argument p.arg r.carries) p (s.steps p) route (subst IsLimited (arg-type ∙ r.signal) h) r.leads e
 
   whole-at : (b : Bool) → is_whole p r.arg.ty ≡ b → whole_name s.args p ≡ (if b then Some r.arg.name else None)
   whole-at b e = ap (option_and_then (name_if_whole p)) r.there ∙ ap (λ (c : Bool). if c then Some r.arg.name else None) e

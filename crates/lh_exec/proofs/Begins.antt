@@ -38,9 +38,9 @@ use Rattle.lh_exec.specs.declared.state.Stand.TheVariants as stand
 use Rattle.lh_exec.specs.declared.process.Act.{Act}
 use Rattle.lh_exec.specs.Standing.{FrameIs, CallsAre, MachineIs, InstLeads, Ends, MaybeFrame}
 use Rattle.lh_exec.specs.declared.process.ExecFault.TheVariants as fault
-use Rattle.lh_exec.specs.States.{waited_by, begun, StandsBy, PartsWithin, SlotsFit, PauseFits, FitsBy, WakesLaterBy, GivesActivation, GivesMaybe, ActivationOrRunaway}
+use Rattle.lh_exec.specs.States.{waited_by, StandsBy, PartsWithin, SlotsFit, PauseFits, FitsBy, WakesLaterBy, GivesActivation, GivesMaybe, ActivationOrRunaway}
 use Rattle.lh_exec.specs.Laws.{parts_of, wake_of}
-use Rattle.lh_unit.specs.World.{waited, wake_at}
+use Rattle.lh_unit.specs.World.{waited, wake_at, begun}
 use Rattle.lh_exec.specs.Sound.{LineRight, PointFits, StandFits, BeginsAt, Finishes, stood, StandHolds, EndHolds}
 use Rattle.lh_exec.proofs.KeepsFit.{Placed, entered-fits, entry-fits, block-has}
 use Rattle.lh_exec.proofs.Rights.{unit-right, label-stands, typed-value}

@@ -20,7 +20,8 @@ use Rattle.lh_sound.proofs.SoundLines.{items-printable}
 use Rattle.lh_exec.specs.declared.state.Stand as declared
 use Rattle.lh_exec.specs.declared.state.Stand.TheVariants as stand
 use Rattle.lh_exec.specs.Standing.{scene_of}
-use Rattle.lh_exec.specs.States.{begun, StandsBy, FitsBy, SlotsFit, HoldsThere}
+use Rattle.lh_exec.specs.States.{StandsBy, FitsBy, SlotsFit, HoldsThere}
+use Rattle.lh_unit.specs.World.{begun}
 use Rattle.lh_exec.specs.Sound.{UnitRight, PointFits, EndHolds}
 use Rattle.lh_exec.specs.Steady.{Reaches, IsSteady}
 use Rattle.lh_exec.proofs.Rights.{unit-right, functions-right, defined-value}

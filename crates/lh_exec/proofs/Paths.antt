@@ -33,7 +33,7 @@ use Rattle.lh_sound.proofs.FindingStatic.{result-is}
 use Rattle.lh_sound.proofs.FindingPass.{result-stays, args-stay, named-held}
 use Rattle.lh_exec.specs.States.{HoldsThere}
 use Rattle.lh_exec.specs.Sound.{LineRight, UnitRight}
-use Rattle.lh_exec.proofs.KeepsFit.{block-has}
+use Rattle.lh_exec.proofs.KeepsFit.{block-has, at-block}
 use Rattle.lh_exec.proofs.Placed.{UnitSteady, GivesNamed, NotNil, place-of, entry-no-phi}
 
 -- ---- what is held stays held
@@ -157,10 +157,6 @@ pub record ControlHolds (c : Control) : Type 0 where
   pub there : HoldsThere c.unit text before c.held
   pub phis : PhisHeld c.held c.rest
   pub more : NotNil c.rest
-
--- where a block is entered
-abbrev pub at-block : UnitText → List ℕ → List LineText → Env → Control
-at-block v to ls e = record { unit = v; block = to; rest = ls; held = e }
 
 -- the entry of a unit, whose arguments are held
 pub entry-holds : (u : UnitText) (items : List ItemText) → UnitSteady u → UnitRight items u → (e : Env) → ((n : List ℕ) → args_define n u.args ≡ true → IsSome (e n)) → (c : Control)

@@ -17,7 +17,8 @@ use Rattle.lh_formed.specs.KindsOf.{HasTypeOfKind}
 use Rattle.lh_eval.specs.Fitting.{Fits}
 use Rattle.lh_eval.proofs.GivesFit.{part-fits}
 use Rattle.lh_formed.proofs.EachItem.{each-split}
-use Rattle.lh_exec.specs.States.{WaitsIn, PartsWithin, IsLater}
+use Rattle.lh_exec.specs.States.{WaitsIn, PartsWithin}
+use Rattle.lh_time.specs.Order.{IsLaterIfAny}
 use Rattle.lh_exec.specs.Sound.{StandFits}
 use Rattle.lh_exec.proofs.Heads.{signal-used}
 
@@ -27,7 +28,7 @@ MaybeWithin w (Some rs) = PartsWithin w rs
 
 abbrev MaybeLater : Instant → Option (Option Instant) → Type 0
 MaybeLater t None = Unit {0}
-MaybeLater t (Some wake) = IsLater t wake
+MaybeLater t (Some wake) = IsLaterIfAny t wake
 
 parts-within : (u : UnitText) (w : ℕ) (e : Env) → Fits u w e → (ns : List (List ℕ)) → Each (λ n. HasTypeOfKind u (used signal_needed n)) ns → MaybeWithin w (parts_at e ns)
 parts-within u w e f [] k = tt
@@ -38,10 +39,10 @@ parts-within u w e f (n ∷ ns) k = by (part_at e n) refl (parts_at e ns) (parts
     by (Some r) p None m = tt
     by (Some r) p (Some rs) m = let s = signal-used u n k.0 in ((part-fits u w e f n r s.0 p s.1).2, m)
 
-due-later : (t : Instant) (d : Delay) → IsLater t (due_of t d)
+due-later : (t : Instant) (d : Delay) → IsLaterIfAny t (due_of t d)
 due-later t d = by (due_of t d) refl
   where
-    by : (o : Option Instant) → due_of t d ≡ o → IsLater t o
+    by : (o : Option Instant) → due_of t d ≡ o → IsLaterIfAny t o
     by None p = tt
     by (Some v) p = due_is_later t v d p
 

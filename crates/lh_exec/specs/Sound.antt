@@ -25,7 +25,8 @@ use Rattle.lh_exec.specs.declared.machine.Flow.TheVariants as flow
 use Rattle.lh_exec.specs.declared.state.Stand as declared
 use Rattle.lh_exec.specs.declared.state.Stand.TheVariants as stand
 use Rattle.lh_exec.specs.Standing.{MachineIs, Ends}
-use Rattle.lh_exec.specs.States.{WaitsIn, HoldsThere, PartsWithin, IsLater}
+use Rattle.lh_exec.specs.States.{WaitsIn, HoldsThere, PartsWithin}
+use Rattle.lh_time.specs.Order.{IsLaterIfAny}
 
 -- a label is that of a block of the unit
 abbrev pub IsLabel : UnitText → List ℕ → Type 0
@@ -85,7 +86,7 @@ pub record PointFits (items : List ItemText) (width : ℕ) (u : UnitText) (p : P
 -- where a process that has come to an end of an activation at an instant stands: at a `wait` for parts within the signals, and for a later instant
 abbrev pub StandFits : (width : ℕ) → Instant → UnitText → Stand → Type 0
 StandFits width t u is_new = Unit {0}
-StandFits width t u (waits block to on wake) = WaitsIn u block to × PartsWithin width on × IsLater t wake
+StandFits width t u (waits block to on wake) = WaitsIn u block to × PartsWithin width on × IsLaterIfAny t wake
 StandFits width t u halted = Unit {0}
 
 -- what an activation of the unit u at an instant gives fits

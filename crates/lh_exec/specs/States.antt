@@ -1,14 +1,15 @@
 -- The state of a process between its activations, and what an activation of it answers.
-use Rattle.std.specs.Prelude.{◌≡◌, ℕ, ◌+◌, ◌<◌, ◌≤◌, List, ◌∷◌, ◌++◌, map, Bool, true, Option, Some, None, IsSome, Result, Ok, Err}
+use Rattle.std.specs.Prelude.{◌≡◌, ℕ, ◌+◌, ◌<◌, ◌≤◌, List, ◌∷◌, ◌++◌, Bool, true, Option, Some, None, IsSome, Result, Ok, Err}
 use Rattle.lh_time.specs.declared.Instant.{Instant}
-use Rattle.lh_time.specs.Order.{instant_lt}
+use Rattle.lh_time.specs.Order.{IsLaterIfAny}
 use Rattle.lh_types.specs.declared.part.Range.{Range}
 use Rattle.lh_unit.specs.Contents.{LineText, BlockText, UnitText, wait_text, defines_value}
 use Rattle.lh_unit.specs.Named.{block_of}
-use Rattle.lh_unit.specs.Held.{Held, Env, part_held, nothing_held, with_args}
-use Rattle.lh_unit.specs.Activation.{is_new, waits, halted, ProcessState, Activated}
+use Rattle.lh_unit.specs.Held.{Held, Env}
+use Rattle.lh_unit.specs.Activation.{waits, halted, ProcessState, Activated}
 use Rattle.lh_unit.specs.Arena.{Arena, label_count, label_name_at, unit_text_at}
 use Rattle.lh_unit.specs.Within.{Each}
+use Rattle.lh_unit.specs.World.{begun}
 use Rattle.lh_formed.specs.Defined.{IsThere}
 use Rattle.lh_eval.specs.Holding.{Holds}
 use Rattle.lh_eval.specs.Fitting.{Fits}
@@ -33,10 +34,6 @@ waited_by stand.Halted = None
 -- the same of a state
 abbrev pub waited_on : ProcState → Option WaitOn
 waited_on s = waited_by s.stand
-
--- a process as it begins, where its arguments have these bits
-abbrev pub begun : UnitText → List Range → ProcessState
-begun u args = record { stand = is_new; held = with_args nothing_held u.args (map part_held args) }
 
 -- The state by ids of a process of the unit u, whose arguments have these bits, stands for a state.
 abbrev pub StandsBy : Arena → ℕ → (args : List Range) → Stand → ProcessState → Type 0
@@ -93,15 +90,10 @@ FitsBy a u width stand.Halted = Unit {0}
 abbrev pub StateFits : Arena → ℕ → (width : ℕ) → ProcState → Type 0
 StateFits a u width s = FitsBy a u width s.stand
 
--- the instant, if there is one, is later than this one
-abbrev pub IsLater : Instant → Option Instant → Type 0
-IsLater at None = Unit {0}
-IsLater at (Some t) = instant_lt at t ≡ true
-
 -- where a process waits, it wakes by itself only later than at this instant
 abbrev pub WakesLaterBy : Instant → Stand → Type 0
 WakesLaterBy at stand.New = Unit {0}
-WakesLaterBy at (stand.Waits w) = IsLater at w.on.wake
+WakesLaterBy at (stand.Waits w) = IsLaterIfAny at w.on.wake
 WakesLaterBy at stand.Halted = Unit {0}
 
 -- the same of a state

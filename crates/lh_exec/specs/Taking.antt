@@ -14,10 +14,8 @@ use Rattle.lh_unit.specs.declared.inst.Typed.{Typed}
 use Rattle.lh_unit.specs.declared.inst.Inst.{Inst}
 use Rattle.lh_unit.specs.declared.inst.Inst.TheVariants as inst
 use Rattle.lh_eval.specs.Holding.{datum_in, data_in}
+use Rattle.lh_eval.specs.Beginning.{Slots}
 use Rattle.lh_exec.specs.declared.machine.Taken.{Taken}
-
-abbrev pub Slots : Type 0
-Slots = List (Option Held)
 
 -- the operand that a `phi` names for an edge from this block
 abbrev pub edge_in : BlockId → List PhiEdge → Option ValueId

@@ -4,7 +4,8 @@ ghost use Rattle.lh_types.specs.Wish.{no_wish};
 ghost use Rattle.lh_unit.specs.Activation.{ProcessState, control_at};
 ghost use Rattle.lh_unit.specs.Arena.{IsArena, unit_count, kind_at, contents, unit_text_at};
 ghost use Rattle.lh_unit.specs.WellFormed.{IsWellFormed};
-ghost use Rattle.lh_exec.specs.States.{StandsBy, FitsBy, PauseFits, begun};
+ghost use Rattle.lh_exec.specs.States.{StandsBy, FitsBy, PauseFits};
+ghost use Rattle.lh_unit.specs.World.{begun};
 ghost use Rattle.lh_exec.specs.Sound.{BeginsAt};
 
 use crate::calls::first_frame;

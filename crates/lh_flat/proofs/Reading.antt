@@ -5,7 +5,6 @@ use Rattle.std.specs.List.{slice_get}
 use Rattle.std.proofs.lemmas.Option.{slice_get-get_or}
 use Rattle.std.proofs.lemmas.Bool.{cases_lt}
 use Rattle.lh_names.specs.UnitNames.{is_assert}
-use Rattle.lh_unit.specs.Within.{Each}
 use Rattle.lh_unit.specs.Table.{line_at, insts_at}
 use Rattle.lh_unit.specs.Arena.{Arena, IsArena, InstPlaced, table_at, blocks_at, unit_count, unit_name_at}
 use Rattle.lh_unit.specs.declared.inst.UnitId.{UnitId}
@@ -19,6 +18,7 @@ use Rattle.lh_flat.specs.declared.calls.CallNode.{CallNode}
 use Rattle.lh_flat.specs.Graph.{no_node, called_of, callee_of, with_inst, with_insts, with_block, with_blocks, node_of, node_at, callees_at, counted, BlockPlaced, IsGraph}
 use Rattle.lh_descent.specs.Measures.{NodesWithin}
 use Rattle.lh_flat.specs.Measures.{measuring}
+use Rattle.lh_formed.proofs.Graphs.{Inside}
 
 -- a block of a unit has an entry, and so have its instructions
 pub placed-block : (a : Arena) (u i : ℕ) (b : BlockId) → IsArena a → u < unit_count a → slice_get (blocks_at a u) i ≡ Some b → BlockPlaced a u b
@@ -47,9 +47,6 @@ GraphTo-push a n g h x o e f = subst (GraphTo a (n + 1)) (sym e) record {
 
 pub GraphTo-all : (a : Arena) (n : ℕ) (g : List CallNode) → n ≡ unit_count a → GraphTo a n g → IsGraph a g
 GraphTo-all a n g e o = record { long = o.long ∙ e; nodes = λ u l. o.nodes u (omega (arith, l, e)) }
-
-abbrev Inside : ℕ → List UnitId → Type 0
-Inside n ts = Each (λ (t : UnitId). t.0 < n) ts
 
 -- the function that is called, if there is one, has an entry
 abbrev pub CalleeIn : ℕ → Option UnitId → Type 0

@@ -23,6 +23,7 @@ use Rattle.lh_unit.specs.WellFormed.{IsFaultless}
 use Rattle.lh_unit.proofs.ById.{same_unit-by_id}
 use Rattle.lh_unit.proofs.Lists.{nat_eq-is, nat_eq-refl}
 use Rattle.lh_formed.specs.Graphs.{IsIn}
+use Rattle.lh_formed.proofs.Graphs.{item_units, in-units}
 use Rattle.lh_flat.specs.declared.calls.CallNode.{CallNode}
 use Rattle.lh_flat.specs.declared.measure.Measure.{Measure}
 use Rattle.lh_flat.specs.Calls.{callees, recursion_from, nest_deeper}
@@ -115,19 +116,6 @@ in-functions a u (item.Unit x ∷ items) (suc i) k e = by (is_function (kind_tex
     by : (b : Bool) → IsIn (function_ids a items) u.0 → IsIn (if b then x.0 ∷ function_ids a items else function_ids a items) u.0
     by true h = inr h
     by false h = h
-
--- the units that items define
-abbrev item_units : List Item → List ℕ
-item_units [] = []
-item_units (item.Unit u ∷ more) = u.0 ∷ item_units more
-item_units (item.Declare d ∷ more) = item_units more
-
-in-units : (items : List Item) (i : ℕ) (u : UnitId) → slice_get items i ≡ Some (item.Unit u) → IsIn (item_units items) u.0
-in-units [] i u e = cc
-in-units (item.Unit v ∷ more) zero u e = let q : v ≡ u = cc in inl (ap (λ (x : UnitId). x.0) q)
-in-units (item.Declare d ∷ more) zero u e = cc
-in-units (item.Unit v ∷ more) (suc i) u e = inr (in-units more i u e)
-in-units (item.Declare d ∷ more) (suc i) u e = in-units more i u e
 
 in-right : (xs ys : List ℕ) (n : ℕ) → IsIn ys n → IsIn (xs ++ ys) n
 in-right [] ys n h = h

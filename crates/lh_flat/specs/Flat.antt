@@ -134,6 +134,10 @@ abbrev pub with_merge : Option MergeText → List LineText → List LineText
 with_merge None lines = lines
 with_merge (Some m) lines = record { result = Some m.value; inst = phi_text m.ty m.edges } ∷ lines
 
+-- a block of a flat text as one of a process
+abbrev pub as_block : FlatBlockText → BlockText
+as_block b = record { label = Some b.label; lines = with_merge b.merge b.lines }
+
 -- A flat text as a process of its own: what runs it runs the process, with no call open. A merge is a `phi` there.
 abbrev pub flat_unit : UnitName → FlatText → UnitText
 flat_unit name t = record {
@@ -141,5 +145,5 @@ flat_unit name t = record {
   name = name;
   args = t.args;
   result = None;
-  blocks = map (λ (b : FlatBlockText). record { label = Some b.label; lines = with_merge b.merge b.lines }) t.blocks;
+  blocks = map as_block t.blocks;
 }

@@ -6,6 +6,7 @@ use Rattle.std.proofs.lemmas.List.{drop_more}
 use Rattle.std.proofs.lemmas.List.Elements.{Contains-append_right}
 use Rattle.std.proofs.lemmas.Option.{same_Some, none-some}
 use Rattle.lh_unit.specs.Within.{Each}
+use Rattle.lh_unit.proofs.Lists.{Each-left, Each-right}
 use Rattle.lh_unit.specs.Contents.{UnitText, EdgeText}
 use Rattle.lh_unit.specs.Activation.{edge_from}
 use Rattle.lh_formed.specs.Operands.{IsOf}
@@ -19,8 +20,7 @@ each-contained Q (x ∷ xs) go = (go x (0, omega arith, refl), each-contained Q 
 
 -- of both parts of a list
 pub each-split : {X : Type 0} (P : X → Type 0) (xs ys : List X) → Each P (xs ++ ys) → Each P xs × Each P ys
-each-split P [] ys e = (tt, e)
-each-split P (x ∷ xs) ys e = let r = each-split P xs ys e.1 in ((e.0, r.0), r.1)
+each-split P xs ys e = (Each-left P xs ys e, Each-right P xs ys e)
 
 -- of the text of the item at an index
 pub each-at : {X Y : Type 0} (P : Y → Type 0) (f : X → Y) (xs : List X) (i : ℕ) (x : X) → Each P (map f xs) → slice_get xs i ≡ Some x → P (f x)

@@ -1,10 +1,13 @@
 -- Of a search of a graph: lists of numbers in which none stands twice, and the first of some answers.
-use Rattle.std.proofs.Common.{◌≡◌, ℕ, zero, suc, ◌≤◌, ◌⊎◌, inl, inr, true, false, ◌||◌, nat_eq, if◌then◌else◌, List, [], ◌∷◌, length, take, Option, Some, None, refl, ap, sym, ◌∙◌, subst, arith}
+use Rattle.std.proofs.Common.{◌≡◌, ℕ, zero, suc, ◌<◌, ◌≤◌, ◌⊎◌, inl, inr, true, false, ◌||◌, nat_eq, if◌then◌else◌, List, [], ◌∷◌, length, take, Option, Some, None, refl, ap, sym, ◌∙◌, subst, arith}
 use Rattle.std.specs.List.{slice_get}
 use Rattle.lh_unit.specs.Within.{Each}
 use Rattle.lh_unit.specs.Typing.{or_else}
 use Rattle.lh_unit.specs.Design.{first_some}
 use Rattle.lh_unit.proofs.Lists.{Same, same, other, same_or, nat_eq-refl, nat_eq-other, or_true}
+use Rattle.lh_unit.specs.declared.inst.UnitId.{UnitId}
+use Rattle.lh_unit.specs.declared.inst.Item.{Item}
+use Rattle.lh_unit.specs.declared.inst.Item.TheVariants as item
 use Rattle.lh_formed.specs.Graphs.{IsIn, is_open}
 
 pub not_open : (xs : List ℕ) (n : ℕ) → (IsIn xs n → ⊥) → is_open xs n ≡ false
@@ -15,6 +18,23 @@ pub is_open-in : (xs : List ℕ) (n : ℕ) → IsIn xs n → is_open xs n ≡ tr
 is_open-in [] n h = absurd h
 is_open-in (x ∷ xs) n (inl e) = ap (λ k. nat_eq k n || is_open xs n) e ∙ ap (λ b. b || is_open xs n) (nat_eq-refl n)
 is_open-in (x ∷ xs) n (inr h) = ap (λ b. nat_eq x n || b) (is_open-in xs n h) ∙ or_true (nat_eq x n)
+
+-- the units among items
+abbrev pub item_units : List Item → List ℕ
+item_units [] = []
+item_units (item.Unit u ∷ more) = u.0 ∷ item_units more
+item_units (item.Declare d ∷ more) = item_units more
+
+pub in-units : (items : List Item) (i : ℕ) (u : UnitId) → slice_get items i ≡ Some (item.Unit u) → IsIn (item_units items) u.0
+in-units [] i u e = cc
+in-units (item.Unit v ∷ more) zero u e = let q : v ≡ u = cc in inl (ap (λ (x : UnitId). x.0) q)
+in-units (item.Declare d ∷ more) zero u e = cc
+in-units (item.Unit v ∷ more) (suc i) u e = inr (in-units more i u e)
+in-units (item.Declare d ∷ more) (suc i) u e = in-units more i u e
+
+-- these are among the first n units
+abbrev pub Inside : ℕ → List UnitId → Type 0
+Inside n ts = Each (λ (t : UnitId). t.0 < n) ts
 
 -- none stands twice
 abbrev pub Distinct : List ℕ → Type 0

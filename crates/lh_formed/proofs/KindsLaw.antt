@@ -21,10 +21,6 @@ use Rattle.lh_formed.proofs.RowsLaw.{row_is}
 use Rattle.lh_formed.proofs.ResultsLaw.{gives}
 use Rattle.lh_unit.proofs.Within.{Each-more}
 
-abbrev IsSome : {A : Type 0} → Option A → Type 0
-IsSome None = ⊥
-IsSome (Some x) = Unit {0}
-
 -- what each line of a unit gives
 lines_give : (items : List ItemText) (u : UnitText) → has_paths items u ≡ true → NoneHasFault items (map (site_in u) (places u)) → (k : ℕ) (e : Bool) (b : BlockText) (before rest : List LineText)
     → NoneHasFault items (map (site_in u) (places_in k e b before rest)) → Each (λ (l : LineText). GivesTypeOfRow l.inst) rest

@@ -2,6 +2,7 @@
 use Rattle.std.proofs.Common.{◌≡◌, ℕ, ◌+◌, List, [], ◌∷◌, true, Option, Some, None, refl, ap, sym, ◌∙◌, subst, arith}
 use Rattle.std.specs.Option.{option_map, option_and_then}
 use Rattle.std.proofs.lemmas.Bool.{false≢true}
+use Rattle.std.proofs.lemmas.Option.{none-some}
 use Rattle.lh_types.specs.Types.{TypeTree, signal_type, bit_count}
 use Rattle.lh_types.specs.Faults.{is_data}
 use Rattle.lh_types.specs.Parts.{Part, part_beyond, step_part, part_of, part_range}
@@ -14,12 +15,8 @@ use Rattle.lh_formed.specs.Operands.{IsOf, OperationIs, RowIs}
 use Rattle.lh_formed.specs.Parts.{LeadsTo, PartIs, HasPart, PartsAreThere, PartsHaveRanges}
 use Rattle.lh_formed.proofs.RowsLaw.{rows_are}
 
-abbrev IsThere : Option TypeTree → Type 0
-IsThere None = ⊥
-IsThere (Some t) = Unit {0}
-
 mapped : (f : TypeTree → TypeTree) (o : Option Part) (of : TypeTree) → option_map (λ (p : Part). f p.of) o ≡ Some of → (p : Part) × (o ≡ Some p) × (of ≡ f p.of)
-mapped f None of h = absurd (subst IsThere (sym h) tt)
+mapped f None of h = absurd (none-some _ h)
 mapped f (Some p) of h = (p, refl, let e : Some of ≡ Some (f p.of) = sym h in cc)
 
 leads : (s : Step) (whole of : TypeTree) → part_type s whole ≡ Some of → LeadsTo s whole of

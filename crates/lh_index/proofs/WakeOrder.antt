@@ -10,7 +10,7 @@ use Rattle.std.specs.Ordering.{nat_cmp, ordering_then, ordering_reverse, is_eq, 
 use Rattle.std.specs.BTreeMap.{is_at}
 use Rattle.std.proofs.lemmas.Bool.{or_right}
 use Rattle.lh_time.specs.declared.Instant.{Instant}
-use Rattle.lh_time.specs.Order.{instant_cmp, instant_le}
+use Rattle.lh_time.specs.Order.{instant_cmp, instant_le, instant_eq}
 use Rattle.lh_history.proofs.Orders.{then_equal, nat_one}
 use Rattle.lh_history.proofs.Instants.{instant_one, le_self}
 use Rattle.lh_time.proofs.OrderLemmas.{instant_cmp_total, nat_is_less, nat_same}
@@ -135,7 +135,7 @@ equal_both Less Equal e h k = cc
 equal_both Less Greater e h k = cc
 
 -- neither is later, so they are one
-one_instant : (t u : Instant) → instant_le t u ≡ true → instant_le u t ≡ true → is_eq (instant_cmp u t) ≡ true
+one_instant : (t u : Instant) → instant_le t u ≡ true → instant_le u t ≡ true → instant_eq u t ≡ true
 one_instant t u h k = equal_both (instant_cmp u t) (instant_cmp t u) (instant_cmp_total.antisymm u t) k h
 
 -- of two wakes at one instant the one that comes first is of the lesser instance
@@ -146,16 +146,16 @@ lesser w x t h e f =
     let r : instant_cmp w.at x.at ≡ Equal = subst (λ z. instant_cmp w.at z ≡ Equal) (sym q) e in
     nat_is_less w.instance x.instance (then_less (instant_cmp w.at x.at) (nat_cmp w.instance x.instance) r h)
 
-above_if : (b : Bool) (w x : Wake) (t : Instant) (xs : List Wake) → is_eq (instant_cmp x.at t) ≡ b → wake_cmp w x ≡ Less → instant_cmp w.at t ≡ Equal → AreAbove w.instance (first_at t xs) →
+above_if : (b : Bool) (w x : Wake) (t : Instant) (xs : List Wake) → instant_eq x.at t ≡ b → wake_cmp w x ≡ Less → instant_cmp w.at t ≡ Equal → AreAbove w.instance (first_at t xs) →
     AreAbove w.instance (if b then x.instance ∷ first_at t xs else [])
 above_if false w x t xs f h e a = tt
 above_if true w x t xs f h e a = (lesser w x t h e (is_equal _ f), a)
 
 above_first : (w : Wake) (t : Instant) (xs : List Wake) → AllByRecursion (λ x. wake_cmp w x ≡ Less) xs → instant_cmp w.at t ≡ Equal → AreAbove w.instance (first_at t xs)
 above_first w t [] a e = tt
-above_first w t (x ∷ xs) a e = above_if (is_eq (instant_cmp x.at t)) w x t xs refl a.0 e (above_first w t xs a.1 e)
+above_first w t (x ∷ xs) a e = above_if (instant_eq x.at t) w x t xs refl a.0 e (above_first w t xs a.1 e)
 
-rising_if : (b : Bool) (x : Wake) (t : Instant) (xs : List Wake) → is_eq (instant_cmp x.at t) ≡ b → AllByRecursion (λ y. wake_cmp x y ≡ Less) xs → IsRising (first_at t xs) →
+rising_if : (b : Bool) (x : Wake) (t : Instant) (xs : List Wake) → instant_eq x.at t ≡ b → AllByRecursion (λ y. wake_cmp x y ≡ Less) xs → IsRising (first_at t xs) →
     IsRising (if b then x.instance ∷ first_at t xs else [])
 rising_if false x t xs f a r = tt
 rising_if true x t xs f a r = (above_first x t xs a (is_equal _ f), r)
@@ -163,9 +163,9 @@ rising_if true x t xs f a r = (above_first x t xs a (is_equal _ f), r)
 rising_first : (t : Instant) (xs : List Wake) → IsStrictlySortedBy wake_cmp xs → IsRising (first_at t xs)
 unfolding IsStrictlySortedBy
 rising_first t [] o = tt
-rising_first t (x ∷ xs) o = rising_if (is_eq (instant_cmp x.at t)) x t xs refl o.0 (rising_first t xs o.1)
+rising_first t (x ∷ xs) o = rising_if (instant_eq x.at t) x t xs refl o.0 (rising_first t xs o.1)
 
-in_if : (b : Bool) (k : ℕ) (x : Wake) (t : Instant) (xs : List Wake) → is_eq (instant_cmp x.at t) ≡ b → (IsOneOf k (first_at t xs) → IsNoted xs t k) →
+in_if : (b : Bool) (k : ℕ) (x : Wake) (t : Instant) (xs : List Wake) → instant_eq x.at t ≡ b → (IsOneOf k (first_at t xs) → IsNoted xs t k) →
     IsOneOf k (if b then x.instance ∷ first_at t xs else []) → IsNoted (x ∷ xs) t k
 in_if false k x t xs f g h = absurd h
 in_if true k x t xs f g (inl p) = inl (instant_one x.at t (is_equal _ f), p)
@@ -173,7 +173,7 @@ in_if true k x t xs f g (inr h) = inr (g h)
 
 in_first : (k : ℕ) (t : Instant) (xs : List Wake) → IsOneOf k (first_at t xs) → IsNoted xs t k
 in_first k t [] h = absurd h
-in_first k t (x ∷ xs) h = in_if (is_eq (instant_cmp x.at t)) k x t xs refl (in_first k t xs) h
+in_first k t (x ∷ xs) h = in_if (instant_eq x.at t) k x t xs refl (in_first k t xs) h
 
 noted_later : (x : Wake) (t : Instant) (k : ℕ) (xs : List Wake) → AllByRecursion (λ y. wake_cmp x y ≡ Less) xs → IsNoted xs t k → instant_le x.at t ≡ true
 noted_later x t k [] a h = absurd h
@@ -184,7 +184,7 @@ noted_later x t k (y ∷ ys) a (inr h) = noted_later x t k ys a.1 h
 abbrev pub NoneBefore : List Wake → Instant → Type 0
 NoneBefore xs t = (u : Instant) (k : ℕ) → IsNoted xs u k → instant_le t u ≡ true
 
-has_if : (b : Bool) (k : ℕ) (x : Wake) (t : Instant) (xs : List Wake) → is_eq (instant_cmp x.at t) ≡ b → instant_le t x.at ≡ true → AllByRecursion (λ y. wake_cmp x y ≡ Less) xs →
+has_if : (b : Bool) (k : ℕ) (x : Wake) (t : Instant) (xs : List Wake) → instant_eq x.at t ≡ b → instant_le t x.at ≡ true → AllByRecursion (λ y. wake_cmp x y ≡ Less) xs →
     (IsNoted xs t k → IsOneOf k (first_at t xs)) → IsNoted (x ∷ xs) t k → IsOneOf k (if b then x.instance ∷ first_at t xs else [])
 has_if true k x t xs f l a g (inl p) = inl p.1
 has_if true k x t xs f l a g (inr h) = inr (g h)
@@ -197,7 +197,7 @@ first_has : (k : ℕ) (t : Instant) (xs : List Wake) → IsStrictlySortedBy wake
 unfolding IsStrictlySortedBy
 first_has k t [] o n h = absurd h
 first_has k t (x ∷ xs) o n h =
-    has_if (is_eq (instant_cmp x.at t)) k x t xs refl (n x.at x.instance (inl (refl, refl))) o.0 (first_has k t xs o.1 (λ u j p. n u j (inr p))) h
+    has_if (instant_eq x.at t) k x t xs refl (n x.at x.instance (inl (refl, refl))) o.0 (first_has k t xs o.1 (λ u j p. n u j (inr p))) h
 
 -- what the first wakes give, of which none is before the instant
 pub due_are : (ks now : List Wake) (t : Instant) (due : List ℕ) → ks ≡ now → IsStrictlySortedBy wake_cmp ks → NoneBefore now t → due ≡ first_at t ks → AreDue now t due
@@ -218,7 +218,7 @@ if_false : (b : Bool) (xs ys : List ℕ) → b ≡ false → (if b then xs else 
 if_false true xs ys h = cc
 if_false false xs ys h = refl
 
-pub due_step : (t : Instant) (due new all : List ℕ) (it rest : List Wake) (w : Wake) → new ≡ due ++ w.instance ∷ [] → it ≡ w ∷ rest → is_eq (instant_cmp w.at t) ≡ true →
+pub due_step : (t : Instant) (due new all : List ℕ) (it rest : List Wake) (w : Wake) → new ≡ due ++ w.instance ∷ [] → it ≡ w ∷ rest → instant_eq w.at t ≡ true →
     due ++ first_at t it ≡ all → new ++ first_at t rest ≡ all
 due_step t due new all it rest w n i e h =
     ap (λ z. z ++ first_at t rest) n
@@ -226,7 +226,7 @@ due_step t due new all it rest w n i e h =
     ∙ ap (λ z. due ++ z) (sym (ap (first_at t) i ∙ if_true _ (w.instance ∷ first_at t rest) [] e))
     ∙ h
 
-pub due_stop : (t : Instant) (due all : List ℕ) (it rest : List Wake) (w : Wake) → it ≡ w ∷ rest → is_eq (instant_cmp w.at t) ≡ false → due ++ first_at t it ≡ all → due ≡ all
+pub due_stop : (t : Instant) (due all : List ℕ) (it rest : List Wake) (w : Wake) → it ≡ w ∷ rest → instant_eq w.at t ≡ false → due ++ first_at t it ≡ all → due ≡ all
 due_stop t due all it rest w i e h = sym (append-nil due) ∙ ap (λ z. due ++ z) (sym (ap (first_at t) i ∙ if_false _ (w.instance ∷ first_at t rest) [] e)) ∙ h
 
 pub due_end : (t : Instant) (due all : List ℕ) (it : List Wake) → it ≡ [] → due ++ first_at t it ≡ all → due ≡ all

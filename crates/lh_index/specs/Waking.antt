@@ -1,8 +1,7 @@
 -- When instances wake by themselves.
 use Rattle.std.specs.Prelude.{ℕ, List, [], ◌∷◌, true, if◌then◌else◌, Option, Some, None, ◌≡◌, ◌⊎◌, ◌↔◌}
 use Rattle.lh_time.specs.declared.Instant.{Instant}
-use Rattle.std.specs.Ordering.{is_eq}
-use Rattle.lh_time.specs.Order.{instant_cmp, instant_le}
+use Rattle.lh_time.specs.Order.{instant_le, instant_eq}
 use Rattle.lh_index.specs.Rising.{IsOneOf, IsRising}
 use Rattle.lh_index.specs.declared.wakes.Wake.{Wake}
 
@@ -27,7 +26,7 @@ IsSoonest wakes (Some t) = ((k : ℕ) × IsNoted wakes t k) × ((u : Instant) (k
 -- the instances of the first wakes that are at this instant
 abbrev pub first_at : Instant → List Wake → List ℕ
 first_at t [] = []
-first_at t (w ∷ more) = if is_eq (instant_cmp w.at t) then w.instance ∷ first_at t more else []
+first_at t (w ∷ more) = if instant_eq w.at t then w.instance ∷ first_at t more else []
 
 -- exactly the instances that wake by themselves at the instant, rising
 pub record AreDue (wakes : List Wake) (t : Instant) (due : List ℕ) : Type 0 where

@@ -1,7 +1,6 @@
 //! When instances wake by themselves.
 ghost use Rattle.std.specs.Prelude.{◌≡◌, ℕ, [], true, IfOk, OnErr};
-ghost use Rattle.std.specs.Ordering.{is_eq};
-ghost use Rattle.lh_time.specs.Order.{instant_cmp, instant_le};
+ghost use Rattle.lh_time.specs.Order.{instant_le, instant_eq};
 ghost use Rattle.lh_index.specs.Waking.{IsNoted, NotesOneMore, NotesOneLess, IsSoonest, AreDue};
 
 use lh_time::Instant;
@@ -20,7 +19,7 @@ pub struct Wake {
 impl Wake {
     /// Whether it is at this instant.
     fn is_at(&self, at: Instant) -> bool
-        ensures { result ≡ is_eq (instant_cmp self.now.at at) }
+        ensures { result ≡ instant_eq self.now.at at }
     {
         self.at == at
     }

@@ -15,12 +15,11 @@ use Rattle.lh_unit.specs.Within.{Each}
 use Rattle.lh_formed.specs.Shape.{EndsOnce}
 use Rattle.lh_flat.specs.Calls.{callees, recursion_from, nest_deeper}
 use Rattle.lh_flat.specs.Copies.{Copy, top_copy, call_path, copy_at, opened, first_piece, last_piece_of, copied}
-use Rattle.lh_flat.specs.Flat.{FlatText, flattened, flattened_by, flat_in, flat_unit, text_of, inst_count, max_nested, max_flat, with_line, pieces_from, flat_block, flat_copy}
+use Rattle.lh_flat.specs.Flat.{FlatText, flattened, flattened_by, flat_in, flat_unit, text_of, inst_count, max_nested, max_flat, with_line, pieces_from, flat_block, flat_copy, as_block}
 use Rattle.lh_flat.specs.Marks.{IsPlain}
 use Rattle.lh_inlined.specs.Tidy.{ArgsOnce, LineTidy, BlockTidy, UnitTidy, FunctionsTidy}
 use Rattle.lh_inlined.specs.Activates.{GoesOn, Proceeds, flat_stand, StandIsPlain, HoldsMore, StandsAlike, EndsAlike, ActivatesAlike, BeginsAlike}
 use Rattle.lh_flat.proofs.Marks.{Names, one, two, names}
-use Rattle.lh_inlined.proofs.Finding.{as_block}
 use Rattle.lh_inlined.proofs.Holding.{Holds}
 use Rattle.lh_inlined.proofs.LastPieces.{each-middle, ends-last}
 use Rattle.lh_inlined.proofs.Alike.{flat, InPlace, Runs, Alike, block-tidy}

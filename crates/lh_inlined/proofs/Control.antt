@@ -10,11 +10,11 @@ use Rattle.lh_unit.specs.Within.{Each}
 use Rattle.lh_formed.specs.Defined.{IsThere, IsGiven, IsThereOnEdge, OperandsThere}
 use Rattle.lh_formed.proofs.AtPlaces.{place-at}
 use Rattle.lh_flat.specs.Copies.{Copy, top_copy, last_piece}
-use Rattle.lh_flat.specs.Flat.{flat_copy, max_nested}
+use Rattle.lh_flat.specs.Flat.{flat_copy, max_nested, as_block}
 use Rattle.lh_inlined.proofs.Cuts.{Among, Cut, all-among}
 use Rattle.lh_inlined.proofs.CopyPieces.{CopyPiece, next_cut, CopyPieceOf, Nested, flat_copy_piece}
 use Rattle.lh_inlined.proofs.SoundCopies.{IsCode}
-use Rattle.lh_inlined.proofs.Paths.{as_block, IsGood, CallIsGood, There, Located, goes-on, located}
+use Rattle.lh_inlined.proofs.Paths.{IsGood, CallIsGood, There, Located, goes-on, located}
 use Rattle.lh_inlined.proofs.There.{operand-there}
 use Rattle.lh_inlined.proofs.Phis.{PhisAreGood, phi-there}
 use Rattle.lh_inlined.proofs.Facts.{label-found}

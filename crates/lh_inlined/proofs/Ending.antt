@@ -5,10 +5,10 @@ use Rattle.lh_unit.specs.Named.{label_or}
 use Rattle.lh_unit.specs.Places.{is_terminator}
 use Rattle.lh_formed.specs.Shape.{EndsOnce}
 use Rattle.lh_flat.specs.Copies.{Copy, copied, copied_line}
-use Rattle.lh_flat.specs.Flat.{MergeText, branch_into, with_merge, flat_copy}
+use Rattle.lh_flat.specs.Flat.{MergeText, branch_into, with_merge, flat_copy, as_block}
 use Rattle.lh_inlined.proofs.Cuts.{Among, Cut, ending, behind, lines-cut, piece-lines}
 use Rattle.lh_inlined.proofs.CopyPieces.{CopyPiece, next_cut, next_lines, after_copy_piece, CopyPieceOf, begins, goes_on, flat_copy_piece}
-use Rattle.lh_inlined.proofs.Paths.{as_block, copy_piece-block, nested-right}
+use Rattle.lh_inlined.proofs.Paths.{copy_piece-block, nested-right}
 
 -- a copied instruction is a terminator where the original is one
 pub terminator-copied : (fs : List UnitText) (c : Copy) (i : InstText) → is_terminator (copied fs c i) ≡ is_terminator i

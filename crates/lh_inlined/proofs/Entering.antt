@@ -11,11 +11,11 @@ use Rattle.lh_unit.specs.Named.{block_of, label_or}
 use Rattle.lh_unit.specs.Held.{Held, part_held, Env, with_result}
 use Rattle.lh_unit.specs.Activation.{Scene, Stand, Control, Caller, Point, Next, goes, ends, no_step, phis_taken, entered, gives, jumps, wishes, tells, ends_at, step}
 use Rattle.lh_flat.specs.Copies.{Copy, top_copy, call_path, opened, first_piece, last_from, last_piece, last_piece_of}
-use Rattle.lh_flat.specs.Flat.{pieces_from, flat_copy}
+use Rattle.lh_flat.specs.Flat.{pieces_from, flat_copy, as_block}
 use Rattle.lh_flat.specs.Marks.{IsPlain}
 use Rattle.lh_inlined.specs.Tidy.{ResultIsNew, FunctionsTidy}
 use Rattle.lh_inlined.specs.Activates.{flat_stand, StandIsPlain, EndsAlike}
-use Rattle.lh_inlined.proofs.Finding.{as_block, found-block, first_of, first-found}
+use Rattle.lh_inlined.proofs.Finding.{found-block, first_of, first-found}
 use Rattle.lh_inlined.proofs.Holding.{Keeps, Holds}
 use Rattle.lh_inlined.proofs.LastPieces.{last-append}
 use Rattle.lh_inlined.proofs.Alike.{functions-labelled, tidy-labelled, GivesInBoth, gives-result, flat, all, InPlace, Runs, Callers, Alike, block-tidy, label-plain, callers-below, phis-copied}

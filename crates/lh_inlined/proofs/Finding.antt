@@ -16,7 +16,7 @@ use Rattle.lh_unit.proofs.Lists.{Each-append}
 use Rattle.lh_names.proofs.NameLists.{same_name-is}
 use Rattle.lh_unit.proofs.Within.{Each-more}
 use Rattle.lh_flat.specs.Copies.{Copy, call_path, copy_at, opened, first_piece}
-use Rattle.lh_flat.specs.Flat.{FlatBlockText, Pieces, with_merge, merge_of, with_line, pieces_from, flat_block, flat_copy}
+use Rattle.lh_flat.specs.Flat.{FlatBlockText, Pieces, merge_of, with_line, pieces_from, flat_block, flat_copy, as_block}
 use Rattle.lh_flat.specs.Marks.{IsPlain}
 use Rattle.lh_flat.proofs.Marks.{not_same, is_same, Behind, nothing_behind, mark_behind, path-apart, longer-apart, not_empty}
 
@@ -24,10 +24,6 @@ use Rattle.lh_flat.proofs.Marks.{not_same, is_same, Behind, nothing_behind, mark
 abbrev pub found : List ℕ → List FlatBlockText → Option FlatBlockText
 found n [] = None
 found n (b ∷ more) = if same_name b.label n then Some b else found n more
-
--- a block of a flat text as one of a process
-abbrev pub as_block : FlatBlockText → BlockText
-as_block b = record { label = Some b.label; lines = with_merge b.merge b.lines }
 
 pub found-block : (n : List ℕ) (bs : List FlatBlockText) → block_of n (map as_block bs) ≡ option_map as_block (found n bs)
 found-block n [] = refl

@@ -33,7 +33,7 @@ use Rattle.lh_sound.proofs.NamedOnce.{lines-typed, args-typed}
 use Rattle.lh_sound.proofs.Spelled.{header-ports}
 use Rattle.lh_flat.specs.Calls.{callees, nest_deeper}
 use Rattle.lh_flat.specs.Copies.{Copy, top_copy, call_path, copy_at, opened, last_piece, copied, copied_line}
-use Rattle.lh_flat.specs.Flat.{MergeText, FlatBlockText, merge_of, branch_into, with_merge, flat_block, flat_copy, max_nested}
+use Rattle.lh_flat.specs.Flat.{MergeText, FlatBlockText, merge_of, branch_into, with_merge, flat_block, flat_copy, max_nested, as_block}
 use Rattle.lh_flat.proofs.Apart.{Apart}
 use Rattle.lh_flat.proofs.Placing.{labels}
 use Rattle.lh_inlined.specs.Formed.{IsFormed, PhiFormed, IsWithoutCalls, IsOne}
@@ -41,7 +41,7 @@ use Rattle.lh_inlined.specs.Tidy.{BlockTidy, UnitTidy, FunctionsTidy}
 use Rattle.lh_inlined.proofs.Cuts.{Among, among-right, Cut, behind, lines-cut, piece-lines, among-map, all-among}
 use Rattle.lh_inlined.proofs.CopyPieces.{CopyPiece, next_cut, next_lines, first_copy_piece, CopyPieceOf, begins, goes_on, Nested, outermost, called, flat_copy_piece, copy_piece-stands}
 use Rattle.lh_inlined.proofs.SoundCopies.{IsCode}
-use Rattle.lh_inlined.proofs.Paths.{as_block, IsGood, CallIsGood, copy_piece-block, nested-right}
+use Rattle.lh_inlined.proofs.Paths.{IsGood, CallIsGood, copy_piece-block, nested-right}
 use Rattle.lh_inlined.proofs.Phis.{phi-of, PhisAreGood, no-branch, nothing-is, merge-edges}
 use Rattle.lh_inlined.proofs.Splits.{LineOf, is_merge, is_copied, is_branch, line-of}
 use Rattle.lh_inlined.proofs.Facts.{PlaceFacts, UnitFacts, each-among, fact-at, label-found, among-in}

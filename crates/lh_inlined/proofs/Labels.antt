@@ -5,7 +5,7 @@ use Rattle.lh_unit.specs.Named.{block_of, label_or}
 use Rattle.lh_names.proofs.NameLists.{same_name-refl}
 use Rattle.lh_spelled.specs.Printable.{labels_repeat}
 use Rattle.lh_flat.specs.Copies.{Copy, last_piece}
-use Rattle.lh_flat.specs.Flat.{FlatBlockText}
+use Rattle.lh_flat.specs.Flat.{FlatBlockText, as_block}
 use Rattle.lh_flat.specs.Marks.{IsPlain}
 use Rattle.lh_flat.proofs.Marks.{path-apart, not_same}
 use Rattle.lh_flat.proofs.Apart.{Differs, Apart}
@@ -13,7 +13,6 @@ use Rattle.lh_flat.proofs.Placing.{labels}
 use Rattle.lh_inlined.proofs.Cuts.{Among, among-parts}
 use Rattle.lh_inlined.proofs.Finding.{Piece}
 use Rattle.lh_inlined.proofs.LastPieces.{last_piece-is}
-use Rattle.lh_inlined.proofs.Paths.{as_block}
 
 other-label : (x : List ℕ) (bs : List FlatBlockText) (y : FlatBlockText) → Differs x (labels bs) → Among bs y → x ≡ y.label → ⊥
 other-label x [] y d a e = elim a [ ]

@@ -11,13 +11,12 @@ use Rattle.lh_unit.specs.Within.{Each}
 use Rattle.lh_unit.specs.WellFormed.{labels_named, assert_args}
 use Rattle.lh_formed.specs.Calls.{ArgumentsAre, AssertIsRight}
 use Rattle.lh_flat.specs.Copies.{Copy, call_path, first_piece, last_piece, opened, copied_operand, copied_edge, copied}
-use Rattle.lh_flat.specs.Flat.{first_label, branch_into, given_by}
+use Rattle.lh_flat.specs.Flat.{first_label, branch_into, given_by, as_block}
 use Rattle.lh_inlined.specs.Formed.{IsWithoutCalls}
 use Rattle.lh_inlined.proofs.Cuts.{Among, Cut, behind, lines-cut, calm, calm_by}
 use Rattle.lh_inlined.proofs.CopyPieces.{CopyPiece, next_cut, next_lines, first_copy_piece, after_copy_piece, CopyPieceOf, begins, goes_on, Nested, outermost, called, flat_copy_piece}
 use Rattle.lh_inlined.proofs.SoundCopies.{IsCode}
 use Rattle.lh_inlined.proofs.Phis.{own-last, given-by}
-use Rattle.lh_inlined.proofs.Paths.{as_block}
 
 -- the last piece of a block
 pub record LastCopyPiece (fs : List UnitText) (c : Copy) (b : BlockText) : Type 0 where

@@ -12,7 +12,7 @@ use Rattle.lh_names.proofs.NameLists.{same_name-is, same_name-refl}
 use Rattle.lh_formed.specs.Defined.{IsThere}
 use Rattle.lh_formed.proofs.There.{last-leads}
 use Rattle.lh_flat.specs.Copies.{Copy, top_copy, first_piece, copied, copied_line}
-use Rattle.lh_flat.specs.Flat.{FlatBlockText, merge_of, first_label, branch_into, flat_block, flat_copy, max_nested, with_merge}
+use Rattle.lh_flat.specs.Flat.{merge_of, first_label, branch_into, flat_block, flat_copy, max_nested, with_merge, as_block}
 use Rattle.lh_inlined.proofs.Cuts.{Among, Cut, ending, behind, lines-cut, piece-lines}
 use Rattle.lh_inlined.proofs.CopyPieces.{CopyPiece, next_cut, next_lines, first_copy_piece, after_copy_piece, CopyPieceOf, begins, goes_on, Nested, outermost, called, flat_copy_piece}
 use Rattle.lh_inlined.proofs.Lines.{define-parts, define-copied, merge-defines, lines-define, merge-leads, merge-ends, LastOf, no_last, last_is, last-of, Leads, within, back, leads-copied}
@@ -33,10 +33,6 @@ among-named : (ns : List (List ℕ)) (n m : List ℕ) → Among ns n → n ≡ m
 among-named [] n m a e = elim a [ ]
 among-named (x ∷ ns) n m (inl q) e = or_left (same_name x m) (list_any (λ y. same_name y m) ns) (ap (λ y. same_name y m) (q ∙ e) ∙ same_name-refl m)
 among-named (x ∷ ns) n m (inr a) e = or_right (same_name x m) (list_any (λ y. same_name y m) ns) (among-named ns n m a e)
-
--- a block of a flat text as one of a process
-abbrev pub as_block : FlatBlockText → BlockText
-as_block b = record { label = Some b.label; lines = with_merge b.merge b.lines }
 
 module _ (fs : List UnitText) where
   -- what is asked of a unit that is copied

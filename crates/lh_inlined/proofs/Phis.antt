@@ -11,11 +11,11 @@ use Rattle.lh_unit.specs.WellFormed.{values_named, is_phi}
 use Rattle.lh_unit.proofs.ById.{lines_define-append}
 use Rattle.lh_formed.specs.Defined.{IsThere, IsThereOnEdge}
 use Rattle.lh_flat.specs.Copies.{Copy, top_copy, first_piece, last_from, last_piece, copied_edge, copied}
-use Rattle.lh_flat.specs.Flat.{MergeText, edge_if_given, given_in, given_by, merge_of, first_label, branch_into, flat_copy, max_nested, with_merge}
+use Rattle.lh_flat.specs.Flat.{MergeText, edge_if_given, given_in, given_by, merge_of, first_label, branch_into, flat_copy, max_nested, with_merge, as_block}
 use Rattle.lh_inlined.proofs.Cuts.{Among, among-left, among-right, Cut, cut, behind, lines-cut, last_by, last-cut, among-parts, among-map}
 use Rattle.lh_inlined.proofs.CopyPieces.{CopyPiece, next_cut, next_lines, after_copy_piece, CopyPieceOf, begins, goes_on, Nested, flat_copy_piece}
 use Rattle.lh_inlined.proofs.Splits.{LineOf, is_merge, is_copied, is_branch, line-of}
-use Rattle.lh_inlined.proofs.Paths.{as_block, IsGood, CallIsGood, There, Located, Step, jumps, returns, enters, copy_piece-block, copy_piece-lines, whole-block, value-there, nested-right}
+use Rattle.lh_inlined.proofs.Paths.{IsGood, CallIsGood, There, Located, Step, jumps, returns, enters, copy_piece-block, copy_piece-lines, whole-block, value-there, nested-right}
 
 -- the label of the piece in which a block ends, by any piece of it
 pub copy_piece-last : (fs : List UnitText) (c : Copy) (s : CopyPiece) → CopyPieceOf fs c s → last_from fs c (label_or s.block.label) s.label s.number s.rest ≡ last_piece fs c s.block

@@ -11,12 +11,12 @@ use Rattle.lh_unit.specs.Places.{has_edge}
 use Rattle.lh_unit.specs.WellFormed.{is_phi, edges_naming}
 use Rattle.lh_names.proofs.NameLists.{same_name-is}
 use Rattle.lh_flat.specs.Copies.{Copy, top_copy, first_piece, last_piece, last_piece_of, copied_edge, copied}
-use Rattle.lh_flat.specs.Flat.{MergeText, given_in, given_by, edge_if_given, first_label, merge_of, flat_copy, with_merge}
+use Rattle.lh_flat.specs.Flat.{MergeText, given_in, given_by, edge_if_given, first_label, merge_of, flat_copy, with_merge, as_block}
 use Rattle.lh_inlined.proofs.Cuts.{Among, among-left, among-right, among-flat, Cut, cut, behind, lines-cut}
 use Rattle.lh_inlined.proofs.CopyPieces.{CopyPiece, next_cut, next_lines, first_copy_piece, after_copy_piece, CopyPieceOf, begins, goes_on, Nested, outermost, called, flat_copy_piece}
 use Rattle.lh_inlined.proofs.Splits.{LineOf, is_merge, is_copied, is_branch, line-of}
 use Rattle.lh_inlined.proofs.Typing.{among-image}
-use Rattle.lh_inlined.proofs.Paths.{as_block, IsGood, CallIsGood, Step, jumps, returns, enters, copy_piece-block, copy_piece-lines, nested-right, LeadsOn, into, within_unit, back_from, leads-on}
+use Rattle.lh_inlined.proofs.Paths.{IsGood, CallIsGood, Step, jumps, returns, enters, copy_piece-block, copy_piece-lines, nested-right, LeadsOn, into, within_unit, back_from, leads-on}
 use Rattle.lh_inlined.proofs.Phis.{own-last, phi-of, PhisAreGood, no-branch, nothing-is, merge-edges}
 
 -- an edge of these names the block

@@ -1,5 +1,5 @@
 -- Each result of a line has a type: in a unit of a well-formed module by its row and its spelling, and so in copies of it.
-use Rattle.std.proofs.Common.{◌≡◌, ◌≤◌, ℕ, zero, suc, ◌+◌, List, [], ◌∷◌, ◌++◌, length, map, true, false, Option, Some, None, IsSome, option_map, refl, ap, sym, ◌∙◌, subst, arith, le-ltb}
+use Rattle.std.proofs.Common.{◌≡◌, ◌≤◌, ℕ, zero, suc, ◌+◌, List, [], ◌∷◌, ◌++◌, length, map, false, Option, Some, None, IsSome, option_map, refl, ap, sym, ◌∙◌, subst, arith, le-ltb}
 use Rattle.std.specs.List.{flat_map}
 use Rattle.std.proofs.lemmas.Option.{same_Some, none-some}
 use Rattle.std.proofs.lemmas.Bool.{false≢true}
@@ -26,9 +26,8 @@ use Rattle.lh_formed.proofs.ResultsLaw.{gives}
 use Rattle.lh_spelled.specs.ItemLines.{item_line}
 use Rattle.lh_spelled.specs.Printable.{HasInstLine}
 use Rattle.lh_flat.specs.Copies.{Copy, call_path, opened, copied, copied_line}
-use Rattle.lh_flat.specs.Flat.{MergeText, FlatBlockText, Pieces, merge_of, with_line, pieces_from, with_merge, flat_block, flat_copy}
+use Rattle.lh_flat.specs.Flat.{MergeText, FlatBlockText, Pieces, merge_of, with_line, pieces_from, with_merge, flat_block, flat_copy, as_block}
 use Rattle.lh_inlined.proofs.SoundCopies.{IsCode, result-copied}
-use Rattle.lh_inlined.proofs.Paths.{as_block}
 use Rattle.lh_inlined.proofs.Finding.{opens-is, Opens}
 use Rattle.lh_sound.proofs.Finding.{is-some}
 

@@ -13,12 +13,11 @@ use Rattle.lh_unit.proofs.Lists.{Each-append, Each-left, Each-right}
 use Rattle.lh_unit.proofs.Within.{Each-more}
 use Rattle.lh_spelled.specs.Printable.{result_repeats, results_repeat}
 use Rattle.lh_flat.specs.Copies.{Copy, top_copy, call_path, opened}
-use Rattle.lh_flat.specs.Flat.{FlatBlockText, Pieces, merge_of, with_line, pieces_from, with_merge, flat_block, flat_copy, flat_unit, max_nested, text_of}
+use Rattle.lh_flat.specs.Flat.{FlatBlockText, Pieces, merge_of, with_line, pieces_from, with_merge, flat_block, flat_copy, flat_unit, max_nested, text_of, as_block}
 use Rattle.lh_flat.specs.Marks.{IsPlain}
 use Rattle.lh_flat.proofs.Marks.{is_same, not_same}
 use Rattle.lh_flat.proofs.Apart.{Differs, Apart, differs-from, apart-append, Begins, UnderFrom, from-at, from-first, from-later, at-apart, begins-under, line-apart, plain-under, begins-more}
 use Rattle.lh_inlined.proofs.Cuts.{Among, among-left, among-right}
-use Rattle.lh_inlined.proofs.Paths.{as_block}
 use Rattle.lh_inlined.proofs.Facts.{each-among}
 use Rattle.lh_inlined.proofs.Holding.{other-name}
 use Rattle.lh_inlined.proofs.Finding.{opens-is, Opens}

@@ -14,10 +14,10 @@ use Rattle.lh_unit.specs.Activation.{Scene, Control, Caller, Point, goes, edge_f
 use Rattle.lh_unit.specs.Within.{Each}
 use Rattle.lh_formed.specs.Shape.{EndsOnce}
 use Rattle.lh_flat.specs.Copies.{Copy, call_path, opened, first_piece, last_from, last_piece, copied, copied_line}
-use Rattle.lh_flat.specs.Flat.{merge_of, given_by, with_merge, with_line, pieces_from, flat_copy}
+use Rattle.lh_flat.specs.Flat.{merge_of, given_by, with_merge, with_line, pieces_from, flat_copy, as_block}
 use Rattle.lh_flat.specs.Marks.{marks}
 use Rattle.lh_inlined.specs.Tidy.{ResultIsNew, CallGives, AlwaysGives, LineTidy, BlockTidy, FunctionsTidy, NoPhis, PhisFirst}
-use Rattle.lh_inlined.proofs.Finding.{as_block, found-block, Opens, opens-is, next_of, next-found}
+use Rattle.lh_inlined.proofs.Finding.{found-block, Opens, opens-is, next_of, next-found}
 use Rattle.lh_inlined.proofs.Holding.{Holds, Below-same, keeps-datum}
 use Rattle.lh_inlined.proofs.LastPieces.{each-middle, block-each, ends-last, no_phi-behind, edge-given}
 use Rattle.lh_inlined.proofs.Alike.{tidy-labelled, functions-labelled, GivesInBoth, gives-result, flat, all, Runs, CallAt, Callers, Alike, block-tidy, label-plain, callers-below, no_phis-taken, no_phis-copied}

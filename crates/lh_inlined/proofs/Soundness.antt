@@ -7,17 +7,16 @@ use Rattle.lh_unit.specs.Contents.{EdgeText, phi_text, LineText, BlockText, Unit
 use Rattle.lh_unit.specs.Named.{label_or}
 use Rattle.lh_unit.specs.Hierarchy.{lines_of}
 use Rattle.lh_unit.specs.Typing.{value_type, result_type, is_value_type}
-use Rattle.lh_unit.specs.Within.{Each}
 use Rattle.lh_formed.specs.Operands.{IsOf, RowIs}
 use Rattle.lh_formed.specs.Parts.{HasPart}
 use Rattle.lh_eval.specs.Sound.{IsWrittenRight, InstIsSound}
 use Rattle.lh_flat.specs.Copies.{Copy, top_copy, copied_line}
-use Rattle.lh_flat.specs.Flat.{MergeText, FlatBlockText, merge_of, branch_into, with_merge, flat_copy, flat_block, max_nested}
+use Rattle.lh_flat.specs.Flat.{MergeText, FlatBlockText, merge_of, branch_into, with_merge, flat_copy, flat_block, max_nested, as_block}
 use Rattle.lh_inlined.proofs.Cuts.{Among, Cut, behind, lines-cut, piece-lines, piece-more, blocks-behind, among-parts, all-among}
 use Rattle.lh_inlined.proofs.CopyPieces.{CopyPiece, next_cut, next_lines, first_copy_piece, after_copy_piece, CopyPieceOf, begins, goes_on, Nested, outermost, called, flat_copy_piece, flat_behind, behind-cut}
 use Rattle.lh_inlined.proofs.SoundCopies.{IsCode, row-copied, part-copied, written-copied}
 use Rattle.lh_inlined.proofs.Splits.{LineOf, is_merge, is_copied, is_branch, line-of}
-use Rattle.lh_inlined.proofs.Paths.{as_block, copy_piece-block, nested-right}
+use Rattle.lh_inlined.proofs.Paths.{copy_piece-block, nested-right}
 
 -- ---- each block of a flat text is a piece
 

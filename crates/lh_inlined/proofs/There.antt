@@ -5,14 +5,14 @@ use Rattle.lh_unit.specs.Named.{block_of, label_or}
 use Rattle.lh_unit.specs.WellFormed.{values_named, is_phi}
 use Rattle.lh_formed.specs.Defined.{IsThere, IsGiven}
 use Rattle.lh_flat.specs.Copies.{Copy, top_copy, copied, copied_line}
-use Rattle.lh_flat.specs.Flat.{flat_copy, max_nested, with_merge}
+use Rattle.lh_flat.specs.Flat.{flat_copy, max_nested, with_merge, as_block}
 use Rattle.lh_inlined.proofs.Cuts.{Among, Cut, behind, lines-cut}
 use Rattle.lh_inlined.proofs.CopyPieces.{CopyPiece, next_cut, next_lines, CopyPieceOf, Nested, flat_copy_piece}
 use Rattle.lh_inlined.proofs.SoundCopies.{IsCode}
 use Rattle.lh_inlined.proofs.Lines.{define-parts, define-copied, merge-defines, lines-define}
 use Rattle.lh_inlined.proofs.Named.{IsNew, named-copied}
 use Rattle.lh_inlined.proofs.Splits.{LineOf, is_merge, is_copied, is_branch, line-of}
-use Rattle.lh_inlined.proofs.Paths.{as_block, IsGood, CallIsGood, There, Located, lines-are, copy_piece-block, nested-right, located}
+use Rattle.lh_inlined.proofs.Paths.{IsGood, CallIsGood, There, Located, lines-are, copy_piece-block, nested-right, located}
 
 -- a copied instruction is a `phi` where the original is one
 pub phi-copied : (fs : List UnitText) (c : Copy) (i : InstText) → is_phi (copied fs c i) ≡ false → is_phi i ≡ false

@@ -10,11 +10,11 @@ use Rattle.lh_unit.specs.Named.{label_or}
 use Rattle.lh_unit.specs.Typing.{result_type, operation_type, line_giving, inst_giving, or_else, arg_named, value_type}
 use Rattle.lh_unit.specs.Within.{Each}
 use Rattle.lh_flat.specs.Copies.{Copy, top_copy, call_path, opened, copied_operand, copied}
-use Rattle.lh_flat.specs.Flat.{FlatBlockText, Pieces, given_by, with_merge, merge_of, with_line, pieces_from, flat_block, flat_copy, flat_unit}
+use Rattle.lh_flat.specs.Flat.{FlatBlockText, Pieces, given_by, with_merge, merge_of, with_line, pieces_from, flat_block, flat_copy, flat_unit, as_block}
 use Rattle.lh_flat.specs.Marks.{marks, IsPlain}
 use Rattle.lh_inlined.specs.Tidy.{ResultIsNew, LineTidy, BlockTidy, UnitTidy, FunctionsTidy}
 use Rattle.lh_flat.proofs.Marks.{not_same, marks-append, marks-mark}
-use Rattle.lh_inlined.proofs.Finding.{as_block, Opens, opens-is, opens-path}
+use Rattle.lh_inlined.proofs.Finding.{Opens, opens-is, opens-path}
 use Rattle.lh_inlined.proofs.Holding.{other-name}
 
 -- the path of a call has one more mark

@@ -9,13 +9,12 @@ use Rattle.lh_unit.specs.Hierarchy.{lines_of}
 use Rattle.lh_unit.specs.Typing.{value_type, result_type, or_else, arg_named, inst_giving, line_giving}
 use Rattle.lh_names.proofs.NameLists.{same_name-is}
 use Rattle.lh_flat.specs.Copies.{Copy, top_copy, argument_or, copied_line}
-use Rattle.lh_flat.specs.Flat.{MergeText, merge_of, with_merge, flat_copy, max_nested}
+use Rattle.lh_flat.specs.Flat.{MergeText, merge_of, with_merge, flat_copy, max_nested, as_block}
 use Rattle.lh_formed.specs.Calls.{ArgumentsAre}
 use Rattle.lh_inlined.proofs.Cuts.{Among, among-left, among-right, Cut, behind, lines-cut, piece-lines}
 use Rattle.lh_inlined.proofs.CopyPieces.{CopyPiece, next_cut, next_lines, first_copy_piece, after_copy_piece, CopyPieceOf, begins, goes_on, Nested, outermost, called, flat_copy_piece, copy_piece-stands}
 use Rattle.lh_inlined.proofs.SoundCopies.{IsCode, result-copied}
 use Rattle.lh_inlined.proofs.Splits.{InParts, in_first, in_second, in-parts, merge_line}
-use Rattle.lh_inlined.proofs.Paths.{as_block}
 
 -- ---- where the lines of a block stand in a copy
 

@@ -1,10 +1,11 @@
 -- What runs a flat text runs its process: each activation of the flat text is one of the process.
-use Rattle.std.specs.Prelude.{◌≡◌, ℕ, zero, suc, ◌≤◌, List, length, map, Some}
+use Rattle.std.specs.Prelude.{◌≡◌, ℕ, zero, suc, ◌≤◌, List, length, Some}
 use Rattle.lh_types.specs.declared.part.Range.{Range}
 use Rattle.lh_names.specs.declared.name.UnitName.{UnitName}
 use Rattle.lh_unit.specs.Contents.{UnitText}
-use Rattle.lh_unit.specs.Held.{Held, Env, part_held, nothing_held, with_args}
+use Rattle.lh_unit.specs.Held.{Held, Env}
 use Rattle.lh_unit.specs.Activation.{Scene, Stand, is_new, waits, halted, ProcessState, Control, Point, Activated, goes, no_step, step, max_calls, start_point, control_at, activate}
+use Rattle.lh_unit.specs.World.{begun}
 use Rattle.lh_flat.specs.Copies.{top_copy, last_piece_of}
 use Rattle.lh_flat.specs.Flat.{FlatText, flattened, flat_in, flat_unit}
 use Rattle.lh_flat.specs.Marks.{IsPlain}
@@ -35,10 +36,6 @@ StandIsPlain _ = Unit {0}
 -- What the process holds, the flat text holds under the same name. It may hold more, under the names of copies.
 abbrev pub HoldsMore : (process flat : Env) → Type 0
 HoldsMore e f = (n : List ℕ) (h : Held) → e n ≡ Some h → IsPlain n × (f n ≡ Some h)
-
--- a process or a flat text as it begins, where its arguments have these bits
-abbrev pub begun : UnitText → List Range → ProcessState
-begun u parts = record { stand = is_new; held = with_args nothing_held u.args (map part_held parts) }
 
 -- a process and its flat text between two activations
 pub record StandsAlike (functions : List UnitText) (u : UnitText) (process flat : ProcessState) : Type 0 where

@@ -13,10 +13,10 @@ use Rattle.lh_term.proofs.Swaps.{tree_grown, in_grown, stands_grown, grows_on}
 use Rattle.lh_rows.specs.Joins.{RegionEdge, in_each, selector}
 use Rattle.lh_rows.specs.Typed.{IsCondition, IsOfType}
 use Rattle.lh_term.proofs.Conditions.{AllBits, filter-bits}
-use Rattle.lh_rows.proofs.Merging.{made-choice, bits-of}
+use Rattle.lh_rows.proofs.Merging.{made-choice, bits-of, EachCondition}
 use Rattle.lh_joins.specs.declared.edge.Edge.{Edge}
 use Rattle.lh_joins.specs.declared.joins.Shared.{Shared}
-use Rattle.lh_joins.specs.Joins.{IsConditionAt, AreConditions, edge_on, edges_on, IsShared, after_first, AreMade, AreOthers, chosen_by, CanChoose, CanMerge}
+use Rattle.lh_joins.specs.Joins.{IsConditionAt, AreConditions, edge_on, edges_on, IsShared, after_first, AreTerms, AreOthers, chosen_by, CanChoose, CanMerge}
 use Rattle.lh_joins.proofs.Conditions.{condition-grown, grows-none}
 
 pub conditions-at : (ns : List Node) (es : List Edge) (i : ℕ) (d : Edge) → AreConditions ns es → i < length es → IsConditionAt ns (get_or es i d).cond
@@ -132,17 +132,17 @@ MergeSoFar-end old now first merged ss vs all_ss all_vs p h = record
 
 -- ---- selectors
 
-pub made-grown : (old new : List Node) (ts : List TermId) (xs : List Tree) → Grows old new → AreMade old ts xs → AreMade new ts xs
-made-grown old new [] [] g h = tt
-made-grown old new [] (x ∷ xs) g h = h
-made-grown old new (t ∷ ts) [] g h = h
-made-grown old new (t ∷ ts) (x ∷ xs) g h = (stands_grown old new g t x h.0, made-grown old new ts xs g h.1)
+pub terms-grown : (old new : List Node) (ts : List TermId) (xs : List Tree) → Grows old new → AreTerms old ts xs → AreTerms new ts xs
+terms-grown old new [] [] g h = tt
+terms-grown old new [] (x ∷ xs) g h = h
+terms-grown old new (t ∷ ts) [] g h = h
+terms-grown old new (t ∷ ts) (x ∷ xs) g h = (stands_grown old new g t x h.0, terms-grown old new ts xs g h.1)
 
-pub made-push : (ns : List Node) (ts : List TermId) (xs : List Tree) (t : TermId) (x : Tree) → AreMade ns ts xs → StandsForTree ns t x → AreMade ns (ts ++ t ∷ []) (xs ++ x ∷ [])
-made-push ns [] [] t x h s = (s, tt)
-made-push ns [] (y ∷ xs) t x h s = absurd h
-made-push ns (u ∷ ts) [] t x h s = absurd h
-made-push ns (u ∷ ts) (y ∷ xs) t x h s = (h.0, made-push ns ts xs t x h.1 s)
+pub terms-push : (ns : List Node) (ts : List TermId) (xs : List Tree) (t : TermId) (x : Tree) → AreTerms ns ts xs → StandsForTree ns t x → AreTerms ns (ts ++ t ∷ []) (xs ++ x ∷ [])
+terms-push ns [] [] t x h s = (s, tt)
+terms-push ns [] (y ∷ xs) t x h s = absurd h
+terms-push ns (u ∷ ts) [] t x h s = absurd h
+terms-push ns (u ∷ ts) (y ∷ xs) t x h s = (h.0, terms-push ns ts xs t x h.1 s)
 
 pub trees-grown : (old new : List Node) (ts : List TermId) → Grows old new → AreIn old ts → trees_at new ts ≡ trees_at old ts
 trees-grown old new [] g i = refl
@@ -156,14 +156,11 @@ trees-grown old new (t ∷ ts) g i =
     both-of true b e = (refl, e)
     both-of false b e = cc
 
-abbrev pub EachCond : List RegionEdge → Type 0
-EachCond es = Each (λ (e : RegionEdge). IsCondition e.cond) es
-
-each-cond : (ns : List Node) (es : List Edge) → AreConditions ns es → EachCond (edges_on ns es)
+each-cond : (ns : List Node) (es : List Edge) → AreConditions ns es → EachCondition (edges_on ns es)
 each-cond ns [] h = tt
 each-cond ns (e ∷ es) h = (h.0.cond, each-cond ns es h.1)
 
-later-cond : (es : List RegionEdge) → EachCond es → EachCond (after_first es)
+later-cond : (es : List RegionEdge) → EachCondition es → EachCondition (after_first es)
 later-cond [] h = tt
 later-cond (e ∷ es) h = h.1
 
@@ -172,9 +169,9 @@ pub record SelectorsSoFar (old now : List Node) (all : List RegionEdge) (ids : L
   pub done : List RegionEdge
   pub left : List RegionEdge
   pub parts : after_first all ≡ done ++ left
-  pub made : AreMade now ids (map (selector all) done)
+  pub made : AreTerms now ids (map (selector all) done)
   pub others : AreOthers old all left rest
-  pub conds : EachCond left
+  pub conds : EachCondition left
 
 pub SelectorsSoFar-none : (ns : List Node) (es : List Edge) (rest : List (List TermId)) → AreConditions ns es → AreOthers ns (edges_on ns es) (after_first (edges_on ns es)) rest
     → SelectorsSoFar ns ns (edges_on ns es) [] rest
@@ -211,10 +208,10 @@ record NextOthers (old : List Node) (all left : List RegionEdge) (conds : List T
   trees : trees_at old conds ≡ filter (λ (c : Tree). not (in_each all c)) (conjuncts_of edge.cond)
   others : AreOthers old all edges more
   cond : IsCondition edge.cond
-  each_cond : EachCond edges
+  each_cond : EachCondition edges
 
 next-others : (old : List Node) (all left : List RegionEdge) (rest : List (List TermId)) (conds : List TermId) (more : List (List TermId)) → rest ≡ conds ∷ more → AreOthers old all left rest
-    → EachCond left → NextOthers old all left conds more
+    → EachCondition left → NextOthers old all left conds more
 next-others old all [] rest conds more e o c = absurd (subst (AreOthers old all []) e o)
 next-others old all (x ∷ xs) rest conds more e o c =
     let p = subst (AreOthers old all (x ∷ xs)) e o in
@@ -247,16 +244,16 @@ SelectorsSoFar-next old now new all ids longer rest conds more t e q g m s =
       left = n.edges;
       parts = s.parts ∙ ap (λ (x : List RegionEdge). s.done ++ x) n.parts ∙ append-one s.done n.edge n.edges;
       made =
-          subst (λ (x : List Tree). AreMade new longer x) (sym (map-one (selector all) s.done n.edge))
-          (subst (λ (x : List TermId). AreMade new x (map (selector all) s.done ++ selector all n.edge ∷ [])) (sym q)
-          (made-push new ids (map (selector all) s.done) t (selector all n.edge) (made-grown now new ids (map (selector all) s.done) g s.made) (subst (StandsForTree new t) same m)));
+          subst (λ (x : List Tree). AreTerms new longer x) (sym (map-one (selector all) s.done n.edge))
+          (subst (λ (x : List TermId). AreTerms new x (map (selector all) s.done ++ selector all n.edge ∷ [])) (sym q)
+          (terms-push new ids (map (selector all) s.done) t (selector all n.edge) (terms-grown now new ids (map (selector all) s.done) g s.made) (subst (StandsForTree new t) same m)));
       others = n.others;
       conds = n.each_cond;
     }
 
 pub SelectorsSoFar-end : (old now : List Node) (all : List RegionEdge) (ids : List TermId) (rest : List (List TermId)) → rest ≡ [] → SelectorsSoFar old now all ids rest
-    → AreMade now ids (map (selector all) (after_first all))
-SelectorsSoFar-end old now all ids rest e s = subst (λ (x : List RegionEdge). AreMade now ids (map (selector all) x))
+    → AreTerms now ids (map (selector all) (after_first all))
+SelectorsSoFar-end old now all ids rest e s = subst (λ (x : List RegionEdge). AreTerms now ids (map (selector all) x))
     (sym (s.parts ∙ ap (λ (x : List RegionEdge). s.done ++ x) (none s.left (subst (AreOthers old all s.left) e s.others)) ∙ nil s.done)) s.made
   where
     none : (left : List RegionEdge) → AreOthers old all left [] → left ≡ []

@@ -58,10 +58,10 @@ after_first [] = []
 after_first (x ∷ more) = more
 
 -- each id stands for its tree
-abbrev pub AreMade : List Node → List TermId → List Tree → Type 0
-AreMade ns [] [] = Unit {0}
-AreMade ns (t ∷ ts) (x ∷ xs) = StandsForTree ns t x × AreMade ns ts xs
-AreMade ns _ _ = ⊥
+abbrev pub AreTerms : List Node → List TermId → List Tree → Type 0
+AreTerms ns [] [] = Unit {0}
+AreTerms ns (t ∷ ts) (x ∷ xs) = StandsForTree ns t x × AreTerms ns ts xs
+AreTerms ns _ _ = ⊥
 
 -- the conjuncts of each of these edges that not all have
 abbrev pub AreOthers : List Node → (all : List RegionEdge) → List RegionEdge → List (List TermId) → Type 0

@@ -8,7 +8,7 @@ ghost use Rattle.lh_rows.specs.Joins.{any_taken, in_each, selector};
 ghost use Rattle.lh_term.specs.Make.{make_choice};
 ghost use Rattle.lh_term.specs.declared.term.TermId.{TermId as TermOf};
 ghost use Rattle.lh_joins.specs.declared.edge.Edge.{Edge as EdgeOf};
-ghost use Rattle.lh_joins.specs.Joins.{IsConditionAt, AreConditions, edges_on, is_listed, count_of, raised, IsShared, AreMade, AreOthers, after_first, chosen_by, CanChoose, CanMerge};
+ghost use Rattle.lh_joins.specs.Joins.{IsConditionAt, AreConditions, edges_on, is_listed, count_of, raised, IsShared, AreTerms, AreOthers, after_first, chosen_by, CanChoose, CanMerge};
 
 use crate::edge::Edge;
 use crate::logic::{and, bit, or};
@@ -146,7 +146,7 @@ pub fn conjunction(terms: &mut Terms, conds: &[TermId]) -> Result<TermId, NoMemo
 /// all edges have.
 pub fn selectors(alloc: Global, terms: &mut Terms, edges: &[Edge]) -> Result<TermList, NoMemory>
     requires { AreConditions terms.old edges.now }
-    ensures made { IfOk result (λ ts. AreMade terms.new ts (map (selector (edges_on terms.old edges.now)) (after_first (edges_on terms.old edges.now)))) }
+    ensures made { IfOk result (λ ts. AreTerms terms.new ts (map (selector (edges_on terms.old edges.now)) (after_first (edges_on terms.old edges.now)))) }
     ensures kept { Grows terms.old terms.new }
 {
     let others = others_of(alloc, terms, edges)?;

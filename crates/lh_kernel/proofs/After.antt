@@ -7,18 +7,17 @@ use Rattle.std.specs.declared.cmp.Ordering.TheVariants.{Less, Equal, Greater}
 use Rattle.std.specs.Ordering.{is_eq, is_le, is_lt}
 use Rattle.std.proofs.lemmas.Option.{same_Some, none-some}
 use Rattle.lh_time.specs.declared.Instant.{Instant}
-use Rattle.lh_time.specs.Order.{instant_cmp, instant_le}
+use Rattle.lh_time.specs.Order.{instant_cmp, instant_le, instant_eq, IsLaterIfAny}
 use Rattle.lh_types.specs.declared.part.Range.{Range}
 use Rattle.lh_types.proofs.Tests.{or_false_right}
 use Rattle.lh_unit.specs.Arena.{Arena}
 use Rattle.lh_unit.specs.Within.{Each}
-use Rattle.lh_unit.specs.World.{bit_numbers, bit_differs, is_at, Moment, wakes}
+use Rattle.lh_unit.specs.World.{bit_numbers, bit_differs, Moment, wakes}
 use Rattle.lh_eval.specs.declared.instance.Instance.{Instance}
 use Rattle.lh_index.specs.Rising.{IsOneOf}
 use Rattle.lh_elab.specs.Probed.{probed_by}
 use Rattle.lh_states.specs.declared.state.InstState.{InstState}
 use Rattle.lh_states.specs.States.{StateFits, parts_sensed, wake_kept}
-use Rattle.lh_states.specs.Runs.{IsLaterIfAny}
 use Rattle.lh_kernel.specs.declared.run.Activation.{Activation}
 use Rattle.lh_kernel.specs.States.{StatesFit, WakesItself}
 use Rattle.lh_kernel.specs.Ran.{ActOfOne, states_after}
@@ -80,7 +79,7 @@ not_at_later Less e l = refl
 not_at_later Equal e l = cc
 not_at_later Greater e l = cc
 
-later_if : (t : Instant) (o : Option Instant) → option_map_or (is_at t) o false ≡ false → ((u : Instant) → o ≡ Some u → instant_le t u ≡ true) → IsLaterIfAny t o
+later_if : (t : Instant) (o : Option Instant) → option_map_or (instant_eq t) o false ≡ false → ((u : Instant) → o ≡ Some u → instant_le t u ≡ true) → IsLaterIfAny t o
 later_if t None e l = tt
 later_if t (Some u) e l = not_at_later (instant_cmp t u) e (l u refl)
 
@@ -91,7 +90,7 @@ sleeps_later m sensed wake = by m.before
     by : (before : Option (List Bool)) → wakes (record { before = before; now = m.now; at = m.at }) sensed wake ≡ false →
         ((u : Instant) → wake ≡ Some u → instant_le m.at u ≡ true) → IsLaterIfAny m.at wake
     by None e l = absurd cc
-    by (Some old) e l = later_if m.at wake (or_false_right (list_any (bit_differs old m.now) (bit_numbers sensed)) (option_map_or (is_at m.at) wake false) e) l
+    by (Some old) e l = later_if m.at wake (or_false_right (list_any (bit_differs old m.now) (bit_numbers sensed)) (option_map_or (instant_eq m.at) wake false) e) l
 
 -- from number n on, each is awake or wakes later
 awake_or_later : (n : ℕ) (a : Arena) (width : ℕ) (m : Moment) (is : List Instance) (ss : List InstState) → StatesFit a width is ss →

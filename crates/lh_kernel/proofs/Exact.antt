@@ -1,5 +1,5 @@
 -- What is noted stays exact: what activations come to is entered, what they go from is left, and then it is that of the states after them.
-use Rattle.std.proofs.Common.{arith, ◌≡◌, ℕ, zero, suc, ◌+◌, ◌<◌, ◌≤◌, List, [], ◌∷◌, length, map, true, false, Option, Some, None, refl, ap, sym, ◌∙◌, subst, ◌⊎◌, inl, inr, true≢false}
+use Rattle.std.proofs.Common.{arith, ◌≡◌, ℕ, zero, suc, ◌+◌, ◌<◌, ◌≤◌, List, [], ◌∷◌, length, map, Option, Some, None, refl, ap, sym, ◌∙◌, subst, ◌⊎◌, inl, inr, true≢false}
 use Rattle.std.specs.Prelude.{◌↔◌, slice_get, slice_set}
 use Rattle.std.specs.Ordering.{is_eq}
 use Rattle.std.proofs.lemmas.Bool.{cases_lt, cases_eq, cases_Bool}
@@ -10,7 +10,8 @@ use Rattle.lh_time.proofs.OrderLemmas.{instant_cmp_total}
 use Rattle.lh_types.specs.Types.{bit_count}
 use Rattle.lh_types.specs.declared.part.Range.{Range}
 use Rattle.lh_unit.specs.Arena.{Arena}
-use Rattle.lh_unit.specs.World.{bit_numbers, is_at}
+use Rattle.lh_unit.specs.World.{bit_numbers}
+use Rattle.lh_time.specs.Order.{instant_eq}
 use Rattle.lh_unit.specs.Within.{Each}
 use Rattle.lh_unit.proofs.Lists.{Each-get}
 use Rattle.lh_eval.specs.declared.instance.Instance.{Instance}
@@ -36,9 +37,9 @@ use Rattle.lh_kernel.proofs.Relations.{with_same, without_same}
 
 -- what is known or is not
 instant_or : (t u : Instant) → (t ≡ u) ⊎ (t ≡ u → ⊥)
-instant_or t u = elim (cases_Bool (is_at t u)) [
+instant_or t u = elim (cases_Bool (instant_eq t u)) [
   | inl e ↦ inl (at_one t u e)
-  | inr e ↦ inr (λ q. true≢false (sym (ap is_eq (tied_itself instant_cmp_total t)) ∙ ap (λ (x : Instant). is_at t x) q ∙ e))
+  | inr e ↦ inr (λ q. true≢false (sym (ap is_eq (tied_itself instant_cmp_total t)) ∙ ap (λ (x : Instant). instant_eq t x) q ∙ e))
 ]
 
 wake_or : (o : Option Instant) (t : Instant) → (o ≡ Some t) ⊎ (o ≡ Some t → ⊥)

@@ -4,7 +4,7 @@ use Rattle.std.specs.Option.{is_some}
 use Rattle.std.specs.declared.cmp.Ordering.TheVariants.{Less}
 use Rattle.std.specs.Ordering.{nat_cmp, ordering_then, is_le}
 use Rattle.lh_time.specs.declared.Instant.{Instant}
-use Rattle.lh_time.specs.Order.{instant_lt, instant_le}
+use Rattle.lh_time.specs.Order.{instant_lt, instant_le, IsLaterIfAny}
 use Rattle.lh_time.proofs.OrderLemmas.{instant_le-lt}
 use Rattle.lh_time.specs.Due.{instant}
 use Rattle.lh_types.specs.History.{claims, sooner, soonest_due}
@@ -17,7 +17,6 @@ use Rattle.lh_queue.proofs.Keeping.{sooner_due}
 use Rattle.lh_index.specs.Waking.{IsNoted, IsSoonest}
 use Rattle.lh_states.specs.declared.state.InstState.{InstState}
 use Rattle.lh_states.specs.States.{wake_kept}
-use Rattle.lh_states.specs.Runs.{IsLaterIfAny}
 use Rattle.lh_states.proofs.Standing.{wakes-alike}
 use Rattle.lh_kernel.specs.States.{WakesItself}
 use Rattle.lh_kernel.specs.Kept.{IsKept, IsWaiting, WakesAfter}

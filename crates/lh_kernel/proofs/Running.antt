@@ -3,7 +3,7 @@ use Rattle.std.proofs.Common.{Result, Ok, Err, OnErr, drop, append_assoc, ◌≡
 use Rattle.std.proofs.lemmas.List.{append-nil, take_more, take-append-drop, length-take-le}
 use Rattle.std.proofs.lemmas.List.Sums.{sum_by-cons}
 use Rattle.std.proofs.Math.Seq.{drop-cons}
-use Rattle.std.proofs.lemmas.Option.{same_Some}
+use Rattle.std.proofs.lemmas.Option.{same_Some, slice_get_read}
 use Rattle.std.proofs.lemmas.Bool.Decides.{nat_tests}
 use Rattle.lh_time.specs.declared.Instant.{Instant}
 use Rattle.lh_types.specs.declared.frame.Outcome.{Outcome}
@@ -22,7 +22,6 @@ use Rattle.lh_states.specs.Runs.{ActIs, ActIsSound}
 use Rattle.lh_kernel.specs.declared.run.Activation.{Activation}
 use Rattle.lh_kernel.specs.States.{StatesStand}
 use Rattle.lh_kernel.specs.Ran.{done_by, DoesSo, AllRan, ActOfOne, outcomes_by, outcomes_ran}
-use Rattle.lh_wishes.proofs.RunLemmas.{get-at}
 
 -- what is kept of an instance stands for its state among these
 pub record StandsAmong (a : Arena) (ps : List State) (k : ℕ) (i : Instance) (s : InstState) : Type 0 where
@@ -112,7 +111,7 @@ on-err (Err e) P p = p
 -- ---- one turn
 
 pub in-place : {X : Type 0} → (xs ys : List X) (k : ℕ) (x : X) → ys ≡ xs → k < length xs → x ≡ get_or ys k x → slice_get xs k ≡ Some x
-in-place xs ys k x e l h = get-at xs k x l (h ∙ ap (λ zs. get_or zs k x) e)
+in-place xs ys k x e l h = slice_get_read xs (length xs) k x refl l (h ∙ ap (λ zs. get_or zs k x) e)
 
 pub known-at : {X : Type 0} → (ks : List ℕ) (j : ℕ) (xs : List X) → j < length ks → ((k : ℕ) → IsOneOf k ks → k < length xs) → get_or ks j 0 < length xs
 known-at ks j xs l h = h (get_or ks j 0) (has-at ks j 0 l)

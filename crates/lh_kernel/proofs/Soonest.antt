@@ -3,7 +3,7 @@ use Rattle.std.proofs.Common.{◌≡◌, ℕ, zero, suc, List, [], ◌∷◌, Bo
 use Rattle.std.specs.Prelude.{◌↔◌}
 use Rattle.std.specs.Ordering.{is_gt}
 use Rattle.lh_time.specs.declared.Instant.{Instant}
-use Rattle.lh_time.specs.Order.{instant_cmp, instant_lt, instant_le}
+use Rattle.lh_time.specs.Order.{instant_cmp, instant_lt, instant_le, IsLaterIfAny}
 use Rattle.lh_time.proofs.OrderLemmas.{instant_cmp_total, instant_le-lt}
 use Rattle.lh_types.specs.History.{sooner, if_later}
 use Rattle.lh_history.proofs.Orders.{le_not_gt, level}
@@ -16,7 +16,6 @@ use Rattle.lh_index.specs.declared.wakes.Wake.{Wake}
 use Rattle.lh_index.specs.Waking.{IsNoted, IsSoonest}
 use Rattle.lh_states.specs.declared.state.InstState.{InstState}
 use Rattle.lh_states.specs.States.{wake_kept}
-use Rattle.lh_states.specs.Runs.{IsLaterIfAny}
 use Rattle.lh_states.specs.Laws.{WakesAlike}
 use Rattle.lh_kernel.specs.States.{StatesStand, WakesItself}
 use Rattle.lh_kernel.specs.Kept.{WakesAfter}

@@ -5,7 +5,8 @@ use Rattle.lh_types.specs.History.{values_by}
 use Rattle.lh_bits.specs.Writes.{written}
 use Rattle.lh_design.specs.declared.Signal.{Signal}
 use Rattle.lh_queue.specs.declared.wish.Wish.{Wish}
-use Rattle.lh_queue.specs.Queued.{QueuedWish, is_at, AreInOrder, KeysDiffer, NoneDueBefore, wish_at}
+use Rattle.lh_queue.specs.Queued.{QueuedWish, AreInOrder, KeysDiffer, NoneDueBefore, wish_at}
+use Rattle.lh_time.specs.Order.{instant_eq}
 use Rattle.lh_queue.specs.Holds.{entries}
 use Rattle.lh_queue.specs.Buckets.{buckets_of, next_in}
 use Rattle.lh_queue.specs.Places.{first_key, rest_from}
@@ -54,7 +55,7 @@ module _ (signals : List Signal) (width : ℕ) (held : List QueuedWish) (t : Ins
 
   -- one wish more
   pub touched_more : (k : ℕ) (w : Wish) (key next : Option ℕ) (old new : List ℕ) → AreInOrder held → KeysDiffer held → wish_at held k ≡ Some w →
-      is_at w.due t ≡ true → key ≡ Some k → next ≡ next_in held k →
+      instant_eq w.due t ≡ true → key ≡ Some k → next ≡ next_in held k →
       TouchesMore signals (bits_named w.bits) old new → TouchedTo signals width held t old key → TouchedTo signals width held t new next
   touched_more k w key next old new order keys is due at on more s = record {
     known = known_more w old new s.known more;
@@ -68,7 +69,7 @@ module _ (signals : List Signal) (width : ℕ) (held : List QueuedWish) (t : Ins
         };
   }
 
-  pub touched_less : (k : ℕ) (w : Wish) (key next : Option ℕ) → AreInOrder held → KeysDiffer held → wish_at held k ≡ Some w → is_at w.due t ≡ true → key ≡ Some k → next ≡ next_in held k →
+  pub touched_less : (k : ℕ) (w : Wish) (key next : Option ℕ) → AreInOrder held → KeysDiffer held → wish_at held k ≡ Some w → instant_eq w.due t ≡ true → key ≡ Some k → next ≡ next_in held k →
       length (rest_from held next) < length (rest_from held key)
   touched_less k w key next order keys is due at on =
       let l = (looked held k w t [] (written w.bits []) order keys is due refl).less in
@@ -96,7 +97,7 @@ module _ (signals : List Signal) (width : ℕ) (held : List QueuedWish) (t : Ins
       ends touched key (λ seen. looked_none t seen ∙ ap (λ (xs : List QueuedWish). values_by (entries xs) t 0 seen) (sym gone)) s
 
   pub touched_late : (touched : List ℕ) (key : Option ℕ) (k : ℕ) (w : Wish) → AreInOrder held → KeysDiffer held → NoneDueBefore t held →
-      key ≡ Some k → wish_at held k ≡ Some w → is_at w.due t ≡ false → TouchedTo signals width held t touched key →
+      key ≡ Some k → wish_at held k ≡ Some w → instant_eq w.due t ≡ false → TouchedTo signals width held t touched key →
       MayChange signals width held t touched
   touched_late touched key k w order keys due e is late s =
       ends touched key (λ seen. looked_end held k w t seen order keys due is late ∙ ap (λ (j : Option ℕ). values_by (entries (rest_from held j)) t 0 seen) (sym e)) s

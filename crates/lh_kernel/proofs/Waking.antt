@@ -12,7 +12,8 @@ use Rattle.lh_time.specs.declared.Instant.{Instant}
 use Rattle.lh_time.proofs.OrderLemmas.{instant_cmp_total}
 use Rattle.lh_types.specs.declared.part.Range.{Range}
 use Rattle.lh_unit.specs.Arena.{Arena}
-use Rattle.lh_unit.specs.World.{bit_numbers, bit_differs, is_at, Moment}
+use Rattle.lh_unit.specs.World.{bit_numbers, bit_differs, Moment}
+use Rattle.lh_time.specs.Order.{instant_eq}
 use Rattle.lh_unit.specs.Within.{Each}
 use Rattle.lh_unit.proofs.Lists.{Each-get}
 use Rattle.lh_eval.specs.declared.instance.Instance.{Instance}
@@ -210,10 +211,10 @@ woken_end signals states probes n old now items touched i due woken e l w =
     let P : List ℕ → Type 0 = λ xs. (j : ℕ) → IsOneOf j xs → StaysSame signals old now j ⊎ ((k : ℕ) → Senses n.index j k → IsRoused states probes old now k → IsOneOf k woken) in
     record { keeps = w.keeps; sound = w.sound; all = subst P s w.all }
 
-at_itself : (t : Instant) → is_at t t ≡ true
+at_itself : (t : Instant) → instant_eq t t ≡ true
 at_itself t = ap is_eq (tied_itself instant_cmp_total t)
 
-at_some : (t : Instant) (o : Option Instant) → option_map_or (is_at t) o false ≡ true → o ≡ Some t
+at_some : (t : Instant) (o : Option Instant) → option_map_or (instant_eq t) o false ≡ true → o ≡ Some t
 at_some t None e = absurd (false≢true e)
 at_some t (Some u) e = ap (λ (x : Instant). Some x) (sym (at_one t u e))
 
@@ -233,7 +234,7 @@ module _ (a : Arena) (d : Design) (states : List InstState) (probes : List (List
         state = w.state;
         is_one = i.1;
         is_kept = w.stands;
-        awakes = ap (λ (o : Option Instant). list_any (bit_differs old now) (bit_numbers (parts_sensed w.state (probed_by a i.0))) || option_map_or (is_at t) o false) w.wakes
+        awakes = ap (λ (o : Option Instant). list_any (bit_differs old now) (bit_numbers (parts_sensed w.state (probed_by a i.0))) || option_map_or (instant_eq t) o false) w.wakes
             ∙ ap (λ (b : Bool). list_any (bit_differs old now) (bit_numbers (parts_sensed w.state (probed_by a i.0))) || b) (at_itself t)
             ∙ or-true (list_any (bit_differs old now) (bit_numbers (parts_sensed w.state (probed_by a i.0))));
       }
@@ -249,7 +250,7 @@ module _ (a : Arena) (d : Design) (states : List InstState) (probes : List (List
         state = r.state;
         is_one = i.1;
         is_kept = r.is_kept;
-        awakes = ap (λ (b : Bool). b || option_map_or (is_at t) (wake_kept r.state) false) f;
+        awakes = ap (λ (b : Bool). b || option_map_or (instant_eq t) (wake_kept r.state) false) f;
       }
 
   -- one that senses a bit that differs is among the woken
@@ -295,7 +296,7 @@ module _ (a : Arena) (d : Design) (states : List InstState) (probes : List (List
       there k h = elim (w.sound k h) [ inl g ↦ first k (by_due k ((times k).0 g)) | inr r ↦ first k (by_bits k r) ]
 
       one : (k : ℕ) → AwakeAt a later d.instances.items states k → IsOneOf k woken
-      one k g = elim (or_cases (list_any (bit_differs old now) (bit_numbers (parts_sensed g.state (probed_by a g.instance)))) (option_map_or (is_at t) (wake_kept g.state) false) g.awakes) [
+      one k g = elim (or_cases (list_any (bit_differs old now) (bit_numbers (parts_sensed g.state (probed_by a g.instance)))) (option_map_or (instant_eq t) (wake_kept g.state) false) g.awakes) [
         | inl e ↦ roused_is k g.instance g.state g.is_one g.is_kept e others w
         | inr e ↦ w.keeps k ((times k).1 ((asleep.noted.wakes t k).1 (record { state = g.state; stands = g.is_kept; wakes = at_some t (wake_kept g.state) e })))
       ]

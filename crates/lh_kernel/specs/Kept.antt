@@ -1,7 +1,7 @@
 -- What always holds of the parts of a simulation between its steps.
 use Rattle.std.specs.Prelude.{◌≡◌, ◌+◌, ◌≤◌, List, length, true, Option, Some, None}
 use Rattle.lh_time.specs.declared.Instant.{Instant}
-use Rattle.lh_time.specs.Order.{instant_lt, instant_le}
+use Rattle.lh_time.specs.Order.{instant_lt, instant_le, IsLaterIfAny}
 use Rattle.lh_types.specs.declared.part.Range.{Range}
 use Rattle.lh_unit.specs.Within.{Each}
 use Rattle.lh_queue.specs.Queued.{QueuedWish, EachWithin, EachNames}
@@ -9,7 +9,6 @@ use Rattle.lh_elab.specs.Answer.{IsDesignOf}
 use Rattle.lh_elab.specs.Probed.{AreProbes}
 use Rattle.lh_states.specs.declared.state.InstState.{InstState}
 use Rattle.lh_states.specs.States.{wake_kept}
-use Rattle.lh_states.specs.Runs.{IsLaterIfAny}
 use Rattle.lh_kernel.specs.States.{StatesFit}
 use Rattle.lh_kernel.specs.Noted.{IsNotedFor}
 use Rattle.lh_kernel.specs.declared.machine.SimState.{SimState}

@@ -1,7 +1,8 @@
 //! The signals that wishes due at an instant may change.
 ghost use Rattle.std.specs.Prelude.{◌≡◌, length, IfOk};
 ghost use Rattle.lh_design.specs.Filling.{SignalsFill};
-ghost use Rattle.lh_queue.specs.Queued.{NoneDueBefore, EachWithin, is_at};
+ghost use Rattle.lh_queue.specs.Queued.{NoneDueBefore, EachWithin};
+ghost use Rattle.lh_time.specs.Order.{instant_eq};
 ghost use Rattle.lh_kernel.specs.Touched.{MayChange, first_in};
 
 use lh_change::signals::touch_written;
@@ -53,7 +54,7 @@ fn first_in(buckets: &[Bucket]) -> Option<usize>
 
 /// Whether a wish is due at an instant.
 fn is_due(wish: &Wish, at: Instant) -> bool
-    ensures { result ≡ is_at wish.now.due at }
+    ensures { result ≡ instant_eq wish.now.due at }
 {
     wish.due == at
 }

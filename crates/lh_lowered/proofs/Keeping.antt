@@ -11,14 +11,15 @@ use Rattle.lh_unit.specs.Activation.{functions}
 use Rattle.lh_flat.specs.Flat.{flat_in}
 use Rattle.lh_lowered.specs.Report.{RowText}
 use Rattle.lh_lowered.specs.Lowering.{Outcome, becomes, stays, outcome_of_text, outcome_in, in_place, verdict_of, lowered_as, lowered_item, lowered, row_as, item_row}
-use Rattle.lh_lowered.specs.Kept.{is_process, InPlaceOf, declaration, no_process, process_left, process_lowered, KeptFrom, nothing, one_more, LoweredIsKept, KeptIsLowered, FunctionsStay, NamesStay, LoweredAgain, process_name_as, process_names, RowsAreProcesses}
+use Rattle.lh_lowered.specs.Kept.{InPlaceOf, declaration, no_process, process_left, process_lowered, KeptFrom, nothing, one_more, LoweredIsKept, KeptIsLowered, FunctionsStay, NamesStay, LoweredAgain, process_name_as, process_names, RowsAreProcesses}
+use Rattle.lh_unit.specs.WellFormed.{in_process}
 use Rattle.lh_lowered.proofs.Entities.{entity-for}
 
 -- ---- each item
 
 module _ (items : List ItemText) where
   -- what stands in the place of a process, by what becomes of it
-  process-kept : (u : UnitText) (o : Outcome) → is_process u.kind ≡ true → outcome_in items u ≡ o →
+  process-kept : (u : UnitText) (o : Outcome) → in_process u.kind ≡ true → outcome_in items u ≡ o →
       InPlaceOf items (unit_text u) (unit_text (in_place u o)) (record { unit = u.name; verdict = verdict_of o } ∷ [])
   process-kept u (becomes k y) p e = process_lowered u y p k e (entity-for items u k y e)
   process-kept u (stays r) p e = process_left u p r e
@@ -47,7 +48,7 @@ abbrev row_for : UnitText → Outcome → List RowText
 row_for u o = record { unit = u.name; verdict = verdict_of o } ∷ []
 
 module _ (items : List ItemText) where
-  unit-by : (u : UnitText) (k : UnitKind) (o : Outcome) → u.kind ≡ k → is_process k ≡ true → outcome_in items u ≡ o →
+  unit-by : (u : UnitText) (k : UnitKind) (o : Outcome) → u.kind ≡ k → in_process k ≡ true → outcome_in items u ≡ o →
       (in_place u o ≡ lowered_as u.kind items u) × ((record { unit = u.name; verdict = verdict_of o } ∷ []) ≡ row_as u.kind items u)
   unit-by u unit_kind.Proc o e p f = (
     sym (ap (in_place u) f) ∙ sym (ap (λ k. lowered_as k items u) e),
@@ -56,7 +57,7 @@ module _ (items : List ItemText) where
   unit-by u unit_kind.Func o e p f = absurd cc
   unit-by u unit_kind.Entity o e p f = absurd cc
 
-  no-process : (u : UnitText) (k : UnitKind) → u.kind ≡ k → is_process k ≡ false → (u ≡ lowered_as u.kind items u) × ([] ≡ row_as u.kind items u)
+  no-process : (u : UnitText) (k : UnitKind) → u.kind ≡ k → in_process k ≡ false → (u ≡ lowered_as u.kind items u) × ([] ≡ row_as u.kind items u)
   no-process u unit_kind.Proc e p = absurd cc
   no-process u unit_kind.Func e p = (rw e refl, rw e refl)
   no-process u unit_kind.Entity e p = (rw e refl, rw e refl)

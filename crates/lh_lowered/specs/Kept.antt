@@ -1,5 +1,5 @@
 -- What lowering keeps of a module.
-use Rattle.std.specs.Prelude.{◌≡◌, ◌≤◌, List, [], ◌∷◌, ◌++◌, length, map, Bool, true, false, None}
+use Rattle.std.specs.Prelude.{◌≡◌, ◌≤◌, List, [], ◌∷◌, ◌++◌, length, map, true, false, None}
 use Rattle.lh_names.specs.declared.name.UnitName.{UnitName}
 use Rattle.lh_unit.specs.declared.inst.Declare.{Declare}
 use Rattle.lh_unit.specs.declared.inst.UnitKind.{UnitKind}
@@ -7,15 +7,12 @@ use Rattle.lh_unit.specs.declared.inst.UnitKind.TheVariants as unit_kind
 use Rattle.lh_unit.specs.Contents.{LineText, UnitText, ItemText, unit_text, declare_text, defines_unit}
 use Rattle.lh_unit.specs.Within.{Each}
 use Rattle.lh_unit.specs.Activation.{functions}
+use Rattle.lh_unit.specs.WellFormed.{in_process}
 use Rattle.lh_shape.specs.declared.reason.Reason.{Reason}
 use Rattle.lh_emission.specs.Laws.{IsEmitted}
 use Rattle.lh_lowered.specs.Report.{RowText}
 use Rattle.lh_lowered.specs.Lowering.{becomes, stays, outcome_in, verdict_of, lowered, report}
 use Rattle.lh_lowered.specs.declared.report.Kind.{Kind}
-
-abbrev pub is_process : UnitKind → Bool
-is_process unit_kind.Proc = true
-is_process _ = false
 
 -- An entity in the place of a process: it has the process's name and arguments, and at most 65,536 instructions. These are constants,
 -- operations, parts, probes, drives and registers alone: it has no signals, and no instances.
@@ -34,10 +31,10 @@ pub record IsEntityFor (u y : UnitText) : Type 0 where
 -- names the shape.
 pub data InPlaceOf (items : List ItemText) : ItemText → ItemText → List RowText → Type 0 where
   declaration : (d : Declare) → InPlaceOf items (declare_text d) (declare_text d) []
-  no_process : (u : UnitText) → is_process u.kind ≡ false → InPlaceOf items (unit_text u) (unit_text u) []
-  process_left : (u : UnitText) → is_process u.kind ≡ true → (r : Reason) → outcome_in items u ≡ stays r →
+  no_process : (u : UnitText) → in_process u.kind ≡ false → InPlaceOf items (unit_text u) (unit_text u) []
+  process_left : (u : UnitText) → in_process u.kind ≡ true → (r : Reason) → outcome_in items u ≡ stays r →
       InPlaceOf items (unit_text u) (unit_text u) (record { unit = u.name; verdict = verdict_of (stays r) } ∷ [])
-  process_lowered : (u y : UnitText) → is_process u.kind ≡ true → (k : Kind) → outcome_in items u ≡ becomes k y → IsEntityFor u y →
+  process_lowered : (u y : UnitText) → in_process u.kind ≡ true → (k : Kind) → outcome_in items u ≡ becomes k y → IsEntityFor u y →
       InPlaceOf items (unit_text u) (unit_text y) (record { unit = u.name; verdict = verdict_of (becomes k y) } ∷ [])
 
 -- Each of these items has its successor in its place, and the rows stand in the order of the items.

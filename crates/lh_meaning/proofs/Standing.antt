@@ -1,16 +1,16 @@
 -- Under which conditions an entity may stand for a process: where it gives the same on all values, at every edge, or once.
-use Rattle.std.proofs.Common.{◌≡◌, ℕ, List, [], map, Bool, true, false, Option, Some, None}
+use Rattle.std.proofs.Common.{◌≡◌, ℕ, List, [], Bool, true, false, Option, Some, None}
 use Rattle.std.specs.List.{list_any}
 use Rattle.lh_time.specs.declared.Instant.{Instant}
 use Rattle.lh_types.specs.Wish.{Wish, no_wish}
 use Rattle.lh_types.specs.declared.part.Range.{Range}
 use Rattle.lh_unit.specs.declared.inst.UnitKind.TheVariants as kind
 use Rattle.lh_unit.specs.Contents.{UnitText}
-use Rattle.lh_unit.specs.Held.{Env, part_held, nothing_held, with_args}
-use Rattle.lh_unit.specs.Activation.{Scene, is_new, waits, halted, ProcessState, Activated, activate}
+use Rattle.lh_unit.specs.Held.{Env}
+use Rattle.lh_unit.specs.Activation.{Scene, waits, halted, ProcessState, Activated, activate}
 use Rattle.lh_unit.specs.Hierarchy.{Instance}
 use Rattle.lh_unit.specs.Pass.{pass, probes}
-use Rattle.lh_unit.specs.World.{bit_numbers, bit_differs, Rules}
+use Rattle.lh_unit.specs.World.{bit_numbers, bit_differs, Rules, begun}
 use Rattle.lh_meaning.proofs.BitSets.{SameSet, IsWithin, bits_read}
 
 abbrev pub scene : Rules → (now : List Bool) → Instant → Scene
@@ -18,7 +18,7 @@ scene r now t = record { functions = r.functions; now = now; at = t }
 
 -- a process before its first activation
 abbrev pub fresh : UnitText → Instance → ProcessState
-fresh x i = record { stand = is_new; held = with_args nothing_held x.args (map part_held i.args) }
+fresh x i = begun x i.args
 
 -- a process that waits without time
 abbrev pub waiting_at : (block to : List ℕ) → (on : List Range) → Env → ProcessState

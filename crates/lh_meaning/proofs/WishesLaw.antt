@@ -10,6 +10,7 @@ use Rattle.lh_time.specs.declared.Instant.{Instant}
 use Rattle.lh_types.specs.Wish.{DueBit, due_bit, due_bit_cmp, Wish, with_bit, with_bits}
 use Rattle.lh_meaning.specs.Wishes.{look, IsBelow, IsInOrder, WishExt, LaterDriveReplaces}
 use Rattle.lh_history.proofs.DueBits.{due_bit_self, below_trans, turned, in_order-insert, due_bit_one}
+use Rattle.lh_bits.specs.Writes.{numbered}
 
 look_below : (k : DueBit) (es : Wish) → IsBelow k es → look k es ≡ None
 look_below k [] x = refl
@@ -151,11 +152,6 @@ last_twice k t xs ys o s = at (hit k t ys) refl
 pub writes_twice : (t : Instant) (xs ys : List (ℕ × Bool)) (w : Wish) → SameBits xs ys → IsInOrder w → writes t ys (writes t xs w) ≡ writes t ys w
 writes_twice t xs ys w s a = wish_ext _ _ (in_order-writes t ys _ (in_order-writes t xs w a)) (in_order-writes t ys w a)
     (λ k. look-writes k t ys (writes t xs w) ∙ ap (last_at k t ys) (look-writes k t xs w) ∙ last_twice k t xs ys (look k w) s ∙ sym (look-writes k t ys w))
-
--- the bits of a drive, by number
-abbrev numbered : ℕ → List Bool → List (ℕ × Bool)
-numbered lo [] = []
-numbered lo (b ∷ more) = (lo, b) ∷ numbered (lo + 1) more
 
 bits_are_writes : (due : Instant) (lo : ℕ) (bs : List Bool) (w : Wish) → with_bits w due lo bs ≡ writes due (numbered lo bs) w
 bits_are_writes due lo [] w = refl

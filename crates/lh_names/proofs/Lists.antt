@@ -1,8 +1,9 @@
 -- Lists with one more item, and keys.
-use Rattle.std.proofs.Common.{◌≡◌, ℕ, ◌<◌, zero, suc, Bool, true, false, ◌||◌, List, [], ◌∷◌, ◌++◌, length, get_or, Some, None, slice_get, position, refl, ap, sym, ◌∙◌, arith, length-append}
+use Rattle.std.proofs.Common.{◌≡◌, ℕ, ◌<◌, zero, suc, Bool, true, false, ◌||◌, List, [], ◌∷◌, ◌++◌, length, get_or, Some, slice_get, position, refl, ap, sym, ◌∙◌, arith, inl, inr}
 use Rattle.std.specs.List.{list_any}
-use Rattle.std.proofs.lemmas.Option.{slice_get-get_or, slice_get_past, same_Some as some_inj}
+use Rattle.std.proofs.lemmas.Option.{slice_get-get_or, slice_get_within}
 use Rattle.std.proofs.lemmas.List.Quantifiers.{position-Some}
+use Rattle.lh_types.proofs.Lists.{push_cases}
 use Rattle.lh_names.specs.Distinct.{AllDistinct}
 
 -- where an index lies
@@ -17,32 +18,13 @@ trichotomy zero (suc k) = past (omega arith)
 trichotomy (suc n) zero = before (omega arith)
 trichotomy (suc n) (suc k) = elim (trichotomy n k) [ before h ↦ before (omega (arith, h)) | at h ↦ at (ap suc h) | past h ↦ past (omega (arith, h)) ]
 
--- the last item of a list, and the others
-pub slice_get-push : {X : Type 0} (xs : List X) (y : X) (k : ℕ) → k ≡ length xs → slice_get (xs ++ y ∷ []) k ≡ Some y
-slice_get-push [] y zero e = refl
-slice_get-push [] y (suc k) e = cc
-slice_get-push (x ∷ xs) y zero e = cc
-slice_get-push (x ∷ xs) y (suc k) e = slice_get-push xs y k (omega arith)
-
-pub slice_get-push_before : {X : Type 0} (xs : List X) (y : X) (k : ℕ) → k < length xs → slice_get (xs ++ y ∷ []) k ≡ slice_get xs k
-slice_get-push_before [] y k h = absurd (omega arith)
-slice_get-push_before (x ∷ xs) y zero h = refl
-slice_get-push_before (x ∷ xs) y (suc k) h = slice_get-push_before xs y k (omega arith)
-
-pub slice_get-gone : {X : Type 0} (xs : List X) (y m : X) (k : ℕ) → length xs < k → slice_get (xs ++ y ∷ []) k ≡ Some m → ⊥
-slice_get-gone xs y m k h p = let e : slice_get (xs ++ y ∷ []) k ≡ None = slice_get_past (xs ++ y ∷ []) k (omega (arith, length-append xs (y ∷ []))) in cc
-
 -- what is at an index of a list with one more item
 pub data Pushed {X : Type 0} (xs : List X) (y m : X) (k : ℕ) : Type 0 where
   old : k < length xs → slice_get xs k ≡ Some m → Pushed xs y m k
   new : k ≡ length xs → y ≡ m → Pushed xs y m k
 
 pub pushed : {X : Type 0} (xs : List X) (y m : X) (k : ℕ) → slice_get (xs ++ y ∷ []) k ≡ Some m → Pushed xs y m k
-pushed xs y m k p = elim (trichotomy (length xs) k) [
-  | before h ↦ old h (sym (slice_get-push_before xs y k h) ∙ p)
-  | at h ↦ new h (some_inj y m (sym (slice_get-push xs y k h) ∙ p))
-  | past h ↦ absurd (slice_get-gone xs y m k h p)
-]
+pushed xs y m k p = elim (push_cases xs y m k p) [ inl e ↦ old (slice_get_within xs k m e) e | inr q ↦ new q.0 q.1 ]
 
 pub AllDistinct-push : {K : Type 0} (ks : List K) (k : K) → AllDistinct ks → ((i : ℕ) → slice_get ks i ≡ Some k → ⊥) → AllDistinct (ks ++ k ∷ [])
 AllDistinct-push ks k d a i j m p q = by (pushed ks k m i p) (pushed ks k m j q)

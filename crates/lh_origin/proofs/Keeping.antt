@@ -3,18 +3,19 @@ use Rattle.std.proofs.Common.{◌≡◌, ℕ, ◌<◌, Bool, true, false, ◌&&�
 use Rattle.std.specs.HashMap.{HashMap, get}
 use Rattle.std.specs.Option.{is_some}
 use Rattle.std.proofs.lemmas.Option.{same_Some, none-some}
-use Rattle.lh_types.specs.Same.{and_both}
+use Rattle.lh_types.specs.Same.{and_both, nat_eq-is, nat_eq-refl}
 use Rattle.lh_unit.specs.Typing.{or_else}
 use Rattle.lh_unit.specs.Within.{Each}
 use Rattle.lh_unit.specs.declared.inst.ValueId.{ValueId}
-use Rattle.lh_term.specs.Same.{same_part, same_part-is, nat_eq-is, nat_eq-refl}
+use Rattle.lh_term.specs.Same.{same_part, same_part-is}
 use Rattle.lh_term.specs.declared.part.Part.{Part}
 use Rattle.lh_flat.specs.declared.flat.FlatInst.{FlatInst}
 use Rattle.lh_flat.specs.declared.flat.Flat.{Flat}
 use Rattle.lh_parts.specs.declared.step.PartStep.{PartStep}
 use Rattle.lh_parts.specs.declared.table.PartTable.{PartTable}
 use Rattle.lh_parts.specs.Steps.{step_in, with_result, step_results, insts_in, StepWithin, HasSteps, part_at, IsPartTable}
-use Rattle.lh_origin.specs.Firsts.{is_the_part, first_result, same_key, kept_at, key_of, kept_for, AreValues, AddsAt, KeepsFirsts, KeepsOneMore}
+use Rattle.lh_origin.specs.Firsts.{is_the_part, first_result, same_key, kept_at, key_of, kept_for, AddsAt, KeepsFirsts, KeepsOneMore}
+use Rattle.lh_flat.specs.Below.{ValuesBelow}
 use Rattle.lh_origin.proofs.WaysBack.{values-push}
 
 -- ---- one more result
@@ -79,10 +80,10 @@ module _ {S : Type 0} (parts : List (Option Part)) (v : ValueId) where
       → AddsAt key v m n → KeepsOneMore parts v m n
   takes-new m n q key e c l adds = λ results h. record { within = λ k. within-at results h k (same_key key k) refl; first = λ p. at results h p (same_key key (key_of p)) refl }
     where
-      within-at : (results : List ValueId) → KeepsFirsts parts results m → (k : ℕ × ℕ × ℕ) (b : Bool) → same_key key k ≡ b → AreValues (length parts) (kept_at n k)
-      within-at results h k true f = subst (AreValues (length parts)) (sym (adds.kept k ∙ ap (λ (x : Bool). if x then kept_at m key ++ v ∷ [] else kept_at m k) f))
+      within-at : (results : List ValueId) → KeepsFirsts parts results m → (k : ℕ × ℕ × ℕ) (b : Bool) → same_key key k ≡ b → ValuesBelow (length parts) (kept_at n k)
+      within-at results h k true f = subst (ValuesBelow (length parts)) (sym (adds.kept k ∙ ap (λ (x : Bool). if x then kept_at m key ++ v ∷ [] else kept_at m k) f))
           (values-push (length parts) (kept_at m key) v (h.within key) l)
-      within-at results h k false f = subst (AreValues (length parts)) (sym (adds.kept k ∙ ap (λ (x : Bool). if x then kept_at m key ++ v ∷ [] else kept_at m k) f)) (h.within k)
+      within-at results h k false f = subst (ValuesBelow (length parts)) (sym (adds.kept k ∙ ap (λ (x : Bool). if x then kept_at m key ++ v ∷ [] else kept_at m k) f)) (h.within k)
 
       at : (results : List ValueId) → KeepsFirsts parts results m → (p : Part) (b : Bool) → same_key key (key_of p) ≡ b → first_result parts (kept_for n p) p ≡ first_result parts (results ++ v ∷ []) p
       at results h p true f =
@@ -120,29 +121,29 @@ kept-updated m k n key v old new o others e u = record { kept = λ q. ap (λ (x 
 
 pub keeps-none : {S : Type 0} (parts : List (Option Part)) (m : HashMap (ℕ × ℕ × ℕ) (List ValueId) S) → ((k : ℕ × ℕ × ℕ) → get same_key m k ≡ None) → KeepsFirsts parts [] m
 keeps-none parts m h = record {
-  within = λ k. subst (AreValues (length parts)) (sym (ap (λ (o : Option (List ValueId)). unwrap_or o []) (h k))) tt;
+  within = λ k. subst (ValuesBelow (length parts)) (sym (ap (λ (o : Option (List ValueId)). unwrap_or o []) (h k))) tt;
   first = λ p. ap (λ (o : Option (List ValueId)). first_result parts (unwrap_or o []) p) (h (key_of p));
 }
 
 -- ---- the results of a flat text are values
 
-with-within : (n : ℕ) (r : Option ValueId) (s : Option PartStep) (more : List ValueId) → StepWithin n r s → AreValues n more → AreValues n (with_result r s more)
+with-within : (n : ℕ) (r : Option ValueId) (s : Option PartStep) (more : List ValueId) → StepWithin n r s → ValuesBelow n more → ValuesBelow n (with_result r s more)
 with-within n None s more h a = a
 with-within n (Some v) None more h a = a
 with-within n (Some v) (Some s) more h a = (h.0, a)
 
-results-within : (n : ℕ) (ls : List FlatInst) → Each (λ (l : FlatInst). StepWithin n l.result (step_in l.inst)) ls → AreValues n (step_results ls)
+results-within : (n : ℕ) (ls : List FlatInst) → Each (λ (l : FlatInst). StepWithin n l.result (step_in l.inst)) ls → ValuesBelow n (step_results ls)
 results-within n [] h = tt
 results-within n (l ∷ ls) h = with-within n l.result (step_in l.inst) (step_results ls) h.0 (results-within n ls h.1)
 
-pub results-values : (t : Flat) (table : PartTable) → HasSteps t → IsPartTable t table → AreValues (length table.parts.items) table.steps.results.items
+pub results-values : (t : Flat) (table : PartTable) → HasSteps t → IsPartTable t table → ValuesBelow (length table.parts.items) table.steps.results.items
 results-values t table h i =
-    subst (AreValues (length table.parts.items)) (sym i.results)
-    (subst (λ (n : ℕ). AreValues n (step_results (insts_in t.blocks))) (sym i.long) (results-within t.values (insts_in t.blocks) h.within))
+    subst (ValuesBelow (length table.parts.items)) (sym i.results)
+    (subst (λ (n : ℕ). ValuesBelow n (step_results (insts_in t.blocks))) (sym i.long) (results-within t.values (insts_in t.blocks) h.within))
 
 -- ---- the first one that is the part
 
-pub first-some : (n : ℕ) (parts : List (Option Part)) (vs : List ValueId) (p : Part) (v : ValueId) → AreValues n vs → first_result parts vs p ≡ Some v → (v.0 < n) × (part_at parts v.0 ≡ Some p)
+pub first-some : (n : ℕ) (parts : List (Option Part)) (vs : List ValueId) (p : Part) (v : ValueId) → ValuesBelow n vs → first_result parts vs p ≡ Some v → (v.0 < n) × (part_at parts v.0 ≡ Some p)
 first-some n parts [] p v h e = absurd (none-some v e)
 first-some n parts (w ∷ vs) p v h e = at (part_at parts w.0) refl e (first-some n parts vs p v h.1)
   where

@@ -1,7 +1,6 @@
 -- The parts of values by names, and the steps that lead to them, are those by ids.
 use Rattle.std.proofs.Common.{◌≡◌, ◌⊎◌, inl, inr, ℕ, zero, suc, ◌+◌, Bool, true, false, if◌then◌else◌, List, [], ◌∷◌, ◌++◌, map, Option, Some, None, refl, ap, sym, ◌∙◌, subst}
 use Rattle.std.specs.Option.{option_and_then, option_map}
-use Rattle.std.proofs.lemmas.Bool.{or_parts}
 use Rattle.std.proofs.lemmas.List.{map-append}
 use Rattle.std.proofs.lemmas.Option.{same_Some, none-some}
 use Rattle.lh_types.specs.Types.{TypeTree, signal_type}
@@ -10,7 +9,7 @@ use Rattle.lh_types.specs.Parts.{range_of, step_part}
 use Rattle.lh_types.specs.declared.op.Op.{Op}
 use Rattle.lh_types.specs.declared.op.Op.TheVariants as op
 use Rattle.lh_types.specs.declared.part.Step.{Step}
-use Rattle.lh_unit.specs.Contents.{OperandText, InstText, pure_text, LineText, ArgText, UnitText, is_result_name, args_define}
+use Rattle.lh_unit.specs.Contents.{OperandText, InstText, pure_text, LineText, UnitText, is_result_name}
 use Rattle.lh_names.specs.Names.{same_name}
 use Rattle.lh_unit.specs.Effects.{step_of}
 use Rattle.lh_unit.specs.Hierarchy.{lines_of}
@@ -22,20 +21,22 @@ use Rattle.lh_unit.specs.declared.inst.Typed.{Typed}
 use Rattle.lh_unit.specs.declared.inst.Inst.{Inst}
 use Rattle.lh_unit.specs.declared.inst.Inst.TheVariants as inst
 use Rattle.lh_names.proofs.NameLists.{same_name-is}
-use Rattle.lh_formed.specs.Parts.{TakesPart, HasPart}
+use Rattle.lh_formed.specs.Parts.{HasPart}
 use Rattle.lh_formed.proofs.PartsLaw.{parts_have_ranges}
-use Rattle.lh_formed.proofs.PartSteps.{same-operand, leads-is, takes-part, step-type}
-use Rattle.lh_eval.specs.Sound.{InstIsSound}
-use Rattle.lh_sound.proofs.NamedOnce.{IsFirst, giving-lines}
+use Rattle.lh_formed.proofs.PartSteps.{takes-part, step-type}
+use Rattle.lh_sound.proofs.NamedOnce.{giving-lines}
 use Rattle.lh_inlined.specs.Formed.{IsFormed}
 use Rattle.lh_term.specs.declared.part.Part.{Part}
 use Rattle.lh_parts.specs.declared.step.PartStep.{PartStep as IdStep}
 use Rattle.lh_parts.specs.Steps.{step_if, step_in, part_within, stepped, part_by as id_part_by, part_found}
-use Rattle.lh_rows.specs.Typed as rows
 use Rattle.lh_rows.proofs.Heads.{argument-of}
-use Rattle.lh_emission.specs.Reached.{Reached, argument_part, as_argument, stepped_by, further, reached}
-use Rattle.lh_emission.specs.Ways.{part_by, part_by_step, whole}
+use Rattle.lh_rows.proofs.PartsNamed.{no-argument}
+use Rattle.lh_emission.specs.Reached.{Reached, as_argument, stepped_by, further, reached}
+use Rattle.lh_rows.specs.Known.{argument_part}
+use Rattle.lh_rows.proofs.Sites.{LineGood}
+use Rattle.lh_emission.specs.Ways.{inner, part_by_step}
 use Rattle.lh_emission.proofs.Reaching.{further-is}
+use Rattle.lh_emission.proofs.PartsLed.{part-led, Taken, taken}
 use Rattle.lh_origin.specs.Origins.{step_text}
 
 -- ---- by ids
@@ -107,35 +108,12 @@ by_step f g (Some s) = option_and_then (extended s) (option_map seen (g (f.value
 
 -- ---- the part to which a step leads
 
--- the part of a part
-abbrev inner : Part → Parts.Part → Part
-inner q z = record { arg = q.arg; lo = q.lo + z.lo; ty = z.of }
-
-part-led : (o : Op) (s : Step) (q : Part) (z : Parts.Part) → step_of o ≡ Some s → step_part q.ty s ≡ Some z → part_by q o ≡ Some (inner q z)
-part-led o s q z so leads = ap (option_and_then (part_by_step q)) so ∙ ap (option_map (inner q)) leads
-
 id-led : (o : Op) (s : Step) (q : Part) (z : Parts.Part) (v : ValueId) → step_of o ≡ Some s → step_part q.ty s ≡ Some z → stepped q (record { from = v; op = o; ty = z.of }) ≡ Some (inner q z)
 id-led o s q z v so leads =
     ap (λ (x : Option Step). option_map (part_within q z.of) (option_and_then (λ (y : Step). range_of q.ty (y ∷ [])) x)) so
     ∙ ap (option_map (part_within q z.of)) (parts_have_ranges q.ty s z leads)
 
--- what is taken of a signal
-record Taken (u : UnitText) (x : OperandText) (s : Step) (q : Part) : Type 0 where
-  part : Parts.Part
-  leads : step_part q.ty s ≡ Some part
-  written : x.ty ≡ Some (signal_type part.of)
-
-taken : (u : UnitText) (x : OperandText) (s : Step) (q : Part) → TakesPart u s (x ∷ []) → value_type u x.value ≡ Some (signal_type q.ty) → Taken u x s q
-taken u x s q t v =
-    let eq : x ≡ t.operand = same-operand x t.operand t.operands in
-    let z = leads-is s t.whole t.of q.ty t.leads (same_Some t.whole (signal_type q.ty) (sym t.is ∙ ap (λ (w : OperandText). value_type u w.value) (sym eq) ∙ v)) in
-    record { part = z.0; leads = z.1; written = ap (λ (w : OperandText). w.ty) eq ∙ t.written ∙ ap Some z.2 }
-
 -- ---- lines
-
--- a line is sound, and the only one that gives its result
-abbrev pub IsGood : UnitText → LineText → Type 0
-IsGood u l = InstIsSound u l × IsFirst u.args (lines_of u.blocks) l
 
 pub record Giving (G : LineText → Type 0) (n : List ℕ) (i : InstText) : Type 0 where
   pub line : LineText
@@ -155,17 +133,6 @@ giving-at G n (l ∷ ls) i g e = by l.result refl e (giving-at G n ls i g.1)
     by None r k go = go k
     by (Some m) r k go = at m r (same_name m n) refl k go
 
--- a name that is no argument's has no argument's part
-no-argument : (n : List ℕ) (i : ℕ) (xs : List ArgText) → args_define n xs ≡ false → argument_part n i xs ≡ None
-no-argument n i [] h = refl
-no-argument n i (a ∷ xs) h =
-    let b = or_parts (same_name a.name n) (args_define n xs) h in
-    ap (λ z. if z then option_map (whole i) (carried a.ty) else argument_part n (i + 1) xs) b.0 ∙ no-argument n (i + 1) xs b.1
-
-same-argument : (n : List ℕ) (i : ℕ) (xs : List ArgText) → argument_part n i xs ≡ rows.argument_part n i xs
-same-argument n i [] = refl
-same-argument n i (a ∷ xs) = ap (λ z. if same_name a.name n then option_map (whole i) (carried a.ty) else z) (same-argument n (i + 1) xs)
-
 -- the operation of a step is one
 steps-by : (o : Op) (from r : Reached) → stepped_by o from ≡ Some r → (s : Step) × (step_of o ≡ Some s)
 steps-by o from r h = at (step_of o) refl h
@@ -177,18 +144,18 @@ steps-by o from r h = at (step_of o) refl h
 
 -- ---- what is reached is a signal of its type
 
-module _ (u : UnitText) (formed : IsFormed u) (good : Each (IsGood u) (lines_of u.blocks)) where
+module _ (u : UnitText) (formed : IsFormed u) (good : Each (LineGood u) (lines_of u.blocks)) where
   argument-typed : (n : List ℕ) (r : Reached) → as_argument u n ≡ Some r → value_type u n ≡ Some (signal_type r.part.ty)
   argument-typed n r h = at (argument_part n 0 u.args) refl h
     where
       at : (o : Option Part) → argument_part n 0 u.args ≡ o → option_map as_reached o ≡ Some r → value_type u n ≡ Some (signal_type r.part.ty)
       at None q k = absurd (none-some r k)
       at (Some p) q k =
-          (argument-of u n 0 u.args p formed.args formed.ports (sym (same-argument n 0 u.args) ∙ q)).1
+          (argument-of u n 0 u.args p formed.args formed.ports q).1
           ∙ ap (λ (z : Reached). Some (signal_type z.part.ty)) (same_Some (as_reached p) r k)
 
   -- the result of a step from a signal
-  step-typed : (n : List ℕ) (o : Op) (x : OperandText) (from r : Reached) → Giving (IsGood u) n (pure_text o (x ∷ [])) → value_type u x.value ≡ Some (signal_type from.part.ty)
+  step-typed : (n : List ℕ) (o : Op) (x : OperandText) (from r : Reached) → Giving (LineGood u) n (pure_text o (x ∷ [])) → value_type u x.value ≡ Some (signal_type from.part.ty)
       → stepped_by o from ≡ Some r → value_type u n ≡ Some (signal_type r.part.ty)
   step-typed n o x from r l t h =
       let s = steps-by o from r h in
@@ -210,7 +177,7 @@ module _ (u : UnitText) (formed : IsFormed u) (good : Each (IsGood u) (lines_of 
       by (inl a) go = argument-typed n r a
       by (inr b) go =
           let s = further-is (reached k u) (inst_giving n u.blocks) r b in
-          let l = giving-at (IsGood u) n (lines_of u.blocks) (pure_text s.op (s.operand ∷ [])) good (sym (giving-lines n u.blocks) ∙ s.is) in
+          let l = giving-at (LineGood u) n (lines_of u.blocks) (pure_text s.op (s.operand ∷ [])) good (sym (giving-lines n u.blocks) ∙ s.is) in
           step-typed n s.op s.operand s.from r l (go s.operand.value s.from s.reaches) s.steps
 
   -- ---- what a line gives
@@ -281,13 +248,13 @@ module _ (u : UnitText) (formed : IsFormed u) (good : Each (IsGood u) (lines_of 
   -- ---- a line that gives a name
 
   -- what is reached under it, by the line
-  pub line-reached : (l : LineText) (n : List ℕ) → IsGood u l → l.result ≡ Some n → (reached zero u n ≡ None) × ((k : ℕ) → reached (suc k) u n ≡ further (reached k u) (Some l.inst))
+  pub line-reached : (l : LineText) (n : List ℕ) → LineGood u l → l.result ≡ Some n → (reached zero u n ≡ None) × ((k : ℕ) → reached (suc k) u n ≡ further (reached k u) (Some l.inst))
   line-reached l n g r =
       let none : as_argument u n ≡ None = ap (option_map as_reached) (no-argument n 0 u.args (g.1 n r).0) in
       (none, λ k. ap (λ o. or_else o (further (reached k u) (inst_giving n u.blocks))) none ∙ ap (further (reached k u)) (giving-lines n u.blocks ∙ (g.1 n r).1))
 
   -- and nothing where it gives none
-  pub line-none : (l : LineText) (n : List ℕ) → IsGood u l → l.result ≡ Some n → ((k : ℕ) → further (reached k u) (Some l.inst) ≡ None) → (k : ℕ) → reached k u n ≡ None
+  pub line-none : (l : LineText) (n : List ℕ) → LineGood u l → l.result ≡ Some n → ((k : ℕ) → further (reached k u) (Some l.inst) ≡ None) → (k : ℕ) → reached k u n ≡ None
   line-none l n g r h zero = (line-reached l n g r).0
   line-none l n g r h (suc k) = (line-reached l n g r).1 k ∙ h k
 

@@ -7,7 +7,7 @@ use Rattle.lh_types.specs.Types.{TypeTree}
 use Rattle.lh_types.specs.declared.op.Op.{Op}
 use Rattle.lh_types.specs.declared.ty.NoMemory.{NoMemory}
 use Rattle.lh_unit.specs.ById.{maybe_id}
-use Rattle.lh_unit.specs.Contents.{InstText, phi_text, LineText, BlockText, ArgText, UnitText, args_define}
+use Rattle.lh_unit.specs.Contents.{InstText, phi_text, LineText, ArgText, UnitText, args_define}
 use Rattle.lh_names.specs.Names.{same_name}
 use Rattle.lh_unit.specs.Hierarchy.{lines_of}
 use Rattle.lh_unit.specs.Reads.{args_repeat}
@@ -28,26 +28,28 @@ use Rattle.lh_flat.specs.declared.flat.FlatInst.{FlatInst}
 use Rattle.lh_flat.specs.declared.flat.FlatBlock.{FlatBlock}
 use Rattle.lh_flat.specs.declared.flat.Merge.{Merge}
 use Rattle.lh_flat.specs.declared.flat.Flat.{Flat}
-use Rattle.lh_flat.specs.Flat.{FlatBlockText, MergeText, with_merge, flat_unit}
+use Rattle.lh_flat.specs.Flat.{MergeText, with_merge, flat_unit, as_block}
 use Rattle.lh_flat.specs.Reads.{merge_text, flat_line_text, flat_blocks_text, flat_text}
 use Rattle.lh_flat.specs.Below.{ValuesBelow, InstBelow, BlockBelow, IdsBelow}
 use Rattle.lh_region.specs.Forms.{Names}
 use Rattle.lh_parts.specs.declared.table.PartTable.{PartTable}
 use Rattle.lh_parts.specs.declared.step.PartStep.{PartStep as IdStep}
-use Rattle.lh_parts.specs.Steps.{step_in, if_result, with_result, step_giving, step_results, insts_in, whole_of, argument_from, argument_of, part_found, stepped, StepWithin, HasSteps, step_at, part_at, IsPartTable}
+use Rattle.lh_parts.specs.Steps.{step_in, if_result, with_result, step_giving, step_results, insts_in, argument_from, argument_of, part_found, stepped, StepWithin, HasSteps, step_at, part_at, IsPartTable}
+use Rattle.lh_term.specs.Parts.{whole_argument}
 use Rattle.lh_parts.specs.Resolving.{StepsLeadAlong}
 use Rattle.lh_parts.proofs.Resolved.{giving-within}
 use Rattle.lh_parts.proofs.Tables.{results-append}
 use Rattle.lh_emission.specs.Emitted.{PartStep}
-use Rattle.lh_emission.specs.Reached.{Reached, argument_part, as_argument, further, reached, steps_if, first_steps, steps_in}
-use Rattle.lh_emission.specs.Ways.{whole}
+use Rattle.lh_emission.specs.Reached.{Reached, as_argument, further, reached, steps_if, first_steps, steps_in}
+use Rattle.lh_rows.specs.Known.{argument_part}
+use Rattle.lh_rows.proofs.Sites.{LineGood}
 use Rattle.lh_emission.proofs.Reaching as Reaching
 use Rattle.lh_origin.specs.declared.origin.Origin.{Origin}
 use Rattle.lh_origin.specs.declared.origin.RouteStep.{RouteStep}
-use Rattle.lh_origin.specs.Firsts.{is_the_part, first_result, key_of, kept_for, AreValues, step_texts, texts_along, IsRouteTo}
+use Rattle.lh_origin.specs.Firsts.{is_the_part, first_result, key_of, kept_for, step_texts, texts_along, IsRouteTo}
 use Rattle.lh_origin.specs.Origins.{step_text, route_text, AreStepsOf, IsOrigin}
 use Rattle.lh_origin.proofs.Keeping.{results-values, first-some}
-use Rattle.lh_origin.proofs.Named.{Way, whole_way, with_step, extended, way_by, way_found, way_part, way-part, seen, seen-none, as_reached, IsGood, giving-at, by_step, inst-given, line-reached, line-none, argument-alone}
+use Rattle.lh_origin.proofs.Named.{Way, whole_way, with_step, extended, way_by, way_found, way_part, way-part, seen, seen-none, as_reached, giving-at, by_step, inst-given, line-reached, line-none, argument-alone}
 
 -- ---- arguments
 
@@ -84,7 +86,7 @@ module _ (f : Naming) (n : ℕ) (apart : (v w : ℕ) → v < n → w < n → f.v
       let no : nat_eq a.value.0 v ≡ false = not_true (nat_eq a.value.0 v) (λ t.
       let z : false ≡ true = sym b.0 ∙ ap (λ k. args_define (f.value_name k) seen) (nat_eq-is a.value.0 v t) ∙ d in cc) in
       let rest = none-later (seen ++ arg_text f a ∷ []) (i + 1) v xs b.1 (define-more (f.value_name v) seen (arg_text f a) d) in
-      ap (λ o. or_else o (if nat_eq a.value.0 v then option_map (whole_of i) (carried a.ty) else None)) rest ∙ ap (λ c. if c then option_map (whole_of i) (carried a.ty) else None) no
+      ap (λ o. or_else o (if nat_eq a.value.0 v then option_map (whole_argument i) (carried a.ty) else None)) rest ∙ ap (λ c. if c then option_map (whole_argument i) (carried a.ty) else None) no
 
   argument-ids : (seen : List ArgText) (i v : ℕ) (xs : List Arg) → v < n → Each (λ (a : Arg). a.value.0 < n) xs → args_repeat seen (map (arg_text f) xs) ≡ false
       → argument_part (f.value_name v) i (map (arg_text f) xs) ≡ argument_from i xs v
@@ -101,27 +103,23 @@ module _ (f : Naming) (n : ℕ) (apart : (v w : ℕ) → v < n → w < n → f.v
       test = same-ids a.value.0 v w.0 l
 
       here : Option Part
-      here = option_map (whole_of i) (carried a.ty)
+      here = option_map (whole_argument i) (carried a.ty)
 
       by : Same a.value.0 v → args_repeat (seen ++ arg_text f a ∷ []) (map (arg_text f) xs) ≡ false → argument_part (f.value_name v) (i + 1) (map (arg_text f) xs) ≡ argument_from (i + 1) xs v
           → argument_part (f.value_name v) i (map (arg_text f) (a ∷ xs)) ≡ argument_from i (a ∷ xs) v
       by (same e) r g =
           let yes : nat_eq a.value.0 v ≡ true = ap (λ k. nat_eq k v) e ∙ nat_eq-refl v in
           let rest = none-later (seen ++ arg_text f a ∷ []) (i + 1) v xs r (define-last (f.value_name v) seen (arg_text f a) (test ∙ yes)) in
-          ap (λ c. if c then option_map (whole i) (carried a.ty) else argument_part (f.value_name v) (i + 1) (map (arg_text f) xs)) (test ∙ yes)
-          ∙ sym (ap (λ o. or_else o (if nat_eq a.value.0 v then option_map (whole_of i) (carried a.ty) else None)) rest ∙ ap (λ c. if c then option_map (whole_of i) (carried a.ty) else None) yes)
+          ap (λ c. if c then option_map (whole_argument i) (carried a.ty) else argument_part (f.value_name v) (i + 1) (map (arg_text f) xs)) (test ∙ yes)
+          ∙ sym (ap (λ o. or_else o (if nat_eq a.value.0 v then option_map (whole_argument i) (carried a.ty) else None)) rest ∙ ap (λ c. if c then option_map (whole_argument i) (carried a.ty) else None) yes)
       by (other e) r g =
           let no : nat_eq a.value.0 v ≡ false = nat_eq-other a.value.0 v e in
-          ap (λ c. if c then option_map (whole i) (carried a.ty) else argument_part (f.value_name v) (i + 1) (map (arg_text f) xs)) (test ∙ no)
+          ap (λ c. if c then option_map (whole_argument i) (carried a.ty) else argument_part (f.value_name v) (i + 1) (map (arg_text f) xs)) (test ∙ no)
           ∙ g
           ∙ or-none (argument_from (i + 1) xs v)
-          ∙ sym (ap (λ c. or_else (argument_from (i + 1) xs v) (if c then option_map (whole_of i) (carried a.ty) else None)) no)
+          ∙ sym (ap (λ c. or_else (argument_from (i + 1) xs v) (if c then option_map (whole_argument i) (carried a.ty) else None)) no)
 
 -- ---- lines
-
--- a block of a flat text as one of a process
-abbrev as_block : FlatBlockText → BlockText
-as_block b = record { label = Some b.label; lines = with_merge b.merge b.lines }
 
 -- the lines of blocks from place k on
 abbrev lines_from : Naming → (k : ℕ) → List FlatBlock → List LineText
@@ -272,15 +270,15 @@ module _ (t : Flat) (f : Naming) (name : UnitName) (names : Names t f) (below : 
   abbrev way_to : ℕ → Option Way
   way_to v = way_found (suc (length (lines_of u.blocks))) F A v
 
-  good-lines : Each (IsGood u) (lines_of u.blocks)
+  good-lines : Each (LineGood u) (lines_of u.blocks)
   good-lines =
       let formed = names.formed name in
       let new : results_repeat u.args [] (lines_of u.blocks) ≡ false = formed.new_results in
-      Each-zip (InstIsSound u) (IsFirst u.args (lines_of u.blocks)) (IsGood u) (λ l a b. (a, b)) (lines_of u.blocks) formed.lines
+      Each-zip (InstIsSound u) (IsFirst u.args (lines_of u.blocks)) (LineGood u) (λ l a b. (a, b)) (lines_of u.blocks) formed.lines
       (each-first u.args (lines_of u.blocks) [] (lines_of u.blocks) refl new)
 
   record IsGoodInst (l : FlatInst) : Type 0 where
-    text : IsGood u (flat_line_text f l)
+    text : LineGood u (flat_line_text f l)
     result : ValuesBelow t.values (maybe_id l.result)
     step : StepWithin t.values l.result (step_in l.inst)
 
@@ -294,11 +292,11 @@ module _ (t : Flat) (f : Naming) (name : UnitName) (names : Names t f) (below : 
 
   good-insts : Each IsGoodInst insts
   good-insts =
-      Each-zip (λ (l : FlatInst). IsGood u (flat_line_text f l) × ValuesBelow t.values (maybe_id l.result)) (λ (l : FlatInst). StepWithin t.values l.result (step_in l.inst)) IsGoodInst
+      Each-zip (λ (l : FlatInst). LineGood u (flat_line_text f l) × ValuesBelow t.values (maybe_id l.result)) (λ (l : FlatInst). StepWithin t.values l.result (step_in l.inst)) IsGoodInst
       (λ l a b. record { text = a.0; result = a.1; step = b }) insts
-      (Each-zip (λ (l : FlatInst). IsGood u (flat_line_text f l)) (λ (l : FlatInst). ValuesBelow t.values (maybe_id l.result))
-      (λ (l : FlatInst). IsGood u (flat_line_text f l) × ValuesBelow t.values (maybe_id l.result)) (λ l a b. (a, b)) insts
-      (lines-each f (IsGood u) 0 t.blocks good-lines) (results-below t.blocks below.blocks))
+      (Each-zip (λ (l : FlatInst). LineGood u (flat_line_text f l)) (λ (l : FlatInst). ValuesBelow t.values (maybe_id l.result))
+      (λ (l : FlatInst). LineGood u (flat_line_text f l) × ValuesBelow t.values (maybe_id l.result)) (λ l a b. (a, b)) insts
+      (lines-each f (LineGood u) 0 t.blocks good-lines) (results-below t.blocks below.blocks))
       has_steps.within
 
   -- what an instruction gives
@@ -403,14 +401,14 @@ module _ (t : Flat) (f : Naming) (name : UnitName) (names : Names t f) (below : 
     insts-first [] h = refl
     insts-first (l ∷ ls) h = line-first l h.0 (first_steps g p (map (flat_line_text f) ls)) (step_results ls) (insts-first ls h.1)
 
-    merge-first : (m : Option MergeText) (ls : List LineText) → Each (IsGood u) (with_merge m ls) → first_steps g p (with_merge m ls) ≡ first_steps g p ls
+    merge-first : (m : Option MergeText) (ls : List LineText) → Each (LineGood u) (with_merge m ls) → first_steps g p (with_merge m ls) ≡ first_steps g p ls
     merge-first None ls h = refl
     merge-first (Some m) ls h =
         let none : g m.value ≡ None =
         line-none u (names.formed name) good-lines (record { result = Some m.value; inst = phi_text m.ty m.edges }) m.value h.0 refl (λ k. refl) (length (lines_of u.blocks)) in
         ap (λ o. or_else (steps_if p o) (first_steps g p ls)) none
 
-    blocks-first : (k : ℕ) (bs : List FlatBlock) → Each (IsGood u) (lines_from f k bs) → Each IsGoodInst (insts_in bs)
+    blocks-first : (k : ℕ) (bs : List FlatBlock) → Each (LineGood u) (lines_from f k bs) → Each IsGoodInst (insts_in bs)
         → option_map texts (first_steps g p (lines_from f k bs)) ≡ first_way way_to p (step_results (insts_in bs))
     blocks-first k [] h i = refl
     blocks-first k (b ∷ bs) h i =
@@ -419,9 +417,9 @@ module _ (t : Flat) (f : Naming) (name : UnitName) (names : Names t f) (below : 
         ap (option_map texts) (first-append g p own (lines_from f (k + 1) bs))
         ∙ or-map (first_steps g p own) (first_steps g p (lines_from f (k + 1) bs))
         ∙ ap (λ o. or_else (option_map texts o) (option_map texts (first_steps g p (lines_from f (k + 1) bs)))) (merge-first merge (map (flat_line_text f) b.insts)
-        (Each-left (IsGood u) own (lines_from f (k + 1) bs) h))
+        (Each-left (LineGood u) own (lines_from f (k + 1) bs) h))
         ∙ ap (λ o. or_else o (option_map texts (first_steps g p (lines_from f (k + 1) bs)))) (insts-first b.insts (Each-left IsGoodInst b.insts (insts_in bs) i))
-        ∙ ap (or_else (first_way way_to p (step_results b.insts))) (blocks-first (k + 1) bs (Each-right (IsGood u) own (lines_from f (k + 1) bs) h) (Each-right IsGoodInst b.insts (insts_in bs) i))
+        ∙ ap (or_else (first_way way_to p (step_results b.insts))) (blocks-first (k + 1) bs (Each-right (LineGood u) own (lines_from f (k + 1) bs) h) (Each-right IsGoodInst b.insts (insts_in bs) i))
         ∙ sym (ap (first_way way_to p) (results-append b.insts (insts_in bs)) ∙ way-append way_to p (step_results b.insts) (step_results (insts_in bs)))
 
     steps-first : texts (steps_in u p) ≡ unwrap_or (first_way way_to p (step_results insts)) []
@@ -467,7 +465,7 @@ module _ (t : Flat) (f : Naming) (name : UnitName) (names : Names t f) (below : 
     abbrev steps_to : ValueId → Option (List (Op × TypeTree))
     steps_to v = option_map way_steps (way_to v.0)
 
-    first-is : (p : Part) (vs : List ValueId) → AreValues t.values vs → first_way way_to p vs ≡ option_and_then steps_to (first_result parts vs p)
+    first-is : (p : Part) (vs : List ValueId) → ValuesBelow t.values vs → first_way way_to p vs ≡ option_and_then steps_to (first_result parts vs p)
     first-is p [] h = refl
     first-is p (v ∷ vs) h = at (way_to v.0) refl (first-is p vs h.1)
       where
@@ -522,8 +520,8 @@ module _ (f : Naming) (o : Origin) (is : IsOrigin f o) (name : UnitName) (p : Pa
   abbrev first : Option ValueId
   first = first_result o.parts.now.parts.items (kept_for o.firsts p) p
 
-  all-values : AreValues o.flat.now.values (step_results (insts_in o.flat.now.blocks))
-  all-values = subst (AreValues o.flat.now.values) is.table.results (subst (λ n. AreValues n o.parts.now.steps.results.items) is.table.long (results-values o.flat.now o.parts.now is.steps is.table))
+  all-values : ValuesBelow o.flat.now.values (step_results (insts_in o.flat.now.blocks))
+  all-values = subst (ValuesBelow o.flat.now.values) is.table.results (subst (λ n. ValuesBelow n o.parts.now.steps.results.items) is.table.long (results-values o.flat.now o.parts.now is.steps is.table))
 
   all-steps : map step_text (steps_in (flat_unit name (flat_text f o.flat.now)) p)
       ≡ unwrap_or (option_and_then (λ (v : ValueId). option_map way_steps (way_to o.flat.now f name is.names is.below is.steps v.0)) first) []

@@ -12,7 +12,8 @@ use Rattle.lh_parts.specs.Steps.{step_giving, insts_in, argument_of, stepped, pa
 use Rattle.lh_parts.specs.Resolving.{StepsLeadAlong}
 use Rattle.lh_parts.proofs.Following.{StepsLeadAlong-push}
 use Rattle.lh_parts.proofs.Resolved.{giving-within}
-use Rattle.lh_origin.specs.Firsts.{AreValues, IsWayBack}
+use Rattle.lh_origin.specs.Firsts.{IsWayBack}
+use Rattle.lh_flat.specs.Below.{ValuesBelow}
 
 -- ---- as many steps as values are enough
 
@@ -152,14 +153,14 @@ module _ (f : ℕ → Option PartStep) (a : ℕ → Option Part) where
 -- the values so far, and how many steps may be left
 pub record GoingBack (t : Flat) (steps : List (Option PartStep)) (from : ℕ) (way : List ValueId) (v : ℕ) : Type 0 where
   pub is_in : v < t.values
-  pub within : AreValues t.values way
+  pub within : ValuesBelow t.values way
   pub leads : StepsLeadAlong steps from way v
   pub left : ℕ
   pub together : left + length way ≡ t.values
   pub part : Part
   pub found : part_found left (step_giving (insts_in t.blocks)) (argument_of t.args) v ≡ Some part
 
-pub values-push : (n : ℕ) (vs : List ValueId) (v : ValueId) → AreValues n vs → v.0 < n → AreValues n (vs ++ v ∷ [])
+pub values-push : (n : ℕ) (vs : List ValueId) (v : ValueId) → ValuesBelow n vs → v.0 < n → ValuesBelow n (vs ++ v ∷ [])
 values-push n [] v h l = (l, tt)
 values-push n (w ∷ vs) v h l = (h.0, values-push n vs v h.1 l)
 
@@ -209,7 +210,7 @@ back-next t table from way now v s h i b e n =
     record {
       back = record {
         is_in = giving-within t.values (insts_in t.blocks) v.0 s h.within given;
-        within = subst (AreValues t.values) (sym n) (values-push t.values way v b.within b.is_in);
+        within = subst (ValuesBelow t.values) (sym n) (values-push t.values way v b.within b.is_in);
         leads = subst (λ (w : List ValueId). StepsLeadAlong table.steps.given.items from w s.from.0) (sym n) (StepsLeadAlong-push table.steps.given.items from way v s b.leads e);
         left = k.0;
         together = omega (arith, b.together, k.2, long);
@@ -221,4 +222,4 @@ back-next t table from way now v s h i b e n =
 
 pub back-end : (t : Flat) (table : PartTable) (from : ℕ) (way : List ValueId) (v : ℕ) → IsPartTable t table → GoingBack t table.steps.given.items from way v → step_at table.steps.given.items v ≡ None
     → IsWayBack table.steps.given.items from way
-back-end t table from way v i b e = record { end = v; within = subst (λ (n : ℕ). AreValues n way) (sym i.long_steps) b.within; leads = b.leads; stops = e }
+back-end t table from way v i b e = record { end = v; within = subst (λ (n : ℕ). ValuesBelow n way) (sym i.long_steps) b.within; leads = b.leads; stops = e }

@@ -1,13 +1,13 @@
 -- The first results of steps to each part, by argument, lowest bit and extent; and the steps that lead to a value.
-use Rattle.std.specs.Prelude.{◌≡◌, ℕ, ◌<◌, List, [], ◌∷◌, ◌++◌, length, Bool, false, ◌&&◌, nat_eq, if◌then◌else◌, unwrap_or, Option, Some, None}
+use Rattle.std.specs.Prelude.{◌≡◌, ℕ, List, [], ◌∷◌, ◌++◌, length, Bool, false, ◌&&◌, nat_eq, if◌then◌else◌, unwrap_or, Option, Some, None}
 use Rattle.std.specs.HashMap.{HashMap, get}
 use Rattle.lh_types.specs.Types.{TypeTree}
 use Rattle.lh_types.specs.declared.op.Op.{Op}
-use Rattle.lh_unit.specs.Within.{Each}
 use Rattle.lh_unit.specs.declared.inst.ValueId.{ValueId}
 use Rattle.lh_term.specs.Same.{same_part}
 use Rattle.lh_term.specs.Parts.{extent_of}
 use Rattle.lh_term.specs.declared.part.Part.{Part}
+use Rattle.lh_flat.specs.Below.{ValuesBelow}
 use Rattle.lh_parts.specs.Steps.{step_at, part_at}
 use Rattle.lh_parts.specs.Resolving.{StepsLeadAlong}
 use Rattle.lh_parts.specs.declared.step.PartStep.{PartStep}
@@ -39,13 +39,9 @@ key_of p = (p.arg, p.lo, extent_of p.ty)
 abbrev pub kept_for : {S : Type 0} → HashMap (ℕ × ℕ × ℕ) (List ValueId) S → Part → List ValueId
 kept_for firsts p = kept_at firsts (key_of p)
 
--- these are values
-abbrev pub AreValues : ℕ → List ValueId → Type 0
-AreValues n vs = Each (λ (v : ValueId). v.0 < n) vs
-
 -- what is kept are values, and the first one of each part is the first of these results
 pub record KeepsFirsts {S : Type 0} (parts : List (Option Part)) (results : List ValueId) (firsts : HashMap (ℕ × ℕ × ℕ) (List ValueId) S) : Type 0 where
-  pub within : (k : ℕ × ℕ × ℕ) → AreValues (length parts) (kept_at firsts k)
+  pub within : (k : ℕ × ℕ × ℕ) → ValuesBelow (length parts) (kept_at firsts k)
   pub first : (p : Part) → first_result parts (kept_for firsts p) p ≡ first_result parts results p
 
 -- one more value at a key
@@ -54,7 +50,7 @@ pub record AddsAt {S : Type 0} (key : ℕ × ℕ × ℕ) (v : ValueId) (old new 
 
 -- what is kept are values
 abbrev pub KeepValues : {S : Type 0} → ℕ → HashMap (ℕ × ℕ × ℕ) (List ValueId) S → Type 0
-KeepValues n firsts = (k : ℕ × ℕ × ℕ) → AreValues n (kept_at firsts k)
+KeepValues n firsts = (k : ℕ × ℕ × ℕ) → ValuesBelow n (kept_at firsts k)
 
 -- one more result is kept
 abbrev pub KeepsOneMore : {S : Type 0} → List (Option Part) → ValueId → (old new : HashMap (ℕ × ℕ × ℕ) (List ValueId) S) → Type 0
@@ -79,7 +75,7 @@ texts_along steps (v ∷ more) = texts_along steps more ++ step_texts (step_at s
 -- the values on the way back along steps from a value, which ends where there is no step
 pub record IsWayBack (steps : List (Option PartStep)) (from : ℕ) (way : List ValueId) : Type 0 where
   pub end : ℕ
-  pub within : AreValues (length steps) way
+  pub within : ValuesBelow (length steps) way
   pub leads : StepsLeadAlong steps from way end
   pub stops : step_at steps end ≡ None
 

@@ -6,6 +6,7 @@ ghost use Rattle.lh_flat.specs.Flat.{flat_unit};
 ghost use Rattle.lh_flat.specs.Reads.{flat_text};
 ghost use Rattle.lh_parts.specs.Steps.{step_at, part_at, HasSteps, IsPartTable};
 ghost use Rattle.lh_emission.specs.Reached.{steps_in};
+ghost use Rattle.lh_flat.specs.Below.{ValuesBelow};
 ghost use Rattle.lh_origin.specs.Firsts as spec;
 ghost use Rattle.lh_origin.specs.Origins.{route_text, IsOrigin, AreStepsOf};
 
@@ -130,7 +131,7 @@ impl<'f> Origin<'f> {
 
 /// The steps of these values, the last one first.
 fn route_along(alloc: Global, parts: &PartTable, mut way: Vec<ValueId>) -> Result<Route, NoMemory>
-    requires { spec.AreValues (length parts.now.steps.given.items) way.items }
+    requires { ValuesBelow (length parts.now.steps.given.items) way.items }
     ensures { IfOk result (λ route. map route_text route ≡ spec.texts_along parts.now.steps.given.items way.items) }
 {
     let mut route = Route::new(alloc);
@@ -154,7 +155,7 @@ fn push_step(route: &mut Route, parts: &PartTable, value: ValueId) -> Result<(),
 
 /// The first of these results for each part.
 fn firsts_among(alloc: Global, parts: &PartTable, results: &[ValueId]) -> Result<Firsts, NoMemory>
-    requires { spec.AreValues (length parts.now.parts.items) results.now }
+    requires { ValuesBelow (length parts.now.parts.items) results.now }
     ensures { IfOk result (λ firsts. spec.KeepsFirsts parts.now.parts.items results.now firsts) }
 {
     let mut firsts = Firsts::new(alloc);
@@ -225,7 +226,7 @@ fn kept_for<'m>(firsts: &'m Firsts, part: &Part) -> &'m [ValueId]
 
 /// The first of these values that is the part.
 fn first_of(parts: &PartTable, values: &[ValueId], part: &Part) -> Option<ValueId>
-    requires { spec.AreValues (length parts.now.parts.items) values.now }
+    requires { ValuesBelow (length parts.now.parts.items) values.now }
     ensures { result ≡ spec.first_result parts.now.parts.items values.now part.now }
 {
     let mut left = values;

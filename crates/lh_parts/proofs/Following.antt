@@ -9,7 +9,8 @@ use Rattle.lh_unit.proofs.Lists.{Same, same, other, same_or, nat_eq-refl, nat_eq
 use Rattle.lh_term.specs.declared.part.Part.{Part}
 use Rattle.lh_parts.specs.declared.step.PartStep.{PartStep}
 use Rattle.lh_parts.specs.Steps.{stepped, part_by, part_found, IsFound, step_at, part_at}
-use Rattle.lh_parts.specs.Resolving.{part_by_step, settled, is_met, is_on, comes_from, InPlace, StepsFrom, CanStep, AreWithin, AreFound, Steppable, StepsLeadAlong, AreNew, GoesBack, IsSettled, StepsAreFollowed}
+use Rattle.lh_parts.specs.Resolving.{part_by_step, settled, is_met, is_on, comes_from, InPlace, StepsFrom, CanStep, AreFound, Steppable, StepsLeadAlong, AreNew, GoesBack, IsSettled, StepsAreFollowed}
+use Rattle.lh_flat.specs.Below.{ValuesBelow}
 use Rattle.lh_types.proofs.Tests.{or_false_left, or_false_right, not_both}
 
 -- ---- tests
@@ -140,7 +141,7 @@ fewer-unmet (false ∷ more) (suc x) l e = omega (arith, fewer-unmet more x (ome
 
 -- values on a way are in place
 pub within-way : (steps : List (Option PartStep)) (v : ℕ) (way : List ValueId) (x : ℕ) → ((u : ℕ) (s : PartStep) → step_at steps u ≡ Some s → s.from.0 < length steps) → v < length steps
-    → StepsLeadAlong steps v way x → AreWithin (length steps) way
+    → StepsLeadAlong steps v way x → ValuesBelow (length steps) way
 within-way steps v [] x f l h = tt
 within-way steps v (w ∷ more) x f l h = (subst (λ (k : ℕ). k < length steps) (sym h.0) l, within-way steps h.1.0.from.0 more x f (f v h.1.0 h.1.1) h.1.2)
 
@@ -186,7 +187,7 @@ pub settled-last : (steps : List (Option PartStep)) (parts : List (Option Part))
 settled-last steps parts [] w = refl
 settled-last steps parts (x ∷ more) w = ap (λ (rest : List (Option Part)). set rest x.0 (part_by_step rest (step_at steps x.0))) (settled-last steps parts more w)
 
-pub within-last : (n : ℕ) (way : List ValueId) (w : ValueId) → AreWithin n (way ++ w ∷ []) → AreWithin n way × (w.0 < n)
+pub within-last : (n : ℕ) (way : List ValueId) (w : ValueId) → ValuesBelow n (way ++ w ∷ []) → ValuesBelow n way × (w.0 < n)
 within-last n [] w h = (tt, h.0)
 within-last n (x ∷ more) w h = let r = within-last n more w h.1 in ((h.0, r.0), r.1)
 
@@ -194,13 +195,13 @@ within-last n (x ∷ more) w h = let r = within-last n more w h.1 in ((h.0, r.0)
 pub record Forth (steps : List (Option PartStep)) (start parts : List (Option Part)) (all way : List ValueId) : Type 0 where
   pub in_place : InPlace steps parts
   pub found : Steppable steps parts
-  pub within : AreWithin (length steps) way
+  pub within : ValuesBelow (length steps) way
   pub made : settled steps parts way ≡ settled steps start all
 
 pub Forth-next : (steps : List (Option PartStep)) (start parts new : List (Option Part)) (all way more : List ValueId) (w : ValueId) → way ≡ more ++ w ∷ []
     → new ≡ set parts w.0 (part_by_step parts (step_at steps w.0)) → Forth steps start parts all way → Forth steps start new all more
 Forth-next steps start parts new all way more w e q f =
-    let r = within-last (length steps) more w (subst (AreWithin (length steps)) e f.within) in
+    let r = within-last (length steps) more w (subst (ValuesBelow (length steps)) e f.within) in
     record {
       in_place = record { long = ap length q ∙ length-set parts w.0 (part_by_step parts (step_at steps w.0)) ∙ f.in_place.long; within = f.in_place.within };
       found = record {
@@ -269,7 +270,7 @@ pub length-settled : (steps : List (Option PartStep)) (ps : List (Option Part)) 
 length-settled steps ps [] = refl
 length-settled steps ps (w ∷ more) = length-set (settled steps ps more) w.0 (part_by_step (settled steps ps more) (step_at steps w.0)) ∙ length-settled steps ps more
 
-found-settled : (steps : List (Option PartStep)) (base ps : List (Option Part)) (way : List ValueId) → AreWithin (length ps) way → AreFound steps base ps → AreFound steps base (settled steps ps way)
+found-settled : (steps : List (Option PartStep)) (base ps : List (Option Part)) (way : List ValueId) → ValuesBelow (length ps) way → AreFound steps base ps → AreFound steps base (settled steps ps way)
 found-settled steps base ps [] l f = f
 found-settled steps base ps (w ∷ more) l f = found-set steps base (settled steps ps more) w.0 (subst (λ (k : ℕ). w.0 < k) (sym (length-settled steps ps more)) l.0)
     (found-settled steps base ps more l.1 f)
@@ -290,7 +291,7 @@ Has steps ps w = part_at ps w.0 ≡ part_by_step ps (step_at steps w.0)
 
 -- a way to an end that is not on it
 settled-each : (steps : List (Option PartStep)) (met : List Bool) (ps : List (Option Part)) (v : ℕ) (way : List ValueId) (x : ℕ) → StepsLeadAlong steps v way x → AreNew met way
-    → AreWithin (length ps) way → is_on way x ≡ false → Each (Has steps (settled steps ps way)) way
+    → ValuesBelow (length ps) way → is_on way x ≡ false → Each (Has steps (settled steps ps way)) way
 unfolding Has
 settled-each steps met ps v [] x h n l o = tt
 settled-each steps met ps v (w ∷ more) x h n l o =
@@ -340,7 +341,7 @@ each-of P (w ∷ more) f = (f w (on_itself w more), each-of P more (λ u on. f u
 record Back (steps : List (Option PartStep)) (base ps : List (Option Part)) (ms ns : List Bool) (v : ℕ) (way : List ValueId) : Type 0 where
   settled_so_far : IsSettled steps base ps ms
   back : GoesBack steps ms v ns way
-  within : AreWithin (length ps) way
+  within : ValuesBelow (length ps) way
 
 on-none : (steps : List (Option PartStep)) (base ps : List (Option Part)) (ms ns : List Bool) (v : ℕ) (way : List ValueId) → Back steps base ps ms ns v way → (u : ℕ) → is_on way u ≡ true
     → part_at ps u ≡ None
@@ -402,7 +403,7 @@ stepped-after steps base ps ms ns v way b u s e m = by (is_on way b.back.end) re
         (on-none steps base ps ms ns v way b u oe ∙ ap (λ (x : Option Part). option_and_then (λ (p : Part). stepped p s) x) (sym (on-none steps base ps ms ns v way b s.from.0 (round ce oe))))
 
 -- Following the steps of a value keeps all right.
-pub follows : (steps : List (Option PartStep)) (ps : List (Option Part)) (ms ns : List Bool) (v : ℕ) (way : List ValueId) → AreWithin (length ps) way → GoesBack steps ms v ns way
+pub follows : (steps : List (Option PartStep)) (ps : List (Option Part)) (ms ns : List Bool) (v : ℕ) (way : List ValueId) → ValuesBelow (length ps) way → GoesBack steps ms v ns way
     → StepsAreFollowed steps v ps (settled steps ps way) ms ns
 follows steps ps ms ns v way l g base h =
     let b : Back steps base ps ms ns v way = record { settled_so_far = h; back = g; within = l } in (
@@ -465,12 +466,12 @@ pub follow-found : (ss ts : List (Option PartStep)) (ps qs : List (Option Part))
 follow-found ss ts ps qs e f s = subst (λ (x : List (Option PartStep)). Steppable x qs) (sym e) (subst (Steppable ss) (sym f) s)
 
 pub follow-within : (ss ts : List (Option PartStep)) (v : ℕ) (ps : List (Option Part)) (ms ns : List Bool) (way : List ValueId) → ts ≡ ss → InPlace ss ps → v < length ss → GoesBack ss ms v ns way
-    → AreWithin (length ts) way
-follow-within ss ts v ps ms ns way e p l g = subst (λ (x : List (Option PartStep)). AreWithin (length x) way) (sym e) (within-way ss v way g.end p.within l g.leads)
+    → ValuesBelow (length ts) way
+follow-within ss ts v ps ms ns way e p l g = subst (λ (x : List (Option PartStep)). ValuesBelow (length x) way) (sym e) (within-way ss v way g.end p.within l g.leads)
 
 pub follow-follows : (ss ts : List (Option PartStep)) (v : ℕ) (ps qs rs : List (Option Part)) (ms ns os : List Bool) (way : List ValueId) → ts ≡ ss → InPlace ss ps → v < length ss
     → GoesBack ss ms v ns way → qs ≡ ps → rs ≡ settled ts qs way → os ≡ ns → StepsAreFollowed ss v ps rs ms os
 follow-follows ss ts v ps qs rs ms ns os way e p l g f r o =
     subst (λ (x : List Bool). StepsAreFollowed ss v ps rs ms x) (sym o)
     (subst (λ (x : List (Option Part)). StepsAreFollowed ss v ps x ms ns) (sym (r ∙ ap (λ (x : List (Option PartStep)). settled x qs way) e ∙ ap (λ (x : List (Option Part)). settled ss x way) f))
-    (follows ss ps ms ns v way (subst (λ (k : ℕ). AreWithin k way) (sym p.long) (within-way ss v way g.end p.within l g.leads)) g))
+    (follows ss ps ms ns v way (subst (λ (k : ℕ). ValuesBelow k way) (sym p.long) (within-way ss v way g.end p.within l g.leads)) g))

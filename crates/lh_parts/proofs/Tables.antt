@@ -11,7 +11,8 @@ use Rattle.lh_term.specs.declared.part.Part.{Part}
 use Rattle.lh_flat.specs.declared.flat.FlatInst.{FlatInst}
 use Rattle.lh_flat.specs.declared.flat.FlatBlock.{FlatBlock}
 use Rattle.lh_parts.specs.declared.step.PartStep.{PartStep}
-use Rattle.lh_parts.specs.Steps.{step_in, if_result, step_giving, with_result, step_results, insts_in, whole_of, argument_from, StepWithin, step_at, part_at}
+use Rattle.lh_parts.specs.Steps.{step_in, if_result, step_giving, with_result, step_results, insts_in, argument_from, StepWithin, step_at, part_at}
+use Rattle.lh_term.specs.Parts.{whole_argument}
 use Rattle.lh_types.specs.Types.{IsData}
 use Rattle.lh_parts.specs.Resolving.{with_step, with_steps, with_part, with_args, StepsCarry, PartsCarry}
 
@@ -96,13 +97,13 @@ length-part ps w (Some p) = length-set ps w (Some p)
 
 pub length-args : (ps : List (Option Part)) (k : ℕ) (args : List Arg) → length (with_args ps k args) ≡ length ps
 length-args ps k [] = refl
-length-args ps k (a ∷ more) = length-args (with_part ps a.value.0 (option_map (whole_of k) (carried a.ty))) (k + 1) more ∙ length-part ps a.value.0 (option_map (whole_of k) (carried a.ty))
+length-args ps k (a ∷ more) = length-args (with_part ps a.value.0 (option_map (whole_argument k) (carried a.ty))) (k + 1) more ∙ length-part ps a.value.0 (option_map (whole_argument k) (carried a.ty))
 
 pub args-with : (n : ℕ) (ps : List (Option Part)) (k : ℕ) (args : List Arg) (v : ℕ) → length ps ≡ n → Each (λ (a : Arg). a.value.0 < n) args
     → part_at (with_args ps k args) v ≡ or_else (argument_from k args v) (part_at ps v)
 args-with n ps k [] v e h = refl
 args-with n ps k (a ∷ more) v e h =
-    let o = option_map (whole_of k) (carried a.ty) in
+    let o = option_map (whole_argument k) (carried a.ty) in
     args-with n (with_part ps a.value.0 o) (k + 1) more v (length-part ps a.value.0 o ∙ e) h.1
     ∙ ap (or_else (argument_from (k + 1) more v)) (part-with ps a.value.0 o v (subst (λ (m : ℕ). a.value.0 < m) (sym e) h.0))
     ∙ or-assoc (argument_from (k + 1) more v) (if nat_eq a.value.0 v then o else None) (part_at ps v)
@@ -164,10 +165,10 @@ pub record TakingArgs (n : ℕ) (ps : List (Option Part)) (k : ℕ) (rest all : 
   pub carried : PartsCarry ps
 
 pub TakingArgs-arg : (n : ℕ) (ps qs : List (Option Part)) (k : ℕ) (rest all : List Arg) (a : Arg) (more : List Arg) → rest ≡ a ∷ more
-    → qs ≡ with_part ps a.value.0 (option_map (whole_of k) (carried a.ty)) → (PartsCarry ps → PartsCarry qs) → TakingArgs n ps k rest all → TakingArgs n qs (k + 1) more all
+    → qs ≡ with_part ps a.value.0 (option_map (whole_argument k) (carried a.ty)) → (PartsCarry ps → PartsCarry qs) → TakingArgs n ps k rest all → TakingArgs n qs (k + 1) more all
 TakingArgs-arg n ps qs k rest all a more e q f t = record {
   parts = ap (λ (x : List (Option Part)). with_args x (k + 1) more) q ∙ ap (with_args ps k) (sym e) ∙ t.parts;
-  long = ap length q ∙ length-part ps a.value.0 (option_map (whole_of k) (carried a.ty)) ∙ t.long;
+  long = ap length q ∙ length-part ps a.value.0 (option_map (whole_argument k) (carried a.ty)) ∙ t.long;
   within = (subst (Each (λ (x : Arg). x.value.0 < n)) e t.within).1;
   carried = f t.carried;
 }

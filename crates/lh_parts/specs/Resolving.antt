@@ -5,13 +5,13 @@ use Rattle.std.specs.List.{list_any}
 use Rattle.lh_types.specs.Types.{IsData}
 use Rattle.lh_types.specs.declared.part.Range.{Range}
 use Rattle.lh_unit.specs.Typing.{carried}
-use Rattle.lh_unit.specs.Within.{Each}
 use Rattle.lh_unit.specs.declared.inst.ValueId.{ValueId}
 use Rattle.lh_unit.specs.declared.inst.Arg.{Arg}
 use Rattle.lh_term.specs.declared.part.Part.{Part}
 use Rattle.lh_flat.specs.declared.flat.FlatInst.{FlatInst}
 use Rattle.lh_parts.specs.declared.step.PartStep.{PartStep}
-use Rattle.lh_parts.specs.Steps.{step_in, whole_of, range_by, stepped, IsFound, step_at, part_at}
+use Rattle.lh_parts.specs.Steps.{step_in, range_by, stepped, IsFound, step_at, part_at}
+use Rattle.lh_term.specs.Parts.{whole_argument}
 
 -- ---- steps and arguments
 
@@ -33,7 +33,7 @@ with_part parts v None = parts
 -- with the arguments from argument k on
 abbrev pub with_args : List (Option Part) → (k : ℕ) → List Arg → List (Option Part)
 with_args parts k [] = parts
-with_args parts k (a ∷ more) = with_args (with_part parts a.value.0 (option_map (whole_of k) (carried a.ty))) (k + 1) more
+with_args parts k (a ∷ more) = with_args (with_part parts a.value.0 (option_map (whole_argument k) (carried a.ty))) (k + 1) more
 
 -- each step leads to a part of a data type
 abbrev pub StepsCarry : List (Option PartStep) → Type 0
@@ -80,10 +80,6 @@ StepsFrom (Some p) s = IsData p.ty × ((r : Range) → range_by p.ty s.op ≡ So
 -- each step can be taken from the part that is found for the value from which it comes
 abbrev pub CanStep : List (Option PartStep) → (base : List (Option Part)) → Type 0
 CanStep steps base = (v : ℕ) (s : PartStep) (p : Part) → step_at steps v ≡ Some s → IsFound (step_at steps) (part_at base) s.from.0 p → StepsFrom (Some p) s
-
--- each is below n
-abbrev pub AreWithin : (n : ℕ) → List ValueId → Type 0
-AreWithin n way = Each (λ (w : ValueId). w.0 < n) way
 
 -- each part is found by steps from an argument
 abbrev pub AreFound : List (Option PartStep) → (base parts : List (Option Part)) → Type 0

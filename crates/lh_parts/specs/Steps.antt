@@ -16,6 +16,7 @@ use Rattle.lh_unit.specs.declared.inst.Arg.{Arg}
 use Rattle.lh_unit.specs.declared.inst.Inst.{Inst}
 use Rattle.lh_unit.specs.declared.inst.Inst.TheVariants as inst
 use Rattle.lh_term.specs.declared.part.Part.{Part}
+use Rattle.lh_term.specs.Parts.{whole_argument}
 use Rattle.lh_flat.specs.declared.flat.FlatInst.{FlatInst}
 use Rattle.lh_flat.specs.declared.flat.FlatBlock.{FlatBlock}
 use Rattle.lh_flat.specs.declared.flat.Flat.{Flat}
@@ -69,14 +70,10 @@ insts_in blocks = flat_map (λ (b : FlatBlock). b.insts) blocks
 
 -- ---- parts
 
--- the whole of argument k
-abbrev pub whole_of : (k : ℕ) → TypeTree → Part
-whole_of k t = record { arg = k; lo = 0; ty = t }
-
 -- the value as an argument, of these from argument k on, that is a signal
 abbrev pub argument_from : (k : ℕ) → List Arg → ℕ → Option Part
 argument_from k [] v = None
-argument_from k (a ∷ more) v = or_else (argument_from (k + 1) more v) (if nat_eq a.value.0 v then option_map (whole_of k) (carried a.ty) else None)
+argument_from k (a ∷ more) v = or_else (argument_from (k + 1) more v) (if nat_eq a.value.0 v then option_map (whole_argument k) (carried a.ty) else None)
 
 abbrev pub argument_of : List Arg → ℕ → Option Part
 argument_of args v = argument_from 0 args v

@@ -2,7 +2,8 @@
 //! however many steps come from it.
 ghost use Rattle.std.specs.Prelude.{◌≡◌, ◌<◌, ◌++◌, ◌∷◌, [], length, replicate, true, false, slice_set, IfOk, OnOk};
 ghost use Rattle.lh_parts.specs.Steps.{step_at, part_at};
-ghost use Rattle.lh_parts.specs.Resolving.{part_by_step, settled, is_met, comes_from, InPlace, StepsFrom, CanStep, Steppable, AreSteps, AreWithin, GoesBack, IsResolved, StepsAreFollowed};
+ghost use Rattle.lh_parts.specs.Resolving.{part_by_step, settled, is_met, comes_from, InPlace, StepsFrom, CanStep, Steppable, AreSteps, GoesBack, IsResolved, StepsAreFollowed};
+ghost use Rattle.lh_flat.specs.Below.{ValuesBelow};
 
 use crate::step::{PartStep, stepped};
 use crate::table::Steps;
@@ -117,7 +118,7 @@ impl Resolver<'_> {
     fn go_forth(&mut self) -> Result<(), NoMemory>
         requires in_place { InPlace self.old.steps.now self.old.parts.items }
         requires found { Steppable self.old.steps.now self.old.parts.items }
-        requires within { AreWithin (length self.old.steps.now) self.old.way.items }
+        requires within { ValuesBelow (length self.old.steps.now) self.old.way.items }
         ensures steps { OnOk result (self.new.steps.now ≡ self.old.steps.now) }
         ensures met { OnOk result (self.new.met.items ≡ self.old.met.items) }
         ensures empty { OnOk result (self.new.way.items ≡ []) }

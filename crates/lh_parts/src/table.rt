@@ -6,6 +6,7 @@ ghost use Rattle.lh_unit.specs.Typing.{carried};
 ghost use Rattle.lh_unit.specs.Within.{Each};
 ghost use Rattle.lh_unit.specs.declared.inst.Arg.{Arg as Argument};
 ghost use Rattle.lh_flat.specs.declared.flat.FlatInst.{FlatInst as Line};
+ghost use Rattle.lh_term.specs.Parts.{whole_argument};
 ghost use Rattle.lh_parts.specs.Steps as spec;
 ghost use Rattle.lh_parts.specs.Resolving.{with_step, with_steps, with_part, with_args, StepsCarry, PartsCarry};
 
@@ -163,7 +164,7 @@ fn arguments_of(alloc: Global, flat: &Flat) -> Result<Vec<Option<Part>>, NoMemor
 fn put_argument(parts: &mut Vec<Option<Part>>, k: usize, arg: &Arg) -> Result<(), NoMemory>
     requires within { arg.now.value.0 < length parts.old.items }
     requires few { k < 2 ^ 32 }
-    ensures parts { OnOk result (parts.new.items ≡ with_part parts.old.items arg.now.value.0 (option_map (spec.whole_of k) (carried arg.now.ty))) }
+    ensures parts { OnOk result (parts.new.items ≡ with_part parts.old.items arg.now.value.0 (option_map (whole_argument k) (carried arg.now.ty))) }
     ensures carried { OnOk result (PartsCarry parts.old.items → PartsCarry parts.new.items) }
 {
     match arg.ty.kind() {
@@ -179,7 +180,7 @@ fn put_argument(parts: &mut Vec<Option<Part>>, k: usize, arg: &Arg) -> Result<()
 fn put_whole(parts: &mut Vec<Option<Part>>, k: u32, value: ValueId, ty: Ty)
     requires within { value.0 < length parts.old.items }
     requires carried { IsData ty }
-    ensures parts { parts.new.items ≡ slice_set parts.old.items value.0 (Some (spec.whole_of k ty)) }
+    ensures parts { parts.new.items ≡ slice_set parts.old.items value.0 (Some (whole_argument k ty)) }
     ensures carried { PartsCarry parts.old.items → PartsCarry parts.new.items }
 {
     parts[value.0 as usize] = Some(Part { arg: k, lo: 0, ty });

@@ -21,9 +21,9 @@ use Rattle.lh_joins.specs.declared.edge.Edge.{Edge}
 use Rattle.lh_rows.specs.Typed.{IsCondition}
 use Rattle.lh_rows.proofs.Merging.{selector-condition}
 use Rattle.lh_rows.proofs.Joining.{choice-same}
-use Rattle.lh_joins.specs.Joins.{IsConditionAt, AreConditions, edge_on, edges_on, after_first, AreMade, chosen_by, CanMerge}
+use Rattle.lh_joins.specs.Joins.{IsConditionAt, AreConditions, edge_on, edges_on, after_first, AreTerms, chosen_by, CanMerge}
 use Rattle.lh_joins.proofs.Conditions.{conditions-grown, edges-grown, stands-condition}
-use Rattle.lh_joins.proofs.Selecting.{made-grown}
+use Rattle.lh_joins.proofs.Selecting.{terms-grown}
 use Rattle.lh_places.specs.declared.state.PlaceState.{PlaceState}
 use Rattle.lh_places.specs.declared.asking.Gap.{Gap}
 use Rattle.lh_places.specs.Asked.{kept_by, kept_at, keeps, source_of, edges_at, sources, IsBelow, KnownTerms, selectors_on, AreOfOneType, Joins, IsJoin, Tells, SamePlaces, IsWith, IsReplaced, IsWithAt, IsSelected, IsSelectedAt, IsKeptAlso, AreKept, CanJoin, IsJoined}
@@ -38,7 +38,7 @@ selectors-grown ns ms es g c = ap (λ (xs : List RegionEdge). map (selector xs) 
 pub join-grown : (ns ms : List Node) (p : PlaceState) → Grows ns ms → IsJoin ns p → IsJoin ms p
 join-grown ns ms p g j = record {
   conds = conditions-grown ns ms p.edges.items g j.conds;
-  selectors = λ ts e. subst (AreMade ms ts) (sym (selectors-grown ns ms p.edges.items g j.conds)) (made-grown ns ms ts (selectors_on ns p.edges.items) g (j.selectors ts e));
+  selectors = λ ts e. subst (AreTerms ms ts) (sym (selectors-grown ns ms p.edges.items g j.conds)) (terms-grown ns ms ts (selectors_on ns p.edges.items) g (j.selectors ts e));
 }
 
 pub conds-at : (ns : List Node) (ps : List PlaceState) → ((i : ℕ) (p : PlaceState) → slice_get ps i ≡ Some p → IsJoin ns p) → (i : ℕ) → AreConditions ns (edges_at ps i)
@@ -111,7 +111,7 @@ tells-selected ms ps qs i told a t =
 pub with-join : (ms : List Node) (p q : PlaceState) (v : ℕ) (t : TermId) → IsWith p v t q → IsJoin ms p → IsJoin ms q
 with-join ms p q v t w j = record {
   conds = subst (AreConditions ms) (λ k. (sym w.edges k).items) j.conds;
-  selectors = λ ts e. subst (λ (es : List Edge). AreMade ms ts (selectors_on ms es)) (λ k. (sym w.edges k).items) (j.selectors ts (sym w.selectors ∙ e));
+  selectors = λ ts e. subst (λ (es : List Edge). AreTerms ms ts (selectors_on ms es)) (λ k. (sym w.edges k).items) (j.selectors ts (sym w.selectors ∙ e));
 }
 
 pub tells-with : (ms : List Node) (ps qs : List PlaceState) (i v : ℕ) (k : TermId) (told : KnownTerms) (x : Tree) → IsWithAt ps i v k qs → told i v ≡ Some x → StandsForTree ms k x → Tells ms ps told
@@ -166,7 +166,7 @@ told-passes ns ps told v t i h e = let (x, f) = some-of (told i v) h in let j = 
 -- ---- the values of a gap
 
 made-of-kept : (ns : List Node) (ps : List PlaceState) (told : KnownTerms) (v : ℕ) → Tells ns ps told → (is : List ℕ) (ts : List TermId) (ys : List Tree) → AreKept ps v is ts
-    → map (λ (i : ℕ). told i v) is ≡ map Some ys → AreMade ns ts ys
+    → map (λ (i : ℕ). told i v) is ≡ map Some ys → AreTerms ns ts ys
 made-of-kept ns ps told v t [] [] [] k h = tt
 made-of-kept ns ps told v t [] [] (y ∷ ys) k h = absurd cc
 made-of-kept ns ps told v t [] (a ∷ ts) ys k h = absurd cc
@@ -186,19 +186,19 @@ told-from : (told : KnownTerms) (v : ℕ) (es : List Edge) → map (λ (i : ℕ)
 told-from told v [] = refl
 told-from told v (e ∷ es) = let h = told-from told v es in λ i. told e.from v ∷ h i
 
-pub made-trees : (ns : List Node) (ts : List TermId) (xs : List Tree) → AreMade ns ts xs → trees_at ns ts ≡ xs
+pub made-trees : (ns : List Node) (ts : List TermId) (xs : List Tree) → AreTerms ns ts xs → trees_at ns ts ≡ xs
 made-trees ns [] [] m = refl
 made-trees ns [] (x ∷ xs) m = absurd m
 made-trees ns (t ∷ ts) [] m = absurd m
 made-trees ns (t ∷ ts) (x ∷ xs) m = let a = m.0.tree in let b = made-trees ns ts xs m.1 in λ i. a i ∷ b i
 
-pub made-in : (ns : List Node) (ts : List TermId) (xs : List Tree) → AreMade ns ts xs → Each (IsIn ns) ts
+pub made-in : (ns : List Node) (ts : List TermId) (xs : List Tree) → AreTerms ns ts xs → Each (IsIn ns) ts
 made-in ns [] [] m = tt
 made-in ns [] (x ∷ xs) m = absurd m
 made-in ns (t ∷ ts) [] m = absurd m
 made-in ns (t ∷ ts) (x ∷ xs) m = (m.0.is_in, made-in ns ts xs m.1)
 
-pub can-join : (ns : List Node) (p : PlaceState) (ts : List TermId) (x : Tree) (xs : List Tree) → AreMade ns ts (x ∷ xs) → AreOfOneType x xs → length ts ≡ length p.edges.items → CanJoin ns p ts
+pub can-join : (ns : List Node) (p : PlaceState) (ts : List TermId) (x : Tree) (xs : List Tree) → AreTerms ns ts (x ∷ xs) → AreOfOneType x xs → length ts ≡ length p.edges.items → CanJoin ns p ts
 can-join ns p [] x xs m a l = absurd m
 can-join ns p (t ∷ ts) x xs m a l = record {
   first = t;
@@ -221,7 +221,7 @@ same-long ps told v g s =
 -- ---- a gap is filled
 
 module _ (ns : List Node) (ps : List PlaceState) (v : ℕ) (g : Gap) (ts : List TermId) (lacks : keeps ps v g.place ≡ false) (kept : AreKept ps v g.from.items ts) where
-  made-by : (told : KnownTerms) → Tells ns ps told → TellSame ps told v g → (ys : List Tree) → map (λ (e : Edge). told e.from v) (edges_at ps g.place) ≡ map Some ys → AreMade ns ts ys
+  made-by : (told : KnownTerms) → Tells ns ps told → TellSame ps told v g → (ys : List Tree) → map (λ (e : Edge). told e.from v) (edges_at ps g.place) ≡ map Some ys → AreTerms ns ts ys
   made-by told tells alike ys h = made-of-kept ns ps told v tells g.from.items ts ys kept (sym alike ∙ told-from told v (edges_at ps g.place) ∙ h)
 
   pub can-merge : CanFill ns ps v g → (p : PlaceState) → slice_get ps g.place ≡ Some p → IsJoin ns p × CanJoin ns p ts
@@ -283,13 +283,13 @@ pub selectors-conditions : (ns : List Node) (es : List Edge) → AreConditions n
 selectors-conditions ns [] c = tt
 selectors-conditions ns (e ∷ es) c = edge-conditions ns (edges_on ns (e ∷ es)) es c.1
 
-conditions-made : (ns : List Node) (ts : List TermId) (xs : List Tree) → AreMade ns ts xs → Each (λ (s : Tree). IsCondition s) xs → Each (IsConditionAt ns) ts
+conditions-made : (ns : List Node) (ts : List TermId) (xs : List Tree) → AreTerms ns ts xs → Each (λ (s : Tree). IsCondition s) xs → Each (IsConditionAt ns) ts
 conditions-made ns [] [] m h = tt
 conditions-made ns [] (x ∷ xs) m h = absurd m
 conditions-made ns (t ∷ ts) [] m h = absurd m
 conditions-made ns (t ∷ ts) (x ∷ xs) m h = (stands-condition ns t x m.0 h.0, conditions-made ns ts xs m.1 h.1)
 
-pub made-length : (ns : List Node) (ts : List TermId) (xs : List Tree) → AreMade ns ts xs → length ts ≡ length xs
+pub made-length : (ns : List Node) (ts : List TermId) (xs : List Tree) → AreTerms ns ts xs → length ts ≡ length xs
 made-length ns [] [] m = refl
 made-length ns [] (x ∷ xs) m = absurd m
 made-length ns (t ∷ ts) [] m = absurd m
@@ -364,7 +364,7 @@ module _ (ns ms : List Node) (p q : PlaceState) (vs : List TermId) (g : Grows ns
 
 -- ---- selectors are made
 
-pub select-made : (ns ms : List Node) (p q : PlaceState) (ts : List TermId) (es : List Edge) → Grows ns ms → IsJoin ns p → es ≡ p.edges.items → AreMade ms ts (selectors_on ns es) → q.block ≡ p.block
+pub select-made : (ns ms : List Node) (p q : PlaceState) (ts : List TermId) (es : List Edge) → Grows ns ms → IsJoin ns p → es ≡ p.edges.items → AreTerms ms ts (selectors_on ns es) → q.block ≡ p.block
     → q.edges ≡ p.edges → q.known ≡ p.known → q.selectors ≡ Some ts → IsSelected ms p q
 select-made ns ms p q ts es g j e m b f k s = record {
   block = b;
@@ -375,9 +375,9 @@ select-made ns ms p q ts es g j e m b f k s = record {
     selectors = λ us h.
         let x : Some ts ≡ Some us = sym s ∙ h in
         let y : ts ≡ us = cc in
-        subst (λ (vs : List TermId). AreMade ms vs (selectors_on ms q.edges.items)) y
-        (subst (λ (xs : List Edge). AreMade ms ts (selectors_on ms xs)) (λ i. (sym f i).items)
-        (subst (AreMade ms ts) (ap (selectors_on ns) e ∙ sym (selectors-grown ns ms p.edges.items g j.conds)) m));
+        subst (λ (vs : List TermId). AreTerms ms vs (selectors_on ms q.edges.items)) y
+        (subst (λ (xs : List Edge). AreTerms ms ts (selectors_on ms xs)) (λ i. (sym f i).items)
+        (subst (AreTerms ms ts) (ap (selectors_on ns) e ∙ sym (selectors-grown ns ms p.edges.items g j.conds)) m));
   };
 }
 

@@ -8,13 +8,13 @@ use Rattle.std.specs.Cmp.{Equal-is}
 use Rattle.std.proofs.lemmas.Cmp.{tied_itself}
 use Rattle.std.proofs.lemmas.Bool.{eq-eqb, ne_eqb}
 use Rattle.lh_time.specs.declared.Instant.{Instant}
-use Rattle.lh_time.specs.Order.{instant_cmp, instant_lt, instant_le}
+use Rattle.lh_time.specs.Order.{instant_cmp, instant_lt, instant_le, instant_eq}
 use Rattle.lh_time.proofs.OrderLemmas.{instant_cmp_total, instant_lt-not_le, instant_lt-le_lt}
 use Rattle.lh_types.specs.History.{Claim, claim_cmp, is_due_by, greater, greatest_from, value_by, values_by, entries_of}
 use Rattle.lh_history.proofs.Instants.{instant_one}
 use Rattle.lh_history.proofs.Claims.{AllLate, greatest_late}
 use Rattle.lh_queue.specs.declared.wish.Wish.{Wish}
-use Rattle.lh_queue.specs.Queued.{QueuedWish, wish_cmp, is_before, is_at, IsBeforeAll, AreInOrder, NoneDueBefore, due_later}
+use Rattle.lh_queue.specs.Queued.{QueuedWish, wish_cmp, is_before, IsBeforeAll, AreInOrder, NoneDueBefore, due_later}
 use Rattle.lh_queue.specs.Holds.{entries}
 use Rattle.lh_bits.specs.Writes.{written}
 use Rattle.lh_queue.specs.Places.{starts_at}
@@ -190,7 +190,7 @@ apart_lt Equal h n = cc
 apart_lt Greater h n = refl
 
 -- where the first is not due, all are due later
-pub not_due_later : (t : Instant) (x : QueuedWish) (more : List QueuedWish) → AreInOrder (x ∷ more) → instant_le t x.wish.due ≡ true → is_at x.wish.due t ≡ false → EachLater t (x ∷ more)
+pub not_due_later : (t : Instant) (x : QueuedWish) (more : List QueuedWish) → AreInOrder (x ∷ more) → instant_le t x.wish.due ≡ true → instant_eq x.wish.due t ≡ false → EachLater t (x ∷ more)
 not_due_later t x more o le n =
     let h : instant_lt t x.wish.due ≡ true = ap is_lt (instant_cmp_total.antisymm t x.wish.due)
     ∙ apart_lt (instant_cmp x.wish.due t) (ap is_le (sym (instant_cmp_total.antisymm t x.wish.due)) ∙ le) n in
@@ -200,5 +200,5 @@ pub not_started : (t : Instant) (held : List QueuedWish) → AreInOrder held →
 not_started t [] o d n = tt
 not_started t (x ∷ more) o d n = not_due_later t x more o d.0 n
 
-pub at_one : (a b : Instant) → is_at a b ≡ true → a ≡ b
+pub at_one : (a b : Instant) → instant_eq a b ≡ true → a ≡ b
 at_one a b h = instant_one a b ((Equal-is (instant_cmp a b)).0 h)

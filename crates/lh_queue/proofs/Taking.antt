@@ -2,10 +2,10 @@
 use Rattle.std.proofs.Common.{◌≡◌, ◌≢◌, ◌≤◌, ◌<◌, ℕ, suc, List, [], ◌∷◌, length, Bool, true, false, if◌then◌else◌, nat_eq, Some, None, refl, ap, sym, ◌∙◌, subst, arith}
 use Rattle.std.proofs.lemmas.Bool.{eq-eqb, ne_eqb, eqb-false, lt-ltb}
 use Rattle.lh_time.specs.declared.Instant.{Instant}
-use Rattle.lh_time.specs.Order.{instant_lt, instant_le}
+use Rattle.lh_time.specs.Order.{instant_lt, instant_le, instant_eq}
 use Rattle.lh_types.specs.History.{values_by}
 use Rattle.lh_queue.specs.declared.wish.Wish.{Wish}
-use Rattle.lh_queue.specs.Queued.{QueuedWish, is_at, AreInOrder, NoneHas, KeysDiffer, NoneDueBefore, EachWithin, BitsWithin, due_later, wish_at}
+use Rattle.lh_queue.specs.Queued.{QueuedWish, AreInOrder, NoneHas, KeysDiffer, NoneDueBefore, EachWithin, BitsWithin, due_later, wish_at}
 use Rattle.lh_queue.specs.Holds.{entries}
 use Rattle.lh_queue.specs.Buckets.{time, link, next_in}
 use Rattle.lh_bits.specs.Writes.{written}
@@ -181,7 +181,7 @@ rest_at held t here (z ∷ zs) new o e f = at (nat_eq (time z) (time here)) refl
         let late : instant_lt t z.wish.due ≡ true = ap (λ u. instant_lt u z.wish.due) (sym e) ∙ fs_later here.wish.due z.wish.due l in
         (omega arith, nothing new ∙ sym (values_of_later t (z ∷ zs) new (late, all_later t z.wish zs late o.1.0)))
 
-pub looked : (held : List QueuedWish) (k : ℕ) (w : Wish) (t : Instant) (now new : List Bool) → AreInOrder held → KeysDiffer held → wish_at held k ≡ Some w → is_at w.due t ≡ true
+pub looked : (held : List QueuedWish) (k : ℕ) (w : Wish) (t : Instant) (now new : List Bool) → AreInOrder held → KeysDiffer held → wish_at held k ≡ Some w → instant_eq w.due t ≡ true
     → new ≡ written w.bits now → Looked held k t now new
 looked held k w t now new o u h a n =
     let p = at_key held k w o u h in
@@ -195,11 +195,11 @@ looked held k w t now new o u h a n =
 
 -- where a wish is not due, nothing that follows sets a bit
 pub looked_end : (held : List QueuedWish) (k : ℕ) (w : Wish) (t : Instant) (now : List Bool) → AreInOrder held → KeysDiffer held → NoneDueBefore t held → wish_at held k ≡ Some w
-    → is_at w.due t ≡ false → now ≡ values_by (entries (from_key held k)) t 0 now
+    → instant_eq w.due t ≡ false → now ≡ values_by (entries (from_key held k)) t 0 now
 looked_end held k w t now o u d h a =
     let p = at_key held k w o u h in
     let le : instant_le t p.here.wish.due ≡ true = ap (λ (v : Wish). instant_le t v.due) p.wish ∙ due_at t held k w d h in
-    let not : is_at p.here.wish.due t ≡ false = ap (λ (v : Wish). is_at v.due t) p.wish ∙ a in
+    let not : instant_eq p.here.wish.due t ≡ false = ap (λ (v : Wish). instant_eq v.due t) p.wish ∙ a in
     sym (ap (λ xs. values_by (entries xs) t 0 now) p.from ∙ values_of_later t (p.here ∷ p.back) now (not_due_later t p.here p.back p.order le not))
 
 pub looked_none : (t : Instant) (now : List Bool) → now ≡ values_by [] t 0 now

@@ -3,7 +3,8 @@ use Rattle.std.specs.Prelude.{ℕ, ◌+◌, ◌<◌, ◌≤◌, List, [], ◌∷
 use Rattle.std.specs.Option.{option_map_or}
 use Rattle.lh_time.specs.declared.Instant.{Instant}
 use Rattle.lh_queue.specs.declared.wish.Wish.{Wish}
-use Rattle.lh_queue.specs.Queued.{QueuedWish, Waiting, is_before, is_at, IsBeforeAll, NoneHas, wish_at, with_held}
+use Rattle.lh_queue.specs.Queued.{QueuedWish, Waiting, is_before, IsBeforeAll, NoneHas, wish_at, with_held}
+use Rattle.lh_time.specs.Order.{instant_eq}
 use Rattle.lh_queue.specs.Buckets.{time, buckets_of, next_in}
 use Rattle.lh_queue.specs.declared.queue.Bucket.{Bucket}
 use Rattle.lh_queue.specs.declared.queue.Insertion.{Insertion}
@@ -89,7 +90,7 @@ first_wish (x ∷ more) = Some x.wish
 -- whether the first wish is due at an instant
 abbrev pub starts_at : Instant → List QueuedWish → Bool
 starts_at t [] = false
-starts_at t (x ∷ more) = is_at x.wish.due t
+starts_at t (x ∷ more) = instant_eq x.wish.due t
 
 -- those from the wish of a key on
 abbrev pub from_key : List QueuedWish → ℕ → List QueuedWish

@@ -2,7 +2,7 @@
 use Rattle.std.specs.Prelude.{ℕ, List, [], ◌∷◌, Bool, true, nat_eq, if◌then◌else◌, Option, Some, None, ◌≡◌, ◌≢◌, ◌⊎◌}
 use Rattle.std.specs.declared.cmp.Ordering.{Ordering}
 use Rattle.std.specs.declared.cmp.Ordering.TheVariants.{Equal}
-use Rattle.std.specs.Ordering.{nat_cmp, ordering_then, is_lt, is_eq}
+use Rattle.std.specs.Ordering.{nat_cmp, ordering_then, is_lt}
 use Rattle.lh_time.specs.declared.Instant.{Instant}
 use Rattle.lh_time.specs.Order.{instant_cmp, instant_lt, instant_le}
 use Rattle.lh_queue.specs.declared.wish.Wish.{Wish}
@@ -25,10 +25,6 @@ wish_cmp a b = ordering_then (instant_cmp a.due b.due) (ordering_then (instant_c
 -- the first of two wishes comes before the second
 abbrev pub is_before : Wish → Wish → Bool
 is_before a b = is_lt (wish_cmp a b)
-
--- two instants are one
-abbrev pub is_at : Instant → Instant → Bool
-is_at a b = is_eq (instant_cmp a b)
 
 -- a wish comes before each of these
 abbrev pub IsBeforeAll : Wish → List QueuedWish → Type 0

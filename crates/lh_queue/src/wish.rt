@@ -1,7 +1,8 @@
 //! A wish as a queue holds it: what one instance wished at one instant for one due instant.
 ghost use Rattle.std.specs.Prelude.{◌≡◌, length};
 ghost use Rattle.lh_bits.specs.Writes.{written, BitsWithin};
-ghost use Rattle.lh_queue.specs.Queued.{is_before, is_at};
+ghost use Rattle.lh_queue.specs.Queued.{is_before};
+ghost use Rattle.lh_time.specs.Order.{instant_eq};
 
 use lh_bits::bits::Bits;
 use lh_bits::writes::BitWrites;
@@ -34,7 +35,7 @@ impl Wish {
 
     /// Whether it is due at an instant.
     pub(crate) fn is_due(&self, at: Instant) -> bool
-        ensures { result ≡ is_at self.now.due at }
+        ensures { result ≡ instant_eq self.now.due at }
     {
         self.due.cmp(&at).is_eq()
     }

@@ -17,8 +17,8 @@ use Rattle.lh_unit.specs.declared.inst.RegTrigger.{RegTrigger}
 use Rattle.lh_unit.specs.declared.inst.Typed.{Typed}
 use Rattle.lh_unit.specs.declared.inst.Inst.TheVariants as inst
 use Rattle.lh_unit.proofs.ModuleLaws.{KeepsEntries-trans, Grows-trans, Each-push, ValueWithin-keeps, MaybeWithin-keeps, OperandWithin-keeps, TriggerWithin-keeps, EdgeWithin-keeps, value_text-keeps, maybe_text-keeps, operand_text-keeps, trigger_text-keeps, edge_text-keeps}
-use Rattle.lh_syntax.specs.declared.syntax.Operand.{Operand}
-use Rattle.lh_syntax.specs.SyntaxOf.{operand_of, operands_of}
+use Rattle.lh_phrase.specs.declared.syntax.Operand.{Operand}
+use Rattle.lh_phrase.specs.SyntaxOf.{operand_of, operands_of}
 use Rattle.lh_read.specs.Placing.{LabelWithin, label_said, Placed, LabelPlaced, ValuePlaced, MaybePlaced, OperandPlaced, TriggerPlaced, EdgePlaced, AllPlaced, OperandsPlaced, TriggersPlaced, SignalsPlaced, InstPlacedAs}
 use Rattle.lh_unit.proofs.Within.{Each-more}
 

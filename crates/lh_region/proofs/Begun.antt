@@ -9,7 +9,7 @@ use Rattle.lh_unit.specs.Held.{front}
 use Rattle.lh_unit.specs.Typing.{or_else}
 use Rattle.lh_unit.specs.Within.{Each}
 use Rattle.lh_unit.proofs.Lists.{Same, same, other, same_or, nat_eq-refl, nat_eq-other, some_inj}
-use Rattle.lh_names.proofs.Lists.{slice_get-push}
+use Rattle.lh_types.proofs.Lists.{get_last}
 use Rattle.lh_unit.proofs.Within.{Each-more}
 use Rattle.lh_term.specs.Tree.{Tree}
 use Rattle.lh_term.specs.Types.{IsTyped, type_of}
@@ -225,7 +225,7 @@ begun-at : (s : Story) (ps qs : List PlaceState) (p : PlaceState) → s.places �
 begun-at s ps qs p len e i = by (same_or i s.places)
   where
     by : Same i s.places → Begun s ps qs p i
-    by (same h) = new_place h (ap (λ (xs : List PlaceState). slice_get xs i) e ∙ slice_get-push ps p i (h ∙ len))
+    by (same h) = new_place h (ap (λ (xs : List PlaceState). slice_get xs i) e ∙ ap (slice_get (ps ++ p ∷ [])) (h ∙ len) ∙ get_last ps p)
     by (other n) = old_place n (ap (λ (xs : List PlaceState). slice_get xs i) e ∙ push-other ps p i (λ h. n (h ∙ sym len)))
 
 module _ (ns : List Node) (ps qs : List PlaceState) (block : ℕ) (s : Story) (es : List Edge) (x : RegionEdge) (xs : List RegionEdge) (b : IsBegun ps block es qs) (t : Tells ns ps s.told)

@@ -11,9 +11,9 @@ use Rattle.lh_term.specs.Arena.{trees_at, AreIn, StandsForTree, Grows}
 use Rattle.lh_term.specs.declared.term.TermId.{TermId}
 use Rattle.lh_term.specs.declared.term.Node.{Node}
 use Rattle.lh_term.proofs.Swaps.{grows_on}
-use Rattle.lh_joins.specs.Joins.{AreMade}
+use Rattle.lh_joins.specs.Joins.{AreTerms}
 use Rattle.lh_joins.proofs.Conditions.{grows-none}
-use Rattle.lh_joins.proofs.Selecting.{made-grown, made-push}
+use Rattle.lh_joins.proofs.Selecting.{terms-grown, terms-push}
 use Rattle.lh_places.specs.declared.state.PlaceState.{PlaceState}
 use Rattle.lh_region.specs.declared.taking.PlaceValue.{PlaceValue}
 use Rattle.lh_places.specs.Asked.{KnownTerms, Tells, CanAsk, SamePlaces, StillTold, IsTold}
@@ -63,9 +63,9 @@ pub record AskSoFar (old : List Node) (ps : List PlaceState) (now : List Node) (
   pub grows : Grows old now
   pub same : SamePlaces ps qs
   pub still : StillToldAll old ps now qs asks
-  pub made : (told : KnownTerms) (ys : List Tree) → Tells old ps told → AllThere told asks → map (told_of told) seen ≡ map Some ys → AreMade now ts ys
+  pub made : (told : KnownTerms) (ys : List Tree) → Tells old ps told → AllThere told asks → map (told_of told) seen ≡ map Some ys → AreTerms now ts ys
 
-none-made : (ns : List Node) (ys : List Tree) → [] ≡ map Some ys → AreMade ns [] ys
+none-made : (ns : List Node) (ys : List Tree) → [] ≡ map Some ys → AreTerms ns [] ys
 none-made ns [] e = tt
 none-made ns (y ∷ ys) e = absurd cc
 
@@ -94,14 +94,14 @@ module _ (old now : List Node) (ps qs : List PlaceState) (asks seen : List Place
       there : (told : KnownTerms) → AllThere told asks → is_some (told a.place a.value) ≡ true
       there told h = each-item (λ (x : PlaceValue). is_some (told_of told x) ≡ true) asks i d h l
 
-      made : (told : KnownTerms) (ys : List Tree) → Tells old ps told → AllThere told asks → Split (told_of told) seen a ys → AreMade new us ys
+      made : (told : KnownTerms) (ys : List Tree) → Tells old ps told → AllThere told asks → Split (told_of told) seen a ys → AreTerms new us ys
       made told ys u h r =
           let (x, k, st) = term told (s.still told u h) (there told h) in
           let b : Some x ≡ Some r.last = sym k ∙ r.one in
           let z : x ≡ r.last = cc in
-          subst (AreMade new us) (sym r.are)
-          (subst (λ (vs : List TermId). AreMade new vs (r.before ++ r.last ∷ [])) (sym f)
-          (made-push new ts r.before t r.last (made-grown now new ts r.before g (s.made told r.before u h r.each)) (subst (StandsForTree new t) z st)))
+          subst (AreTerms new us) (sym r.are)
+          (subst (λ (vs : List TermId). AreTerms new vs (r.before ++ r.last ∷ [])) (sym f)
+          (terms-push new ts r.before t r.last (terms-grown now new ts r.before g (s.made told r.before u h r.each)) (subst (StandsForTree new t) z st)))
 
 pub ask-end : (old now : List Node) (ps qs : List PlaceState) (asks seen : List PlaceValue) (ts : List TermId) → seen ≡ asks → AskSoFar old ps now qs asks seen ts → AreTold old ps now asks ts
 ask-end old now ps qs asks seen ts e s told ys t m = s.made told ys t (there-from told asks ys m) (ap (map (told_of told)) e ∙ m)
@@ -115,14 +115,14 @@ within-at n i (x ∷ xs) l = (l, within-at n i xs l)
 pub operands-asked : (ns : List Node) (ps : List PlaceState) (i : ℕ) (o : Op) (xs : List Typed) → i < length ps → IsOperation ns ps i o xs → CanAskAll ns ps (asks_at i xs)
 operands-asked ns ps i o xs l c = record { told = c.told; tells = c.tells; within = within-at (length ps) i xs l; there = there-from c.told (asks_at i xs) c.operands c.each }
 
-made-below : (ns : List Node) (ts : List TermId) (xs : List Tree) → AreMade ns ts xs → AreIn ns ts
+made-below : (ns : List Node) (ts : List TermId) (xs : List Tree) → AreTerms ns ts xs → AreIn ns ts
 made-below ns [] [] m = refl
 made-below ns [] (x ∷ xs) m = absurd m
 made-below ns (t ∷ ts) [] m = absurd m
 made-below ns (t ∷ ts) (x ∷ xs) m = rw (lt-ltb t.0 (length ns) m.0.is_in) (made-below ns ts xs m.1)
 
 module _ (ns ms : List Node) (ps : List PlaceState) (i : ℕ) (o : Op) (xs : List Typed) (ts : List TermId) (c : IsOperation ns ps i o xs) (m : AreTold ns ps ms (asks_at i xs) ts) where
-  operands-made : AreMade ms ts c.operands
+  operands-made : AreTerms ms ts c.operands
   operands-made = m c.told c.operands c.tells c.each
 
   pub operands-in : AreIn ms ts

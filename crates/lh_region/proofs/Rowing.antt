@@ -11,7 +11,8 @@ use Rattle.lh_term.specs.declared.term.Node.{Node}
 use Rattle.lh_term.proofs.Swaps.{stands_grown, tree_grown, in_grown, grows_on}
 use Rattle.lh_rows.specs.Rows as text
 use Rattle.lh_rows.specs.Places.{Midst}
-use Rattle.lh_joins.specs.Joins.{IsConditionAt, AreMade}
+use Rattle.lh_joins.specs.Joins.{IsConditionAt, AreTerms}
+use Rattle.lh_joins.proofs.Selecting.{terms-grown}
 use Rattle.lh_places.specs.declared.state.PlaceState.{PlaceState}
 use Rattle.lh_region.specs.declared.rows.Rows.{Rows}
 use Rattle.lh_region.specs.declared.rows.DriveRow.{DriveRow}
@@ -20,7 +21,7 @@ use Rattle.lh_region.specs.declared.rows.Way.{Way}
 use Rattle.lh_region.specs.declared.effects.DriveAt.{DriveAt}
 use Rattle.lh_places.specs.Asked.{CanAsk, StillTold, IsTold}
 use Rattle.lh_region.specs.Taken.{asks_at, AreTold}
-use Rattle.lh_region.specs.Stands.{IsDrive, AreDrives, AreTerms, IsEnd, AreEnds, AreRows, way_text}
+use Rattle.lh_region.specs.Stands.{IsDrive, AreDrives, IsEnd, AreEnds, AreRows, way_text}
 use Rattle.lh_region.specs.Effects.{CanDrive, StillDriven, IsProbed, IsDriven, AreAsserted, IsEnded, IsWithAsserts}
 
 -- ---- an arena that grows
@@ -33,12 +34,6 @@ drives-grown ns ms (d ∷ ds) (x ∷ xs) g h = (
   record { cond = stands_grown ns ms g d.cond x.cond h.0.cond; part = h.0.part; value = stands_grown ns ms g d.value x.value h.0.value; delay = stands_grown ns ms g d.delay x.delay h.0.delay },
   drives-grown ns ms ds xs g h.1,
 )
-
-pub terms-grown : (ns ms : List Node) (ts : List TermId) (xs : List Tree) → Grows ns ms → AreTerms ns ts xs → AreTerms ms ts xs
-terms-grown ns ms [] [] g h = tt
-terms-grown ns ms [] (x ∷ xs) g h = absurd h
-terms-grown ns ms (t ∷ ts) [] g h = absurd h
-terms-grown ns ms (t ∷ ts) (x ∷ xs) g h = (stands_grown ns ms g t x h.0, terms-grown ns ms ts xs g h.1)
 
 pub ends-grown : (ns ms : List Node) (es : List EndRow) (xs : List text.RegionEnd) → Grows ns ms → AreEnds ns es xs → AreEnds ms es xs
 ends-grown ns ms [] [] g h = tt
@@ -68,14 +63,8 @@ ends-push ns [] (y ∷ ys) e x h i = absurd h
 ends-push ns (d ∷ ds) [] e x h i = absurd h
 ends-push ns (d ∷ ds) (y ∷ ys) e x h i = (h.0, ends-push ns ds ys e x h.1 i)
 
-made-terms : (ns : List Node) (us : List TermId) (ys : List Tree) → AreMade ns us ys → AreTerms ns us ys
-made-terms ns [] [] m = tt
-made-terms ns [] (y ∷ ys) m = absurd m
-made-terms ns (u ∷ us) [] m = absurd m
-made-terms ns (u ∷ us) (y ∷ ys) m = (m.0, made-terms ns us ys m.1)
-
-terms-more : (ns : List Node) (ts : List TermId) (xs : List Tree) (us : List TermId) (ys : List Tree) → AreTerms ns ts xs → AreMade ns us ys → AreTerms ns (ts ++ us) (xs ++ ys)
-terms-more ns [] [] us ys h m = made-terms ns us ys m
+terms-more : (ns : List Node) (ts : List TermId) (xs : List Tree) (us : List TermId) (ys : List Tree) → AreTerms ns ts xs → AreTerms ns us ys → AreTerms ns (ts ++ us) (xs ++ ys)
+terms-more ns [] [] us ys h m = m
 terms-more ns [] (x ∷ xs) us ys h m = absurd h
 terms-more ns (t ∷ ts) [] us ys h m = absurd h
 terms-more ns (t ∷ ts) (x ∷ xs) us ys h m = (h.0, terms-more ns ts xs us ys h.1 m)

@@ -2,14 +2,12 @@
 use Rattle.std.specs.Prelude.{◌≡◌, List, [], ◌∷◌, Option, Some, None, Result, Ok, Err}
 use Rattle.std.specs.Option.{option_map_or}
 use Rattle.lh_unit.specs.Within.{Each}
-use Rattle.lh_term.specs.declared.term.TermId.{TermId}
 use Rattle.lh_term.specs.declared.term.Node.{Node}
-use Rattle.lh_term.specs.Tree.{Tree}
 use Rattle.lh_term.specs.Arena.{trees, tree_at, IsIn, StandsForTree}
 use Rattle.lh_rows.specs.Rows as text
 use Rattle.lh_rows.specs.Regions as texts
 use Rattle.lh_rows.specs.Typed.{IsOfType}
-use Rattle.lh_joins.specs.Joins.{IsConditionAt}
+use Rattle.lh_joins.specs.Joins.{IsConditionAt, AreTerms}
 use Rattle.lh_rows.specs.Regions.{RegionRefusal, head_phi, too_many_turns, region_too_large, Regioned, no_regions, has_regions}
 use Rattle.lh_region.specs.declared.rows.Way.{Way}
 use Rattle.lh_region.specs.declared.rows.Way.TheVariants as way
@@ -32,12 +30,6 @@ abbrev pub AreDrives : List Node → List DriveRow → List text.Drive → Type 
 AreDrives ns [] [] = Unit {0}
 AreDrives ns (d ∷ ds) (x ∷ xs) = IsDrive ns d x × AreDrives ns ds xs
 AreDrives ns _ _ = ⊥
-
--- each id stands for its term
-abbrev pub AreTerms : List Node → List TermId → List Tree → Type 0
-AreTerms ns [] [] = Unit {0}
-AreTerms ns (t ∷ ts) (x ∷ xs) = StandsForTree ns t x × AreTerms ns ts xs
-AreTerms ns _ _ = ⊥
 
 -- how a region ends, where blocks have the numbers of their places
 abbrev pub way_text : Way → text.Way

@@ -13,7 +13,7 @@ use Rattle.lh_term.specs.Arena.{StandsForTree}
 use Rattle.lh_term.specs.declared.term.TermId.{TermId}
 use Rattle.lh_term.specs.declared.term.Node.{Node}
 use Rattle.lh_joins.specs.declared.edge.Edge.{Edge}
-use Rattle.lh_joins.specs.Joins.{AreMade}
+use Rattle.lh_joins.specs.Joins.{AreTerms}
 use Rattle.lh_places.specs.declared.state.PlaceState.{PlaceState}
 use Rattle.lh_region.specs.declared.taking.PlaceValue.{PlaceValue}
 use Rattle.lh_region.specs.Operands.{operand_in}
@@ -40,7 +40,7 @@ StillToldAll ns ps ms qs asks = (told : KnownTerms) → Tells ns ps told → All
 
 -- The terms are what is told of the values.
 abbrev pub AreTold : List Node → List PlaceState → List Node → List PlaceValue → List TermId → Type 0
-AreTold ns ps ms asks ts = (told : KnownTerms) (ys : List Tree) → Tells ns ps told → map (told_of told) asks ≡ map Some ys → AreMade ms ts ys
+AreTold ns ps ms asks ts = (told : KnownTerms) (ys : List Tree) → Tells ns ps told → map (told_of told) asks ≡ map Some ys → AreTerms ms ts ys
 
 -- ---- operations
 

@@ -17,9 +17,10 @@ use Rattle.lh_unit.specs.Within.{Each}
 use Rattle.lh_unit.specs.Activation as machine
 use Rattle.lh_unit.specs.Activation.{Scene, Point, ProcessState, Activated, activate, control_at, start_point, run, went, phis_taken, entered}
 use Rattle.lh_unit.proofs.Within.{Each-more}
+use Rattle.lh_unit.specs.World.{begun}
 use Rattle.lh_sound.specs.Ranges.{RangesFit, arg_types}
 use Rattle.lh_inlined.specs.Formed.{IsFormed}
-use Rattle.lh_flat.specs.Flat.{FlatBlockText, FlatText, with_merge, flat_unit}
+use Rattle.lh_flat.specs.Flat.{FlatBlockText, FlatText, with_merge, flat_unit, as_block}
 use Rattle.lh_term.specs.Tree.{Tree}
 use Rattle.lh_term.specs.Mean.{Valuation, IsFitting, mean}
 use Rattle.lh_term.specs.Make.{bit_of}
@@ -32,8 +33,8 @@ use Rattle.lh_rows.specs.Places.{Region}
 use Rattle.lh_rows.specs.Regions.{with_constant, with_constants, begins_with_phi, lines_at, known_first, head_of, edge_into, Course, no_course, comes_to, max_insts, first_region}
 use Rattle.lh_rows.specs.Typed.{Among, IsOfType, JoinEdge}
 use Rattle.lh_rows.specs.Means.{range_in, reads, KnownIsHeld, Agrees}
-use Rattle.lh_rows.specs.Laws.{EndsAs, max_steps, new_process, WaitsForHead, FirstActivation, AgainFromHead, HeadStaysKnown, RowsAreTyped, DriveTyped, EndTyped}
-use Rattle.lh_rows.specs.Right.{as_block, BlockAt, WayRight}
+use Rattle.lh_rows.specs.Laws.{EndsAs, max_steps, WaitsForHead, FirstActivation, AgainFromHead, HeadStaysKnown, RowsAreTyped, EndTyped}
+use Rattle.lh_rows.specs.Right.{DriveTyped, BlockAt, WayRight}
 use Rattle.lh_rows.proofs.Among.{in-each}
 use Rattle.lh_rows.proofs.Merging.{bit-condition}
 use Rattle.lh_rows.proofs.Labels.{block-labelled}
@@ -152,7 +153,7 @@ module _ (name : UnitName) (t : FlatText) (f : IsFormed (flat_unit name t)) (pla
     abbrev entry-point : Point
     entry-point = Start.point name t f plain s (mean past now) (range_in args) (λ d. refl) eb.label (with_merge eb.merge eb.lines) held0
 
-    first-control : control_at u (new_process t args) ≡ Some (record { unit = u; block = eb.label; rest = with_merge eb.merge eb.lines; held = held0 })
+    first-control : control_at u (begun u args) ≡ Some (record { unit = u; block = eb.label; rest = with_merge eb.merge eb.lines; held = held0 })
     first-control = ap (λ bs. machine.at_first u held0 (map as_block bs)) (Start.entry-of name t f plain).are
 
     -- where the entry is the head
@@ -195,7 +196,7 @@ module _ (name : UnitName) (t : FlatText) (f : IsFormed (flat_unit name t)) (pla
         )
 
     pub first-runs : RangesFit (length s.now) args (arg_types t.args) → (bound : ℕ) → max_steps + length (lines_at t.blocks 0) ≤ bound → (done : Activated)
-        × (activate bound s u (new_process t args) ≡ Some done) × EndsAs u t past now args s.at no_wish [] c.rows done
+        × (activate bound s u (begun u args) ≡ Some done) × EndsAs u t past now args s.at no_wish [] c.rows done
     unfolding activate
     first-runs fit bound h =
         let z = by (nat_eq (head_of t.blocks) 0) refl in
@@ -238,7 +239,7 @@ module _ (name : UnitName) (t : FlatText) (f : IsFormed (flat_unit name t)) (pla
 
   pub rows-typed : Each DriveTyped c.rows.drives × Each (EndTyped u) c.rows.ends
   rows-typed = (
-    Each-more (Courses.DriveFine u g r) DriveTyped c.rows.drives (λ d k. record { cond = k.cond; part = k.part; value = k.value; delay = k.delay }) first-fine.drives,
+    first-fine.drives,
     Each-more (Courses.EndFine u g r) (EndTyped u) c.rows.ends (λ x k. record { cond = k.cond; known = k.known }) first-fine.ends,
   )
 

@@ -29,7 +29,7 @@ use Rattle.lh_unit.specs.Activation.{Scene, Point, Activated, Stand, goes, enter
 use Rattle.lh_formed.specs.Defined.{IsThere, OperandsThere}
 use Rattle.lh_formed.specs.KindsOf.{HasTypeOfKind}
 use Rattle.lh_formed.specs.Operands.{IsOf, MayBeOf, RowIs}
-use Rattle.lh_flat.specs.Flat.{FlatBlockText, with_merge}
+use Rattle.lh_flat.specs.Flat.{FlatBlockText, with_merge, as_block}
 use Rattle.lh_formed.proofs.EachItem.{each-split}
 use Rattle.lh_formed.proofs.There.{first-name, second-name}
 use Rattle.lh_formed.proofs.AtPlaces.{place-at}
@@ -45,7 +45,7 @@ use Rattle.lh_rows.specs.Joins.{RegionPlace, RegionEdge}
 use Rattle.lh_rows.specs.Places.{Region, Here, Midst, block_number, both, leads, branches, wait_way, ends_if, takes, takes_all}
 use Rattle.lh_rows.specs.Typed.{KnowsTyped, KnowsThere, IsCondition}
 use Rattle.lh_rows.specs.Means.{range_in, reads, KnownIsHeld, with_rows}
-use Rattle.lh_rows.specs.Right.{as_block, BlockAt, PhisGiven, JoinsAt}
+use Rattle.lh_rows.specs.Right.{BlockAt, PhisGiven, JoinsAt}
 use Rattle.lh_rows.proofs.Sites.{Site, site-at}
 use Rattle.lh_rows.proofs.Merging.{one, mean-bit, and-one, not-one, not-condition}
 use Rattle.lh_rows.proofs.Operations.{IsOfSome, datum-shown, parts-shown, value-known, part-known}

@@ -10,16 +10,16 @@ use Rattle.lh_unit.specs.Contents.{LineText, BlockText, UnitText}
 use Rattle.lh_unit.specs.Within.{Each}
 use Rattle.lh_unit.proofs.Lists.{Each-right, Each-append}
 use Rattle.lh_unit.proofs.Within.{Each-more}
-use Rattle.lh_flat.specs.Flat.{FlatBlockText, MergeText, with_merge}
+use Rattle.lh_flat.specs.Flat.{FlatBlockText, MergeText, with_merge, as_block}
 use Rattle.lh_term.specs.Tree.{Tree}
 use Rattle.lh_term.specs.Make.{bit_of}
-use Rattle.lh_rows.specs.Rows.{Drive, RegionEnd, Rows}
+use Rattle.lh_rows.specs.Rows.{RegionEnd, Rows}
 use Rattle.lh_rows.specs.Joins.{RegionPlace, RegionEdge, any_taken, known_at}
 use Rattle.lh_rows.specs.Places.{Region, Here, Midst, takes_all}
 use Rattle.lh_rows.specs.Regions.{RegionRefusal, region_too_large, too_many_turns, Course, no_course, Coursed, stops, comes_to, then_course, max_turns, max_insts, turns_too_often, after_lines, through_block, is_place, edges_to, through_reached, through_all, all_places, region_from}
 use Rattle.lh_rows.specs.Typed.{Among, KnowsTyped, KnowsThere, IsCondition, JoinEdge}
 use Rattle.lh_rows.specs.Right as right
-use Rattle.lh_rows.specs.Right.{as_block, BlockAt}
+use Rattle.lh_rows.specs.Right.{BlockAt, DriveTyped}
 use Rattle.lh_rows.proofs.Among.{in-each, each-among, filter-among}
 use Rattle.lh_rows.proofs.Sites.{LineGood, good-lines}
 use Rattle.lh_rows.proofs.Merging.{EachCondition, any-condition, bit-condition}
@@ -54,9 +54,6 @@ module _ (u : UnitText) (g : Region) (r : RegionOf u g) where
 
   abbrev pub EndFine : RegionEnd → Type 0
   EndFine = right.EndFine u g
-
-  abbrev pub DriveFine : Drive → Type 0
-  DriveFine = right.DriveFine
 
   abbrev pub CourseFine : Course → Type 0
   CourseFine = right.CourseFine u g
@@ -134,9 +131,9 @@ module _ (u : UnitText) (g : Region) (r : RegionOf u g) where
               (Each-append EdgeFine c.edges a.edges.0 f.edges (new-edges a.edges.0 a.edges.2 (Each-right (λ (e : RegionEdge). e.to.turns ≤ max_turns) c.edges a.edges.0 few)));
           ends = subst (Each EndFine) (sym (ap (λ (x : Rows). x.ends) t.rows ∙ a.ends.1))
               (Each-append EndFine c.rows.ends a.ends.0 f.ends (Each-more (EndRight u g (here_at p q b)) EndFine a.ends.0 (λ x k. record { cond = k.cond; known = k.known; way = k.way }) a.ends.2));
-          drives = subst (Each DriveFine) (sym (ap (λ (x : Rows). x.drives) t.rows ∙ a.drives.1))
-              (Each-append DriveFine c.rows.drives a.drives.0 f.drives
-              (Each-more (DriveRight (here_at p q b)) DriveFine a.drives.0 (λ x k. record { cond = k.cond; part = k.part; value = k.value; delay = k.delay }) a.drives.2));
+          drives = subst (Each DriveTyped) (sym (ap (λ (x : Rows). x.drives) t.rows ∙ a.drives.1))
+              (Each-append DriveTyped c.rows.drives a.drives.0 f.drives
+              (Each-more (DriveRight (here_at p q b)) DriveTyped a.drives.0 (λ x k. record { cond = k.cond; part = k.part; value = k.value; delay = k.delay }) a.drives.2));
         }
 
   -- ---- a place that edges lead to

@@ -40,13 +40,13 @@ use Rattle.lh_eval.specs.Sound.{IsWrittenRight}
 use Rattle.lh_eval.proofs.PartsRead.{of-values, of-signal}
 use Rattle.lh_eval.proofs.ValuesFit.{test-truth}
 use Rattle.lh_inlined.specs.Formed.{IsWithoutCalls}
-use Rattle.lh_flat.specs.Flat.{FlatBlockText}
+use Rattle.lh_flat.specs.Flat.{FlatBlockText, as_block}
 use Rattle.lh_term.specs.Tree.{Tree, constant, tree_row, operation_on}
 use Rattle.lh_term.specs.Types.{IsTyped}
 use Rattle.lh_term.specs.Mean.{Valuation, IsFitting, mean, means}
 use Rattle.lh_term.specs.Make.{is_zero, make_operation}
 use Rattle.lh_term.specs.declared.part.Part.{Part}
-use Rattle.lh_term.specs.Same.{nat_eq-is}
+use Rattle.lh_types.specs.Same.{nat_eq-is}
 use Rattle.lh_term.proofs.Sound.{operation_sound}
 use Rattle.lh_term.proofs.Typing.{mean_fits}
 use Rattle.lh_rows.specs.Known.{Known, known_value, known_cell, known_part, Knowledge, value_known, cell_known, part_known, values_known, with_given}
@@ -54,7 +54,7 @@ use Rattle.lh_rows.specs.Rows.{Drive}
 use Rattle.lh_rows.specs.Places.{Region, Here, Midst, gives, probes, both, drive_cond, with_drive, drives, asserts, takes, operated}
 use Rattle.lh_rows.specs.Typed.{KnowsTyped, KnowsThere, IsCondition}
 use Rattle.lh_rows.specs.Means.{range_in, lowest_bit, reads, held_as, KnownIsHeld, is_one, due_by, with_row, with_rows}
-use Rattle.lh_rows.specs.Right.{as_block, BlockAt}
+use Rattle.lh_rows.specs.Right.{BlockAt}
 use Rattle.lh_rows.proofs.Sites.{Site}
 use Rattle.lh_rows.proofs.Merging.{one, mean-bit, and-one}
 use Rattle.lh_rows.proofs.Operations.{datum-shown, cell-shown, part-shown, data-shown, operands-typed, PartStep}

@@ -22,15 +22,15 @@ use Rattle.lh_formed.proofs.EachItem.{each-split}
 use Rattle.lh_formed.proofs.AtPlaces.{place-at}
 use Rattle.lh_inlined.specs.Formed.{IsFormed, PhiFormed}
 use Rattle.lh_inlined.proofs.Tidying.{seen-once}
-use Rattle.lh_flat.specs.Flat.{FlatBlockText, MergeText, FlatText, with_merge}
+use Rattle.lh_flat.specs.Flat.{FlatBlockText, MergeText, FlatText, with_merge, as_block}
 use Rattle.lh_term.specs.Tree.{constant}
 use Rattle.lh_term.specs.declared.part.Part.{Part}
-use Rattle.lh_rows.specs.Known.{Known, known_value, known_part, Knowledge, with_given, whole_argument, with_arguments}
+use Rattle.lh_rows.specs.Known.{Known, known_value, known_part, Knowledge, with_given, with_arguments, argument_part}
+use Rattle.lh_term.specs.Parts.{whole_argument}
 use Rattle.lh_rows.specs.Joins.{RegionEdge}
 use Rattle.lh_rows.specs.Places.{block_number}
 use Rattle.lh_rows.specs.Regions.{is_constant, with_constant, with_constants, branched_to, leads_on, is_led_to, head_after, begins_with_phi, head_of}
-use Rattle.lh_rows.specs.Typed.{Among, argument_part, PhiKnown}
-use Rattle.lh_rows.specs.Right.{as_block}
+use Rattle.lh_rows.specs.Typed.{Among, PhiKnown}
 use Rattle.lh_rows.proofs.Sites.{site-at}
 use Rattle.lh_rows.proofs.Knowing.{given-stays, given-known}
 use Rattle.lh_rows.proofs.PartsNamed.{part-argument}

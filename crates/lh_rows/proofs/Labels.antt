@@ -8,9 +8,9 @@ use Rattle.lh_unit.specs.Contents.{BlockText}
 use Rattle.lh_names.specs.Names.{same_name}
 use Rattle.lh_unit.specs.Named.{block_of}
 use Rattle.lh_names.proofs.NameLists.{same_name-is}
-use Rattle.lh_flat.specs.Flat.{FlatBlockText}
+use Rattle.lh_flat.specs.Flat.{FlatBlockText, as_block}
 use Rattle.lh_rows.specs.Places.{block_number}
-use Rattle.lh_rows.specs.Right.{as_block, BlockAt}
+use Rattle.lh_rows.specs.Right.{BlockAt}
 
 one-more : (o : Option ℕ) (i : ℕ) → o ≡ Some i → option_map (λ k. k + 1) o ≡ Some (suc i)
 one-more o i q = ap (option_map (λ k. k + 1)) q ∙ (let e : i + 1 ≡ suc i = omega arith in ap Some e)

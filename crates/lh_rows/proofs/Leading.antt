@@ -19,7 +19,7 @@ use Rattle.lh_formed.proofs.There.{first-name, second-name}
 use Rattle.lh_formed.proofs.AtPlaces.{place-at}
 use Rattle.lh_eval.specs.Sound.{IsWrittenRight}
 use Rattle.lh_inlined.specs.Formed.{IsWithoutCalls}
-use Rattle.lh_flat.specs.Flat.{FlatBlockText, with_merge}
+use Rattle.lh_flat.specs.Flat.{FlatBlockText, with_merge, as_block}
 use Rattle.lh_term.specs.Tree.{Tree}
 use Rattle.lh_term.specs.Make.{make_operation}
 use Rattle.lh_term.specs.declared.part.Part.{Part}
@@ -27,7 +27,7 @@ use Rattle.lh_rows.specs.Known.{Knowledge, value_known, parts_known}
 use Rattle.lh_rows.specs.Rows.{halts, waits}
 use Rattle.lh_rows.specs.Places.{Region, Here, Midst, both, ends, leads, branches, wait_way, ends_if, takes, takes_all}
 use Rattle.lh_rows.specs.Typed.{KnowsTyped, KnowsThere, IsCondition}
-use Rattle.lh_rows.specs.Right.{as_block, BlockAt, PhiGiven, PhisGiven, JoinsAt}
+use Rattle.lh_rows.specs.Right.{BlockAt, PhiGiven, PhisGiven, JoinsAt}
 use Rattle.lh_rows.proofs.Sites.{Site, site-at}
 use Rattle.lh_rows.proofs.Merging.{and-condition, not-condition}
 use Rattle.lh_rows.proofs.Knowing.{phis-more}

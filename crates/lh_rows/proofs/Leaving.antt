@@ -10,7 +10,7 @@ use Rattle.lh_unit.specs.Held.{Env}
 use Rattle.lh_unit.specs.Places.{is_terminator}
 use Rattle.lh_unit.specs.Within.{Each}
 use Rattle.lh_unit.specs.Activation.{Scene, Point, Activated, Stand, phis_taken, entered, run}
-use Rattle.lh_flat.specs.Flat.{FlatBlockText, with_merge}
+use Rattle.lh_flat.specs.Flat.{FlatBlockText, with_merge, as_block}
 use Rattle.lh_term.specs.Tree.{Tree}
 use Rattle.lh_term.specs.Mean.{Valuation, IsFitting, mean}
 use Rattle.lh_term.specs.Make.{bit_of}
@@ -21,7 +21,7 @@ use Rattle.lh_rows.specs.Places.{Region, Here, Midst, next_place}
 use Rattle.lh_rows.specs.Typed.{Among, KnowsTyped, KnowsThere, IsCondition}
 use Rattle.lh_rows.specs.Means.{range_in, KnownIsHeld}
 use Rattle.lh_rows.specs.Ending as ending
-use Rattle.lh_rows.specs.Right.{as_block, BlockAt, JoinsAt}
+use Rattle.lh_rows.specs.Right.{BlockAt, JoinsAt}
 use Rattle.lh_rows.proofs.Sites.{LineGood, good-lines}
 use Rattle.lh_rows.proofs.Merging.{one, bit-condition}
 use Rattle.lh_rows.proofs.Phis.{known-shows-at}

@@ -1,8 +1,8 @@
 -- A name is that of one part.
-use Rattle.std.proofs.Common.{◌≡◌, ℕ, ◌+◌, List, [], ◌∷◌, Bool, true, false, ◌||◌, Some, refl, sym, ◌∙◌, subst}
+use Rattle.std.proofs.Common.{◌≡◌, ℕ, ◌+◌, List, [], ◌∷◌, Bool, true, false, ◌||◌, Some, None, refl, ap, sym, ◌∙◌, subst}
 use Rattle.std.specs.Bool.{if◌then◌else◌}
 use Rattle.std.specs.Option.{option_and_then, option_map}
-use Rattle.std.proofs.lemmas.Bool.{false≢true}
+use Rattle.std.proofs.lemmas.Bool.{false≢true, or_parts}
 use Rattle.std.proofs.lemmas.Option.{same_Some, none-some}
 use Rattle.lh_types.specs.declared.op.Op.{Op}
 use Rattle.lh_unit.specs.Contents.{OperandText, pure_text, ArgText, UnitText, args_define}
@@ -10,9 +10,10 @@ use Rattle.lh_names.specs.Names.{same_name}
 use Rattle.lh_unit.specs.Effects.{step_of}
 use Rattle.lh_unit.specs.Typing.{carried}
 use Rattle.lh_term.specs.declared.part.Part.{Part}
-use Rattle.lh_rows.specs.Known.{known_part, whole_argument}
+use Rattle.lh_rows.specs.Known.{known_part, argument_part}
+use Rattle.lh_term.specs.Parts.{whole_argument}
 use Rattle.lh_rows.specs.Places.{stepped}
-use Rattle.lh_rows.specs.Typed.{IsPartOf, of_argument, of_step, argument_part}
+use Rattle.lh_rows.specs.Typed.{IsPartOf, of_argument, of_step}
 
 -- an argument's part is that of an argument
 pub part-argument : (n : List ℕ) (i : ℕ) (xs : List ArgText) (p : Part) → argument_part n i xs ≡ Some p → args_define n xs ≡ true
@@ -23,6 +24,13 @@ part-argument n i (a ∷ xs) p q = by (same_name a.name n) q (part-argument n (i
         → (b || args_define n xs) ≡ true
     by true g go = refl
     by false g go = go g
+
+-- a name that is no argument's has no argument's part
+pub no-argument : (n : List ℕ) (i : ℕ) (xs : List ArgText) → args_define n xs ≡ false → argument_part n i xs ≡ None
+no-argument n i [] h = refl
+no-argument n i (a ∷ xs) h =
+    let b = or_parts (same_name a.name n) (args_define n xs) h in
+    ap (λ z. if z then option_map (whole_argument i) (carried a.ty) else argument_part n (i + 1) xs) b.0 ∙ no-argument n (i + 1) xs b.1
 
 same-args : (o o' : Op) (x x' : OperandText) → Some (pure_text o (x ∷ [])) ≡ Some (pure_text o' (x' ∷ [])) → (o ≡ o') × (x ≡ x')
 same-args o o' x x' e = (cc, cc)

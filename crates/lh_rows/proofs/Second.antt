@@ -13,7 +13,7 @@ use Rattle.lh_unit.specs.Within.{Each}
 use Rattle.lh_unit.specs.Activation as machine
 use Rattle.lh_unit.specs.Activation.{Scene, ProcessState, Activated, activate, control_at, start_point, run, phis_taken, entered}
 use Rattle.lh_inlined.specs.Formed.{IsFormed}
-use Rattle.lh_flat.specs.Flat.{FlatBlockText, FlatText, with_merge, flat_unit}
+use Rattle.lh_flat.specs.Flat.{FlatBlockText, FlatText, with_merge, flat_unit, as_block}
 use Rattle.lh_term.specs.Tree.{Tree, past_of, now_of}
 use Rattle.lh_term.specs.Mean.{Valuation, IsFitting, mean}
 use Rattle.lh_term.specs.Make.{bit_of}
@@ -27,13 +27,12 @@ use Rattle.lh_rows.specs.Typed.{Among, IsOfType, JoinEdge}
 use Rattle.lh_rows.specs.Means.{range_in, reads, is_true, KnownIsHeld, with_rows}
 use Rattle.lh_rows.specs.Ending.{StandsAs}
 use Rattle.lh_rows.specs.Laws.{Probes, CameTo, EndsAs, ThenFirst, max_steps, WaitsAfter, SecondRegion}
-use Rattle.lh_rows.specs.Right.{as_block, BlockAt, JoinsAt, WayRight}
+use Rattle.lh_rows.specs.Right.{BlockAt, JoinsAt, WayRight}
 use Rattle.lh_rows.proofs.Reading.{reads-fit}
 use Rattle.lh_rows.proofs.Among.{in-each}
 use Rattle.lh_rows.proofs.Merging.{bit-condition}
-use Rattle.lh_rows.proofs.Labels.{block-labelled}
+use Rattle.lh_rows.proofs.Labels.{block-labelled, block-text}
 use Rattle.lh_rows.proofs.Sites.{good-lines}
-use Rattle.lh_rows.proofs.Labels.{block-text}
 use Rattle.lh_rows.proofs.Steps.{RegionOf}
 use Rattle.lh_rows.proofs.Phis.{known-shows-at}
 use Rattle.lh_rows.proofs.Heads.{no-phis-taken}

@@ -31,16 +31,17 @@ use Rattle.lh_sound.specs.Units.{IsPort}
 use Rattle.lh_sound.proofs.FindingStatic.{result-is}
 use Rattle.lh_inlined.specs.Formed.{IsFormed}
 use Rattle.lh_inlined.proofs.Tidying.{seen-once}
-use Rattle.lh_flat.specs.Flat.{FlatBlockText, FlatText, with_merge, flat_unit}
+use Rattle.lh_flat.specs.Flat.{FlatBlockText, FlatText, with_merge, flat_unit, as_block}
 use Rattle.lh_term.specs.Tree.{Tree, constant}
 use Rattle.lh_term.specs.Make.{bit_of}
 use Rattle.lh_term.specs.declared.part.Part.{Part}
-use Rattle.lh_rows.specs.Known.{Known, known_value, known_part, Knowledge, nothing_known, with_given, whole_argument, with_arguments}
+use Rattle.lh_rows.specs.Known.{Known, known_value, known_part, Knowledge, nothing_known, with_given, with_arguments, argument_part}
+use Rattle.lh_term.specs.Parts.{whole_argument}
 use Rattle.lh_rows.specs.Places.{block_number}
 use Rattle.lh_rows.specs.Regions.{is_constant, with_constant, with_constants, begins_with_phi, lines_at, known_first, head_of, edge_into}
-use Rattle.lh_rows.specs.Typed.{known_type, Among, argument_part, of_argument, IsTypedKnown, KnowsTyped, KnowsThere, JoinEdge}
+use Rattle.lh_rows.specs.Typed.{known_type, Among, of_argument, IsTypedKnown, KnowsTyped, KnowsThere, JoinEdge}
 use Rattle.lh_rows.specs.Means.{range_in, lowest_bit, held_as, KnownIsHeld}
-use Rattle.lh_rows.specs.Right.{as_block, BlockAt}
+use Rattle.lh_rows.specs.Right.{BlockAt}
 use Rattle.lh_rows.proofs.Among.{in-each, among-split}
 use Rattle.lh_rows.proofs.Sites.{LineGood, good-lines}
 use Rattle.lh_rows.proofs.Merging.{bit-condition}

@@ -14,7 +14,7 @@ use Rattle.lh_unit.specs.Places.{is_terminator, leads_to}
 use Rattle.lh_unit.specs.Within.{Each}
 use Rattle.lh_unit.proofs.Lists.{Each-append}
 use Rattle.lh_inlined.specs.Formed.{IsFormed}
-use Rattle.lh_flat.specs.Flat.{FlatBlockText, with_merge}
+use Rattle.lh_flat.specs.Flat.{FlatBlockText, with_merge, as_block}
 use Rattle.lh_term.specs.Tree.{Tree}
 use Rattle.lh_term.specs.Make.{is_zero}
 use Rattle.lh_term.specs.Mean.{Valuation, IsFitting}
@@ -24,7 +24,7 @@ use Rattle.lh_rows.specs.Rows.{Drive, enters_head, RegionEnd}
 use Rattle.lh_rows.specs.Joins.{RegionEdge}
 use Rattle.lh_rows.specs.Places.{Region, Here, Midst, block_number, next_place, goes_if, leads, ends}
 use Rattle.lh_rows.specs.Typed.{KnowsTyped, KnowsThere, IsCondition, IsOfType}
-use Rattle.lh_rows.specs.Right.{BlockAt, JoinsAt, WayRight, as_block}
+use Rattle.lh_rows.specs.Right.{BlockAt, JoinsAt, WayRight}
 use Rattle.lh_rows.proofs.Merging.{one}
 use Rattle.lh_rows.proofs.Labels.{block-by, block-labelled, block-text}
 use Rattle.lh_rows.proofs.Edges.{edge-joins}

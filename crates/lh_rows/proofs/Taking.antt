@@ -33,7 +33,7 @@ use Rattle.lh_eval.specs.Sound.{IsWrittenRight}
 use Rattle.lh_eval.proofs.GivesFit.{constants-fit}
 use Rattle.lh_sound.proofs.Finding.{carries-value}
 use Rattle.lh_sound.proofs.NamedOnce.{giving-lines}
-use Rattle.lh_flat.specs.Flat.{FlatBlockText}
+use Rattle.lh_flat.specs.Flat.{FlatBlockText, as_block}
 use Rattle.lh_term.specs.Tree.{Tree, constant, operation_on}
 use Rattle.lh_term.specs.Types as terms
 use Rattle.lh_term.specs.Types.{IsTyped}
@@ -46,7 +46,7 @@ use Rattle.lh_rows.specs.Places.{Region, Here, Midst, stepped, part_stepped, ope
 use Rattle.lh_rows.specs.Regions.{is_constant}
 use Rattle.lh_rows.proofs.Phis.{const-line}
 use Rattle.lh_rows.specs.Typed.{KnowsTyped, KnowsThere, IsConstantOf, of_step, IsCondition, IsOfType}
-use Rattle.lh_rows.specs.Right.{as_block, BlockAt, PhiGiven}
+use Rattle.lh_rows.specs.Right.{BlockAt, PhiGiven}
 use Rattle.lh_rows.proofs.Sites.{Site, not-result}
 use Rattle.lh_rows.proofs.Merging.{one, and-condition, and-one}
 use Rattle.lh_rows.proofs.Operations.{term-type, value-known, cell-known, part-known, HasType, operands-typed, operation-typed, operation-known, PartStep}

@@ -11,7 +11,7 @@ use Rattle.lh_unit.specs.Held.{Env}
 use Rattle.lh_unit.specs.Within.{Each}
 use Rattle.lh_unit.specs.Activation.{Scene, Point, Activated, Stand, phis_taken, run}
 use Rattle.lh_formed.specs.Shape.{EndsOnce}
-use Rattle.lh_flat.specs.Flat.{FlatBlockText, MergeText, with_merge}
+use Rattle.lh_flat.specs.Flat.{FlatBlockText, MergeText, with_merge, as_block}
 use Rattle.lh_term.specs.Tree.{Tree}
 use Rattle.lh_term.specs.Mean.{Valuation, IsFitting, mean}
 use Rattle.lh_term.specs.Make.{bit_of}
@@ -24,7 +24,7 @@ use Rattle.lh_rows.specs.Regions.{Course, no_course, comes_to, max_turns, is_pla
 use Rattle.lh_rows.specs.Typed.{Among, IsCondition, JoinEdge}
 use Rattle.lh_rows.specs.Means.{range_in, reads, KnownIsHeld, is_one, with_row, with_rows}
 use Rattle.lh_rows.specs.Ending.{StandsAs}
-use Rattle.lh_rows.specs.Right.{as_block, BlockAt}
+use Rattle.lh_rows.specs.Right.{BlockAt}
 use Rattle.lh_rows.proofs.Among.{in-each, among-filter, filter-among, among-split}
 use Rattle.lh_rows.proofs.Sites.{block-at}
 use Rattle.lh_rows.proofs.Merging.{EachCondition, one, any-one, any-taken, none-taken, bit-condition}

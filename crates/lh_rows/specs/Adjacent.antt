@@ -12,7 +12,7 @@ use Rattle.lh_term.specs.Make.{make_operation, make_choice}
 use Rattle.lh_term.specs.Conjuncts.{conjuncts_of, conjunction}
 use Rattle.lh_rows.specs.Rows.{Drive}
 use Rattle.lh_rows.specs.Means.{with_row}
-use Rattle.lh_rows.specs.Laws.{DriveTyped}
+use Rattle.lh_rows.specs.Right.{DriveTyped}
 
 -- the conjuncts of d that are none of c
 abbrev pub beyond : (c d : Tree) → Tree

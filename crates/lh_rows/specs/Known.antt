@@ -1,13 +1,13 @@
 -- What is known under the names of a process at a place of it: terms in place of values.
 use Rattle.std.specs.Prelude.{ℕ, ◌+◌, List, [], ◌∷◌, if◌then◌else◌, Option, Some, None}
 use Rattle.std.specs.Option.{option_and_then, option_map}
-use Rattle.lh_types.specs.Types.{TypeTree}
 use Rattle.lh_unit.specs.Contents.{OperandText, ArgText}
 use Rattle.lh_names.specs.Names.{same_name}
 use Rattle.lh_unit.specs.Typing.{carried}
 use Rattle.lh_unit.specs.Held.{front}
 use Rattle.lh_term.specs.Tree.{Tree}
 use Rattle.lh_term.specs.declared.part.Part.{Part}
+use Rattle.lh_term.specs.Parts.{whole_argument}
 
 -- the term of a value, the term of what a variable holds, or a part of an argument
 pub data Known : Type 0 where
@@ -66,9 +66,10 @@ abbrev pub parts_known : Knowledge → List (List ℕ) → Option (List Part)
 parts_known k [] = Some []
 parts_known k (n ∷ more) = front (part_known k n) (parts_known k more)
 
--- the whole of argument i, which is of this type
-abbrev pub whole_argument : (i : ℕ) → TypeTree → Part
-whole_argument i t = record { arg = i; lo = 0; ty = t }
+-- the argument of this name as a part by itself, the first of these arguments having the number i
+abbrev pub argument_part : List ℕ → (i : ℕ) → List ArgText → Option Part
+argument_part n i [] = None
+argument_part n i (a ∷ more) = if same_name a.name n then option_map (whole_argument i) (carried a.ty) else argument_part n (i + 1) more
 
 -- the arguments of a process from argument i on, each as a part by itself
 abbrev pub with_arguments : Knowledge → (i : ℕ) → List ArgText → Knowledge

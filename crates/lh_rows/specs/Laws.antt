@@ -1,14 +1,15 @@
 -- The law of rows: what an activation of a process does is what the rows of its regions say.
-use Rattle.std.specs.Prelude.{◌≡◌, ◌⊎◌, ◌≤◌, ◌+◌, ℕ, List, [], length, map, Bool, true, false, Option, Some, slice_get}
+use Rattle.std.specs.Prelude.{◌≡◌, ◌⊎◌, ◌≤◌, ◌+◌, ℕ, List, [], length, Bool, true, false, Option, Some, slice_get}
 use Rattle.lh_time.specs.declared.Instant.{Instant}
-use Rattle.lh_types.specs.Types.{time_type, IsData}
+use Rattle.lh_types.specs.Types.{IsData}
 use Rattle.lh_types.specs.Wish.{Wish, no_wish}
 use Rattle.lh_types.specs.declared.part.Range.{Range}
 use Rattle.lh_names.specs.declared.name.UnitName.{UnitName}
 use Rattle.lh_unit.specs.Contents.{UnitText}
-use Rattle.lh_unit.specs.Held.{Env, part_held, nothing_held, with_args}
+use Rattle.lh_unit.specs.Held.{Env}
 use Rattle.lh_unit.specs.Within.{Each}
-use Rattle.lh_unit.specs.Activation.{Scene, is_new, waits, ProcessState, Activated, activate}
+use Rattle.lh_unit.specs.Activation.{Scene, waits, ProcessState, Activated, activate}
+use Rattle.lh_unit.specs.World.{begun}
 use Rattle.lh_sound.specs.Ranges.{RangesFit, arg_types}
 use Rattle.lh_inlined.specs.Formed.{IsFormed}
 use Rattle.lh_flat.specs.Flat.{FlatBlockText, FlatText, flat_unit}
@@ -16,11 +17,12 @@ use Rattle.lh_term.specs.Tree.{Tree, past_of}
 use Rattle.lh_term.specs.Mean.{Valuation, IsFitting, mean}
 use Rattle.lh_term.specs.declared.part.Part.{Part}
 use Rattle.lh_rows.specs.Rows as rows
-use Rattle.lh_rows.specs.Rows.{Drive, Way, enters_head, RegionEnd, Rows}
+use Rattle.lh_rows.specs.Rows.{enters_head, RegionEnd, Rows}
 use Rattle.lh_rows.specs.Regions.{head_of, begins_with_phi, lines_at, known_first, Course, comes_to, max_insts, first_region, second_region, waits_for}
 use Rattle.lh_rows.specs.Typed.{Among, KnowsTyped, IsCondition, IsOfType}
 use Rattle.lh_rows.specs.Means.{reads, is_true, Agrees, with_rows}
 use Rattle.lh_rows.specs.Ending.{StandsAs}
+use Rattle.lh_rows.specs.Right.{DriveTyped}
 
 -- a flat text that is formed, whose head begins with no `phi`, and an instance of it, the bits of whose arguments lie within the signals
 pub record IsInstance (name : UnitName) (t : FlatText) (args : List Range) (bits : List Bool) : Type 0 where
@@ -54,15 +56,11 @@ pub record EndsAs (u : UnitText) (t : FlatText) (past now : Valuation) (args : L
 abbrev pub max_steps : ℕ
 max_steps = max_insts + max_insts
 
--- a process before its first activation
-abbrev pub new_process : FlatText → List Range → ProcessState
-new_process t args = record { stand = is_new; held = with_args nothing_held t.args (map part_held args) }
-
 -- The first activation of an instance does what the rows of the first region say.
 abbrev pub FirstActivation : Type 0
 FirstActivation = (name : UnitName) (t : FlatText) (args : List Range) (s : Scene) → IsInstance name t args s.now → (probe : Part → Tree) (past now : Valuation) → Probes probe past now args s.now →
     (c : Course) → first_region t probe ≡ comes_to c → (bound : ℕ) → max_steps + length (lines_at t.blocks 0) ≤ bound →
-    (done : Activated) × (activate bound s (flat_unit name t) (new_process t args) ≡ Some done) × EndsAs (flat_unit name t) t past now args s.at no_wish [] c.rows done
+    (done : Activated) × (activate bound s (flat_unit name t) (begun (flat_unit name t) args) ≡ Some done) × EndsAs (flat_unit name t) t past now args s.at no_wish [] c.rows done
 
 -- a process waits for the head, and what the first region starts with is held
 pub record WaitsForHead (u : UnitText) (t : FlatText) (past now : Valuation) (args : List Range) (p : ProcessState) : Type 0 where
@@ -117,14 +115,7 @@ SecondRegion = (name : UnitName) (t : FlatText) (args : List Range) (s : Scene) 
     × (EndsAs (flat_unit name t) t past (reads args s.now) args s.at no_wish [] second.rows done
     ⊎ ThenFirst (flat_unit name t) t past (reads args s.now) second.rows past' now' first.rows args s.at done)
 
--- a drive of a region is typed
-pub record DriveTyped (d : Drive) : Type 0 where
-  pub cond : IsCondition d.cond
-  pub part : IsData d.part.ty
-  pub value : IsOfType d.part.ty d.value
-  pub delay : IsOfType time_type d.delay
-
--- so is an end
+-- an end of a region is typed
 pub record EndTyped (u : UnitText) (x : RegionEnd) : Type 0 where
   pub cond : IsCondition x.cond
   pub known : KnowsTyped u x.known

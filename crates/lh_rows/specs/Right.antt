@@ -1,19 +1,15 @@
 -- What is right of a region's edges, ends and drives: their terms are typed, and an edge may join the others that lead to its place.
 use Rattle.std.specs.Prelude.{◌≡◌, ℕ, ◌≤◌, List, true, Option, Some, IsSome, slice_get}
 use Rattle.lh_types.specs.Types.{time_type, IsData}
-use Rattle.lh_unit.specs.Contents.{InstText, phi_text, LineText, BlockText, UnitText, is_result_name}
+use Rattle.lh_unit.specs.Contents.{InstText, phi_text, LineText, UnitText, is_result_name}
 use Rattle.lh_unit.specs.Within.{Each}
-use Rattle.lh_flat.specs.Flat.{FlatBlockText, with_merge}
+use Rattle.lh_flat.specs.Flat.{FlatBlockText, as_block}
 use Rattle.lh_rows.specs.Known.{Knowledge}
 use Rattle.lh_rows.specs.Rows.{Drive, Way, halts, enters_head, waits, RegionEnd}
 use Rattle.lh_rows.specs.Joins.{RegionEdge}
 use Rattle.lh_rows.specs.Places.{Region, block_number}
 use Rattle.lh_rows.specs.Regions.{max_turns, Course}
 use Rattle.lh_rows.specs.Typed.{KnowsTyped, IsCondition, IsOfType, JoinEdge}
-
--- a block of a flat text as one of its unit
-abbrev pub as_block : FlatBlockText → BlockText
-as_block b = record { label = Some b.label; lines = with_merge b.merge b.lines }
 
 -- the block of a number, to which its label leads
 pub record BlockAt (blocks : List FlatBlockText) (i : ℕ) (b : FlatBlockText) : Type 0 where
@@ -49,7 +45,8 @@ pub record EndFine (u : UnitText) (g : Region) (x : RegionEnd) : Type 0 where
   pub known : KnowsTyped u x.known
   pub way : WayRight u g x.way x.from x.known
 
-pub record DriveFine (d : Drive) : Type 0 where
+-- a drive of a region is typed
+pub record DriveTyped (d : Drive) : Type 0 where
   pub cond : IsCondition d.cond
   pub part : IsData d.part.ty
   pub value : IsOfType d.part.ty d.value
@@ -59,4 +56,4 @@ pub record DriveFine (d : Drive) : Type 0 where
 pub record CourseFine (u : UnitText) (g : Region) (c : Course) : Type 0 where
   pub edges : Each (EdgeFine u g) c.edges
   pub ends : Each (EndFine u g) c.rows.ends
-  pub drives : Each DriveFine c.rows.drives
+  pub drives : Each DriveTyped c.rows.drives

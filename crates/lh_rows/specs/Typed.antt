@@ -1,10 +1,9 @@
 -- The terms that are met are typed, each with the type of its name, and what an instruction names is known where control stands at it.
-use Rattle.std.specs.Prelude.{◌≡◌, ◌⊎◌, ℕ, ◌+◌, List, [], ◌∷◌, if◌then◌else◌, false, Option, Some, None, IsSome}
-use Rattle.std.specs.Option.{option_and_then, option_map}
+use Rattle.std.specs.Prelude.{◌≡◌, ◌⊎◌, ℕ, ◌+◌, List, [], ◌∷◌, if◌then◌else◌, false, Some, IsSome}
+use Rattle.std.specs.Option.{option_and_then}
 use Rattle.lh_types.specs.Types.{TypeTree, int_type, void_type, signal_type, pointer_type, IsData}
 use Rattle.lh_types.specs.declared.op.Op.{Op}
-use Rattle.lh_unit.specs.Contents.{OperandText, InstText, const_text, pure_text, phi_text, LineText, BlockText, ArgText, UnitText, args_define}
-use Rattle.lh_names.specs.Names.{same_name}
+use Rattle.lh_unit.specs.Contents.{OperandText, InstText, const_text, pure_text, phi_text, LineText, BlockText, UnitText, args_define}
 use Rattle.lh_unit.specs.Effects.{step_of}
 use Rattle.lh_unit.specs.Typing.{value_type, carried, inst_giving}
 use Rattle.lh_unit.specs.Within.{Each}
@@ -13,7 +12,7 @@ use Rattle.lh_types.specs.Values.{Datum}
 use Rattle.lh_term.specs.Tree.{Tree, constant}
 use Rattle.lh_term.specs.Types.{type_of, IsTyped}
 use Rattle.lh_term.specs.declared.part.Part.{Part}
-use Rattle.lh_rows.specs.Known.{Known, known_value, known_cell, known_part, Knowledge, whole_argument}
+use Rattle.lh_rows.specs.Known.{Known, known_value, known_cell, known_part, Knowledge, argument_part}
 use Rattle.lh_rows.specs.Joins.{RegionEdge, phi_on}
 use Rattle.lh_rows.specs.Places.{stepped}
 
@@ -27,11 +26,6 @@ abbrev pub known_type : Known → TypeTree
 known_type (known_value t) = type_of t
 known_type (known_cell t) = pointer_type (type_of t)
 known_type (known_part p) = signal_type p.ty
-
--- the argument of this name as a part by itself, the first of these arguments having the number i
-abbrev pub argument_part : List ℕ → (i : ℕ) → List ArgText → Option Part
-argument_part n i [] = None
-argument_part n i (a ∷ more) = if same_name a.name n then option_map (whole_argument i) (carried a.ty) else argument_part n (i + 1) more
 
 -- The part of this name: an argument, or what a step leads to in the part of another name.
 pub data IsPartOf (u : UnitText) : List ℕ → Part → Type 0 where

@@ -23,7 +23,8 @@ use Rattle.lh_term.specs.Tree.{Tree, constant}
 use Rattle.lh_term.specs.Make.{is_zero, bit_of, make_operation, make_choice}
 use Rattle.lh_term.specs.Conjuncts.{conjuncts_of}
 use Rattle.lh_term.specs.declared.part.Part.{Part}
-use Rattle.lh_rows.specs.Known.{Known, known_value, known_cell, known_part, Knowledge, nothing_known, with_given, value_known, cell_known, part_known, values_known, parts_known, with_arguments, whole_argument}
+use Rattle.lh_rows.specs.Known.{Known, known_value, known_cell, known_part, Knowledge, nothing_known, with_given, value_known, cell_known, part_known, values_known, parts_known, with_arguments}
+use Rattle.lh_term.specs.Parts.{whole_argument}
 use Rattle.lh_rows.specs.Rows.{Drive, Way, halts, enters_head, RegionEnd, Rows}
 use Rattle.lh_rows.specs.Joins.{RegionPlace, RegionEdge, or_any, any_taken, in_each, selector, chosen_from, merged, merged_by, joined, phi_on, with_phi, with_phis, known_at}
 use Rattle.lh_rows.specs.Places.{Region, Here, Midst, block_number, stepped, part_stepped, operated, gives, probes, both, drive_cond, with_drive, drives, asserts, ends, next_place, goes, goes_if, leads, branches, wait_way, ends_if, takes, takes_all}

@@ -11,7 +11,7 @@ use Rattle.lh_term.specs.Same.{same_part, same_part-is}
 use Rattle.lh_term.specs.SameTree.{same_tree, same_tree-is}
 use Rattle.lh_rows.specs.Rows.{Drive}
 use Rattle.lh_rows.specs.Means.{with_row, with_rows}
-use Rattle.lh_rows.specs.Laws.{DriveTyped}
+use Rattle.lh_rows.specs.Right.{DriveTyped}
 use Rattle.lh_rows.specs.Adjacent.{drive_merged}
 use Rattle.lh_rows.proofs.Adjacent.{adjacent-drives-merge, merged-drives-typed}
 use Rattle.lh_shape.specs.Merging.{are_alike, merged_from}

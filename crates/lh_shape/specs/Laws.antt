@@ -8,7 +8,7 @@ use Rattle.lh_term.specs.Mean.{Valuation, IsFitting}
 use Rattle.lh_term.specs.declared.part.Part.{Part}
 use Rattle.lh_rows.specs.Rows.{Drive}
 use Rattle.lh_rows.specs.Means.{with_rows}
-use Rattle.lh_rows.specs.Laws.{DriveTyped}
+use Rattle.lh_rows.specs.Right.{DriveTyped}
 use Rattle.lh_shape.specs.Merging.{merged_drives}
 use Rattle.lh_shape.specs.Reading.{ReadAmong, DriveAmong}
 

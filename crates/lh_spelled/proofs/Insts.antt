@@ -15,6 +15,7 @@ use Rattle.lh_unit.specs.Within.{Each}
 use Rattle.lh_unit.specs.SpellsParts.{SpellsParts, SpellsList, SpellsBehind, SpellsLocal, SpellsOperand, SpellsMaybe, SpellsTrigger, SpellsEdge}
 use Rattle.lh_unit.specs.SpellsInst.{SpellsDelay, SpellsWordTyped, SpellsInst, SpellsLine}
 use Rattle.lh_names.specs.declared.name.UnitName.{UnitName}
+use Rattle.lh_spelled.specs.Printable.{HasInstLine}
 use Rattle.lh_spelled.proofs.Spacing.{spaced-append, spaced-space, spaced-comma, spaced-enclosed, word-lexeme}
 use Rattle.lh_spelled.proofs.Again.{Whole, PiecesSpell, Again, at_end, joined, parts-again, list-again, behind-again}
 use Rattle.lh_spelled.proofs.Types.{type-again}
@@ -200,3 +201,6 @@ line-again (Some r) i ts l h =
     let k : Each IsLexeme (local r ∷ equals ∷ h.0) = subst (Each IsLexeme) h.1 l in
     let a = inst-again i h.0 k.1.1 h.3 in
     record { spaced = (k.0, refl, (refl, refl, a.spaced)); spelled = (lexemes_in (inst_pieces i), refl, h.2, a.spelled) }
+
+pub line-has : (r : Option (List ℕ)) (i : InstText) (ts : List Lexeme) → Each IsLexeme ts → SpellsLine r i ts → HasInstLine (record { result = r; inst = i })
+line-has r i ts w h = let a = line-again r i ts w h in (a.spaced, a.spelled)

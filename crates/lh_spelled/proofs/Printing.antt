@@ -15,6 +15,7 @@ use Rattle.lh_names.specs.declared.name.UnitName.{UnitName}
 use Rattle.lh_unit.specs.declared.inst.UnitKind.{UnitKind}
 use Rattle.lh_unit.specs.declared.inst.UnitKind.TheVariants as kind
 use Rattle.lh_unit.specs.declared.inst.Declare.{Declare}
+use Rattle.lh_unit.proofs.Lists.{Each-left, Each-right}
 use Rattle.lh_unit.proofs.Rendering.{lexemes-render}
 use Rattle.lh_spelled.specs.ItemLines.{item_line}
 use Rattle.lh_spelled.specs.Laws.{PrintableIsSpelled}
@@ -101,10 +102,6 @@ new_result args bs u (Some r) a b h = (λ i. args_define r (a i) || blocks_defin
 not_full : (n : ℕ) → n < most_lines → nat_eq n most_lines ≡ false
 not_full n h = grind (arith, common_steps)
 
-each-split : (xs ys : List LineText) → Each HasInstLine (xs ++ ys) → Each HasInstLine xs × Each HasInstLine ys
-each-split [] ys h = (tt, h)
-each-split (x ∷ xs) ys h = let p = each-split xs ys h.1 in ((h.0, p.0), p.1)
-
 pub results-split : (args : List ArgText) (seen xs ys : List LineText) → results_repeat args seen (xs ++ ys) ≡ false → (results_repeat args seen xs ≡ false)
     × (results_repeat args (seen ++ xs) ys ≡ false)
 results-split args seen [] ys h = (refl, subst (λ q. results_repeat args q ys ≡ false) (sym (append-nil seen)) h)
@@ -179,12 +176,11 @@ module _ (k : UnitKind) (n : UnitName) (args : List ArgText) (r : Option TypeTre
       → Way (with_blocks done) (with_blocks (done ++ rest))
   blocks-way f done [] h w m c d v = subst (λ q. Way (with_blocks done) (with_blocks q)) (sym (append-nil done)) (here (with_blocks done))
   blocks-way f done (b ∷ rest) h w m c d v =
-      let ws = each-split b.lines (lines_of rest) w in
       let ds = or_parts (label_repeats done b.label) (labels_repeat (done ++ b ∷ []) rest) d in
       let vs = results-split args (lines_of done) b.lines (lines_of rest) v in
       let e : line_count (done ++ b ∷ []) ≡ line_count done + length b.lines = line_count-last done b in
-      let x = block-way done b.label b.lines h.0.0 ws.0 m (omega arith) ds.0 vs.0 in
-      let y = blocks-way f (done ++ b ∷ []) rest h.1 ws.1 (λ l. subst (λ q. may_stand q (label_item l) ≡ true) (sym (f (done ++ b ∷ []) ∙ block-after done b h.0.1)) refl) (omega arith) ds.1
+      let x = block-way done b.label b.lines h.0.0 (Each-left HasInstLine b.lines (lines_of rest) w) m (omega arith) ds.0 vs.0 in
+      let y = blocks-way f (done ++ b ∷ []) rest h.1 (Each-right HasInstLine b.lines (lines_of rest) w) (λ l. subst (λ q. may_stand q (label_item l) ≡ true) (sym (f (done ++ b ∷ []) ∙ block-after done b h.0.1)) refl) (omega arith) ds.1
       (subst (λ q. results_repeat args q (lines_of rest) ≡ false) (sym (lines_of-last done b)) vs.1)
       in
       subst (λ q. Way (with_blocks done) (with_blocks q)) (append_assoc done (b ∷ []) rest) (on (with_blocks done) (with_blocks (done ++ b ∷ [])) (with_blocks ((done ++ b ∷ []) ++ rest)) x y)
@@ -202,10 +198,10 @@ entity-way : (n : UnitName) (args : List ArgText) (r : Option TypeTree) (bs : Li
 entity-way n args r [] p = absurd p.shaped
 entity-way n args r (b ∷ []) p =
     let c : line_count (b ∷ []) ≤ most_lines = p.fits in
-    let w = each-split b.lines [] p.written in
+    let w : Each HasInstLine b.lines = Each-left HasInstLine b.lines [] p.written in
     let v : results_repeat args [] b.lines ≡ false = subst (λ q. results_repeat args [] q ≡ false) (append-nil b.lines) p.new_results in
     subst (λ q. Way (with_blocks kind.Entity n args r (start_blocks kind.Entity)) (with_blocks kind.Entity n args r (block q b.lines ∷ []))) (sym p.shaped)
-    (insts-way kind.Entity n args r [] None [] b.lines w.0 (omega arith) v)
+    (insts-way kind.Entity n args r [] None [] b.lines w (omega arith) v)
 entity-way n args r (b ∷ c ∷ bs) p = absurd p.shaped
 
 labelled-way : (k : UnitKind) (n : UnitName) (args : List ArgText) (r : Option TypeTree) (bs : List BlockText) → ((cs : List BlockText) → place_in k cs ≡ place_after cs) → Each IsLabelled bs

@@ -14,12 +14,12 @@ use Rattle.lh_unit.specs.Naming.{kind_text}
 use Rattle.lh_unit.specs.Reads.{args_repeat}
 use Rattle.lh_unit.specs.WellFormed.{IsWellFormed}
 use Rattle.lh_unit.specs.Within.{Each}
-use Rattle.lh_unit.specs.World.{rules_of}
+use Rattle.lh_unit.specs.World.{rules_of, begun}
 use Rattle.lh_meaning.specs.Replacing.{HasWidths, MayStand}
 use Rattle.lh_meaning.proofs.MayStandLaw.{is_plain, AllPlain, comb_may_stand, edge_may_stand, once_may_stand}
 use Rattle.lh_sound.specs.Ranges.{RangesFit, arg_types}
 use Rattle.lh_inlined.specs.Formed.{IsFormed}
-use Rattle.lh_inlined.specs.Activates.{begun, EndsAlike}
+use Rattle.lh_inlined.specs.Activates.{EndsAlike}
 use Rattle.lh_inlined.proofs.Activating.{flat-is}
 use Rattle.lh_alike.specs.Formed.{FlatTextsAreFormed}
 use Rattle.lh_flat.specs.Flat.{FlatText, flattened, flat_of, flat_unit}
@@ -31,7 +31,7 @@ use Rattle.lh_cover.specs.Bits.{covers}
 use Rattle.lh_edge.specs.Triggers.{EdgeRowTree}
 use Rattle.lh_rows.specs.Rows.{Drive, Rows}
 use Rattle.lh_rows.specs.Means.{range_in, reads, with_rows}
-use Rattle.lh_rows.specs.Laws.{DriveTyped}
+use Rattle.lh_rows.specs.Right.{DriveTyped}
 use Rattle.lh_rows.proofs.Reading.{reads-fit}
 use Rattle.lh_rows.proofs.Activations.{rows-are-typed}
 use Rattle.lh_rows.proofs.Second.{now-typed}

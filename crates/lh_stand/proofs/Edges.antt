@@ -18,11 +18,11 @@ use Rattle.lh_unit.specs.Within.{Each}
 use Rattle.lh_unit.specs.Activation.{Stand, ProcessState, Activated, activate}
 use Rattle.lh_unit.specs.Hierarchy.{Instance}
 use Rattle.lh_unit.specs.Pass.{pass, probes}
-use Rattle.lh_unit.specs.World.{bit_numbers, bit_at, bit_differs}
+use Rattle.lh_unit.specs.World.{bit_numbers, bit_at, bit_differs, begun}
 use Rattle.lh_meaning.proofs.BitSets.{has, SameSet, IsWithin, bits_read, none_of, not_differ}
 use Rattle.lh_meaning.proofs.Standing.{fresh, waiting_at, EndsAt, sensed, EdgeFor}
 use Rattle.lh_inlined.specs.Formed.{IsFormed}
-use Rattle.lh_inlined.specs.Activates.{begun, EndsAlike}
+use Rattle.lh_inlined.specs.Activates.{EndsAlike}
 use Rattle.lh_flat.specs.Flat.{FlatBlockText, FlatText, flat_unit}
 use Rattle.lh_flat.proofs.Bounds.{head-same, tail-same}
 use Rattle.lh_term.specs.Tree.{past_of, now_of}
@@ -40,7 +40,8 @@ use Rattle.lh_rows.specs.Regions.{lines_at, head_of, waits_for, waited_parts, Re
 use Rattle.lh_rows.specs.Typed.{Among}
 use Rattle.lh_rows.specs.Means.{range_in, reads, with_rows}
 use Rattle.lh_rows.specs.Ending.{StandsAs}
-use Rattle.lh_rows.specs.Laws.{max_steps, EndsAs, DriveTyped, WaitsAfter, ThenFirst}
+use Rattle.lh_rows.specs.Laws.{max_steps, EndsAs, WaitsAfter, ThenFirst}
+use Rattle.lh_rows.specs.Right.{DriveTyped}
 use Rattle.lh_rows.proofs.Among.{each-among}
 use Rattle.lh_rows.proofs.Reading.{reads-fit}
 use Rattle.lh_rows.proofs.Second.{past-typed}

@@ -2,7 +2,6 @@
 use Rattle.std.proofs.Common.{◌≡◌, ◌⊎◌, inl, inr, ℕ, suc, ◌+◌, List, [], ◌∷◌, ◌++◌, filter, Bool, true, false, not, Option, Some, None, refl, ap, sym, ◌∙◌, subst}
 use Rattle.std.specs.Bool.{if◌then◌else◌}
 use Rattle.std.specs.Option.{option_and_then, option_map}
-use Rattle.std.proofs.lemmas.Bool.{or_parts}
 use Rattle.std.proofs.lemmas.Option.{same_Some, none-some}
 use Rattle.lh_types.specs.Types.{TypeTree, signal_type, IsData}
 use Rattle.lh_types.specs.Parts as Parts
@@ -12,7 +11,7 @@ use Rattle.lh_types.specs.declared.op.Op.TheVariants as op
 use Rattle.lh_types.specs.declared.op.Op.TheVariants.{Or}
 use Rattle.lh_types.specs.declared.part.Step.{Step}
 use Rattle.lh_types.proofs.PartLemmas.{step_part-within}
-use Rattle.lh_unit.specs.Contents.{OperandText, EdgeText, InstText, const_text, pure_text, phi_text, LineText, ArgText, UnitText, args_define}
+use Rattle.lh_unit.specs.Contents.{OperandText, EdgeText, InstText, const_text, pure_text, phi_text, LineText, UnitText, args_define}
 use Rattle.lh_names.specs.Names.{same_name}
 use Rattle.lh_unit.specs.Effects.{step_of}
 use Rattle.lh_unit.specs.Held.{front}
@@ -20,20 +19,19 @@ use Rattle.lh_unit.specs.Typing.{value_type, result_type, carried, or_else, inst
 use Rattle.lh_unit.specs.Activation.{edge_from}
 use Rattle.lh_unit.specs.Within.{Each}
 use Rattle.lh_names.proofs.NameLists.{same_name-is}
-use Rattle.lh_formed.specs.Parts.{TakesPart, HasPart}
+use Rattle.lh_formed.specs.Parts.{HasPart}
 use Rattle.lh_formed.proofs.PartsLaw.{parts_have_ranges}
-use Rattle.lh_formed.proofs.PartSteps.{same-operand, leads-is, takes-part, step-type}
+use Rattle.lh_formed.proofs.PartSteps.{takes-part, step-type}
 use Rattle.lh_sound.proofs.NamedOnce.{giving-lines}
 use Rattle.lh_inlined.specs.Formed.{IsFormed}
 use Rattle.lh_term.specs.Tree.{Tree, constant}
 use Rattle.lh_term.specs.Make.{bit_of, make_operation, make_choice}
 use Rattle.lh_term.specs.Conjuncts.{conjuncts_of}
 use Rattle.lh_term.specs.declared.part.Part.{Part}
-use Rattle.lh_rows.specs.Known.{Known, known_value, known_cell, known_part, Knowledge, nothing_known, with_given, value_known, cell_known, part_known, values_known, parts_known, with_arguments}
+use Rattle.lh_rows.specs.Known.{Known, known_value, known_cell, known_part, Knowledge, nothing_known, with_given, value_known, cell_known, part_known, values_known, parts_known, with_arguments, argument_part}
 use Rattle.lh_rows.specs.Joins.{RegionEdge, or_any, any_taken, in_each, selector, chosen_from, merged, merged_by, joined, phi_on, with_phi, with_phis, known_at}
 use Rattle.lh_rows.specs.Places.{stepped, part_stepped, operated}
 use Rattle.lh_rows.specs.Regions.{with_constant, with_constants}
-use Rattle.lh_rows.specs.Typed as rows
 use Rattle.lh_rows.proofs.Among.{in-each}
 use Rattle.lh_rows.proofs.Heads.{arguments-case, argument-of}
 use Rattle.lh_rows.proofs.Joining.{GiveEach, given-each, merged-of, value_on, cell_on, part_on, JoinCase, of_value, of_cell, of_part, join-case, known-by-value, known-by-cell, known-by-part, first-among}
@@ -42,23 +40,13 @@ use Rattle.lh_emission.specs.Emitted.{PartStep, source_of}
 use Rattle.lh_emission.specs.Reached as Emit
 use Rattle.lh_emission.specs.Reached.{Reached, stepped_by, further, steps_in, IsPartOf}
 use Rattle.lh_term.specs.Leaves.{AllParts}
-use Rattle.lh_emission.specs.Ways.{part_by, part_by_step, whole, WaitIsGiven}
+use Rattle.lh_emission.specs.Ways.{inner, part_by, WaitIsGiven}
 use Rattle.lh_emission.proofs.Reaching.{part-reached}
+use Rattle.lh_emission.proofs.PartsLed.{part-led, Taken, taken}
+use Rattle.lh_rows.proofs.PartsNamed.{no-argument}
 use Rattle.lh_stand.proofs.GivenTrees.{In, AllIn, make-in, choice-in, conjuncts-in, conjunction-in, filter-in}
 
 -- ---- the part of a name
-
--- an argument's part, in the words of both
-same-argument : (n : List ℕ) (i : ℕ) (xs : List ArgText) → Emit.argument_part n i xs ≡ rows.argument_part n i xs
-same-argument n i [] = refl
-same-argument n i (a ∷ xs) = ap (λ z. if same_name a.name n then option_map (whole i) (carried a.ty) else z) (same-argument n (i + 1) xs)
-
--- a name that is no argument's has no argument's part
-no-argument : (n : List ℕ) (i : ℕ) (xs : List ArgText) → args_define n xs ≡ false → Emit.argument_part n i xs ≡ None
-no-argument n i [] h = refl
-no-argument n i (a ∷ xs) h =
-    let b = or_parts (same_name a.name n) (args_define n xs) h in
-    ap (λ z. if z then option_map (whole i) (carried a.ty) else Emit.argument_part n (i + 1) xs) b.0 ∙ no-argument n (i + 1) xs b.1
 
 -- the part is that of the name, which is a signal of it
 pub record PartNamed (u : UnitText) (n : List ℕ) (p : Part) : Type 0 where
@@ -73,11 +61,11 @@ PartFine u p = WaitIsGiven (source_of u (steps_in u)) p
 pub part-fine : (u : UnitText) (n : List ℕ) (p : Part) → PartNamed u n p → PartFine u p
 part-fine u n p h = record { is_data = h.is_data; part = part-reached u n p h.named }
 
-pub argument-named : (u : UnitText) → IsFormed u → (n : List ℕ) (p : Part) → rows.argument_part n 0 u.args ≡ Some p → PartNamed u n p
+pub argument-named : (u : UnitText) → IsFormed u → (n : List ℕ) (p : Part) → argument_part n 0 u.args ≡ Some p → PartNamed u n p
 argument-named u f n p h =
     let z = argument-of u n 0 u.args p f.args f.ports h in
     let way : Reached = record { part = p; steps = [] } in
-    record { is_data = z.0; type = z.1; named = record { count = 0; way = way; is_reached = ap (option_map (λ q. record { part = q; steps = [] })) (same-argument n 0 u.args ∙ h); is_part = refl } }
+    record { is_data = z.0; type = z.1; named = record { count = 0; way = way; is_reached = ap (option_map (λ q. record { part = q; steps = [] })) h; is_part = refl } }
 
 -- ---- the part to which a step leads
 
@@ -99,30 +87,11 @@ further-named u n o x q p new line by h = record {
   is_part = refl;
 }
 
--- the part of a part, by what a step leads to
-abbrev inner : Part → Parts.Part → Part
-inner q z = record { arg = q.arg; lo = q.lo + z.lo; ty = z.of }
-
 step-led : (o : Op) (s : Step) (ty : Option TypeTree) (q : Part) (z : Parts.Part) → step_of o ≡ Some s → step_part q.ty s ≡ Some z → ty ≡ Some (signal_type z.of)
     → stepped (Some q) (option_and_then carried ty) (step_of o) ≡ Some (known_part (inner q z))
 step-led o s ty q z so leads written =
     (λ i. stepped (Some q) (option_and_then carried (written i)) (so i))
     ∙ ap (option_map (λ w. known_part (record { arg = q.arg; lo = q.lo + w.lo; ty = z.of }))) (parts_have_ranges q.ty s z leads)
-
-part-led : (o : Op) (s : Step) (q : Part) (z : Parts.Part) → step_of o ≡ Some s → step_part q.ty s ≡ Some z → part_by q o ≡ Some (inner q z)
-part-led o s q z so leads = ap (option_and_then (part_by_step q)) so ∙ ap (option_map (inner q)) leads
-
--- what is taken of a signal
-record Taken (u : UnitText) (x : OperandText) (s : Step) (q : Part) : Type 0 where
-  part : Parts.Part
-  leads : step_part q.ty s ≡ Some part
-  written : x.ty ≡ Some (signal_type part.of)
-
-taken : (u : UnitText) (x : OperandText) (s : Step) (q : Part) → TakesPart u s (x ∷ []) → value_type u x.value ≡ Some (signal_type q.ty) → Taken u x s q
-taken u x s q t v =
-    let same : x ≡ t.operand = same-operand x t.operand t.operands in
-    let z = leads-is s t.whole t.of q.ty t.leads (same_Some t.whole (signal_type q.ty) (sym t.is ∙ ap (λ (w : OperandText). value_type u w.value) (sym same) ∙ v)) in
-    record { part = z.0; leads = z.1; written = ap (λ (w : OperandText). w.ty) same ∙ t.written ∙ ap Some z.2 }
 
 module _ (u : UnitText) (l : LineText) (good : LineGood u l) (n : List ℕ) (result : l.result ≡ Some n) where
   inner-named : (o : Op) (x : OperandText) (s : Step) → step_of o ≡ Some s → l.inst ≡ pure_text o (x ∷ []) → (q : Part) → PartNamed u x.value q → (k : Taken u x s q) → PartNamed u n (inner q k.part)
@@ -242,7 +211,7 @@ module _ (u : UnitText) (T : Part → Type 0) where
   pub arguments-fine : IsFormed u → KnowsFine (with_arguments nothing_known 0 u.args)
   arguments-fine f n x q = by (arguments-case [] nothing_known 0 u.args n x f.new_args q)
     where
-      by : (nothing_known n ≡ Some x) ⊎ ((p : Part) × (x ≡ known_part p) × (rows.argument_part n 0 u.args ≡ Some p)) → KnownFine n x
+      by : (nothing_known n ≡ Some x) ⊎ ((p : Part) × (x ≡ known_part p) × (argument_part n 0 u.args ≡ Some p)) → KnownFine n x
       by (inl z) = absurd (none-some x z)
       by (inr z) = subst (KnownFine n) (sym z.1) (argument-named u f n z.0 z.2)
 

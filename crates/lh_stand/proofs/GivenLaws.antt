@@ -20,7 +20,7 @@ use Rattle.lh_cover.specs.Bits.{covers}
 use Rattle.lh_rows.specs.Rows.{Drive, RegionEnd, Rows}
 use Rattle.lh_rows.specs.Regions.{waited_parts}
 use Rattle.lh_rows.specs.Adjacent.{beyond, drive_merged}
-use Rattle.lh_rows.specs.Laws.{DriveTyped}
+use Rattle.lh_rows.specs.Right.{DriveTyped}
 use Rattle.lh_rows.proofs.Adjacent.{merged-drives-typed}
 use Rattle.lh_rows.proofs.Activations.{rows-are-typed}
 use Rattle.lh_rows.proofs.Second.{now-typed}

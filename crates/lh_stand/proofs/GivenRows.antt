@@ -8,7 +8,7 @@ use Rattle.lh_types.specs.declared.op.Op.TheVariants.{Not, And}
 use Rattle.lh_unit.specs.Contents.{InstText, const_text, pure_text, var_text, ld_text, st_text, prb_text, drv_text, call_text, br_text, branch_text, wait_text, halt_text, LineText, UnitText}
 use Rattle.lh_unit.specs.Within.{Each}
 use Rattle.lh_unit.proofs.Lists.{Each-append, Each-left, Each-right}
-use Rattle.lh_flat.specs.Flat.{FlatBlockText, with_merge}
+use Rattle.lh_flat.specs.Flat.{FlatBlockText, with_merge, as_block}
 use Rattle.lh_term.specs.Tree.{Tree, constant}
 use Rattle.lh_term.specs.Make.{is_zero, bit_of, make_operation}
 use Rattle.lh_term.specs.declared.part.Part.{Part}
@@ -17,7 +17,6 @@ use Rattle.lh_rows.specs.Rows.{Drive, Way, halts, enters_head, waits, RegionEnd,
 use Rattle.lh_rows.specs.Joins.{RegionPlace, RegionEdge, any_taken}
 use Rattle.lh_rows.specs.Places.{Region, Here, Midst, block_number, operated, gives, probes, both, drive_cond, with_drive, drives, asserts, ends, next_place, goes, goes_if, leads, branches, wait_way, ends_if, takes, takes_all}
 use Rattle.lh_rows.specs.Regions.{Course, no_course, Coursed, stops, comes_to, then_course, through_block, through, is_place, edges_to, through_reached, through_all, all_places, region_from, waited_parts}
-use Rattle.lh_rows.specs.Right.{as_block}
 use Rattle.lh_rows.proofs.Courses.{coursed-is, stops-not}
 use Rattle.lh_rows.proofs.Courses as Courses
 use Rattle.lh_rows.proofs.Sites.{LineGood, good-lines}

@@ -12,10 +12,10 @@ use Rattle.lh_unit.specs.Contents.{UnitText}
 use Rattle.lh_unit.specs.Activation.{Stand, halted, Activated, activate}
 use Rattle.lh_unit.specs.Hierarchy.{Instance}
 use Rattle.lh_unit.specs.Pass.{pass, probes}
-use Rattle.lh_unit.specs.World.{Rules, bit_numbers}
+use Rattle.lh_unit.specs.World.{Rules, bit_numbers, begun}
 use Rattle.lh_meaning.proofs.Standing.{fresh, Halts, OnceFor}
 use Rattle.lh_inlined.specs.Formed.{IsFormed}
-use Rattle.lh_inlined.specs.Activates.{begun, EndsAlike}
+use Rattle.lh_inlined.specs.Activates.{EndsAlike}
 use Rattle.lh_flat.specs.Flat.{FlatBlockText, FlatText, flat_unit}
 use Rattle.lh_term.specs.Tree.{now_of}
 use Rattle.lh_rows.specs.Rows.{Drive, Way, halts, enters_head, waits, Rows}

@@ -15,7 +15,8 @@ use Rattle.lh_unit.specs.Activation.{Scene, Stand, is_new, halted, ProcessState,
 use Rattle.lh_sound.specs.Ranges.{RangesFit, arg_types}
 use Rattle.lh_meaning.proofs.Standing.{waiting_at}
 use Rattle.lh_inlined.specs.Formed.{IsFormed}
-use Rattle.lh_inlined.specs.Activates.{begun, flat_stand, StandsAlike, EndsAlike}
+use Rattle.lh_inlined.specs.Activates.{flat_stand, StandsAlike, EndsAlike}
+use Rattle.lh_unit.specs.World.{begun}
 use Rattle.lh_flat.specs.Copies.{top_copy, last_piece_of}
 use Rattle.lh_flat.specs.Flat.{FlatBlockText, FlatText, flat_unit}
 use Rattle.lh_term.specs.Tree.{Tree, past_of}

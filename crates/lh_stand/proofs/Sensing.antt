@@ -1,5 +1,5 @@
 -- A combinational process: from whichever `wait` it begins, an activation gives on all values what a pass of its entity gives.
-use Rattle.std.proofs.Common.{◌≡◌, ℕ, ◌+◌, ◌≤◌, List, [], ◌∷◌, map, length, Bool, true, false, not, nat_eq, Option, Some, None, refl, ap, sym, ◌∙◌, subst, arith, le_refl, eqb-true}
+use Rattle.std.proofs.Common.{◌≡◌, ℕ, ◌+◌, ◌≤◌, List, [], ◌∷◌, map, length, Bool, false, not, nat_eq, Option, Some, None, refl, ap, sym, ◌∙◌, subst, arith, le_refl, eqb-true}
 use Rattle.std.specs.Prelude.{slice_get}
 use Rattle.std.specs.List.{list_any}
 use Rattle.std.specs.Option.{option_map_or}
@@ -16,11 +16,11 @@ use Rattle.lh_unit.specs.Activation as machine
 use Rattle.lh_unit.specs.Activation.{ProcessState, Activated, activate}
 use Rattle.lh_unit.specs.Hierarchy.{Instance}
 use Rattle.lh_unit.specs.Pass.{pass, probes}
-use Rattle.lh_unit.specs.World.{Rules, bit_numbers}
+use Rattle.lh_unit.specs.World.{Rules, bit_numbers, begun}
 use Rattle.lh_meaning.proofs.BitSets.{SameSet}
 use Rattle.lh_meaning.proofs.Standing.{fresh, waiting_at, EndsAt, sensed, CombFor}
 use Rattle.lh_inlined.specs.Formed.{IsFormed}
-use Rattle.lh_inlined.specs.Activates.{begun, EndsAlike}
+use Rattle.lh_inlined.specs.Activates.{EndsAlike}
 use Rattle.lh_flat.specs.Flat.{FlatBlockText, FlatText, flat_unit}
 use Rattle.lh_term.specs.Tree.{now_of}
 use Rattle.lh_term.specs.Mean.{Valuation}

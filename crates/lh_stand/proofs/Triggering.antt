@@ -30,7 +30,7 @@ use Rattle.lh_edge.proofs.Firing.{triggers_show}
 use Rattle.lh_edge.proofs.Resting.{rests, waited_on}
 use Rattle.lh_rows.specs.Rows.{Drive}
 use Rattle.lh_rows.specs.Means.{range_in, is_one, is_true, due_by, with_row, with_rows}
-use Rattle.lh_rows.specs.Laws.{DriveTyped}
+use Rattle.lh_rows.specs.Right.{DriveTyped}
 use Rattle.lh_shape.specs.Shapes.{edge_row}
 use Rattle.lh_emission.specs.Entities.{mode_of}
 use Rattle.lh_emission.specs.Registers.{sees, fires, any_fires, register_made, row_seen, triggers_seen}

@@ -2,7 +2,7 @@
 use Rattle.std.proofs.Common.{◌≡◌, ℕ, List, [], ◌∷◌, ◌++◌, Bool, true, Option, Some, None, Ok, sym, subst}
 use Rattle.std.proofs.lemmas.Bool.{false≢true}
 use Rattle.lh_time.specs.declared.Instant.{Instant}
-use Rattle.lh_time.specs.Order.{instant_lt}
+use Rattle.lh_time.specs.Order.{instant_lt, IsLaterIfAny}
 use Rattle.lh_types.specs.Wish.{Wish}
 use Rattle.lh_bits.specs.Writes as writes
 use Rattle.lh_unit.specs.Activation.{ProcessState, Activated, activate}
@@ -33,7 +33,7 @@ use Rattle.lh_meaning.proofs.Late.{runs_late}
 use Rattle.lh_states.specs.declared.state.InstState.{InstState}
 use Rattle.lh_states.specs.States.{StateFits}
 use Rattle.lh_states.specs.declared.state.InstState.TheVariants.{Process, Entity}
-use Rattle.lh_states.specs.Runs.{ActIsSound, IsLaterIfAny}
+use Rattle.lh_states.specs.Runs.{ActIsSound}
 
 pub process-fits : (a : Arena) (width : ℕ) (i : Instance) (s : InstState) (x : ProcState) → s ≡ Process x → StateFits a width i s →
     (kind_at a i.unit.0 ≡ Some kind.Proc) × process.StateFits a i.unit.0 width x

@@ -1,7 +1,7 @@
 -- What one run of an instance gives, as the code answers it.
-use Rattle.std.specs.Prelude.{◌≡◌, ℕ, List, Bool, true, false, Option, Some, None, Result, Ok, Err}
+use Rattle.std.specs.Prelude.{◌≡◌, ℕ, List, Bool, true, false, Result, Ok, Err}
 use Rattle.lh_time.specs.declared.Instant.{Instant}
-use Rattle.lh_time.specs.Order.{instant_lt}
+use Rattle.lh_time.specs.Order.{instant_lt, IsLaterIfAny}
 use Rattle.lh_bits.specs.Writes.{BitsWithin}
 use Rattle.lh_unit.specs.Arena.{Arena}
 use Rattle.lh_unit.specs.Within.{Each}
@@ -26,11 +26,6 @@ abbrev pub Runs : Arena → Instance → Result ActDone ExecFault → Act → Ty
 Runs a i (Ok x) act = ActIs a i x act
 Runs a i (Err fault.Runaway) act = act.ran_away ≡ true
 Runs a i (Err fault.OutOfMemory) act = Unit {0}
-
--- there is no such instant, or it is later than `t`
-abbrev pub IsLaterIfAny : Instant → Option Instant → Type 0
-IsLaterIfAny t None = Unit {0}
-IsLaterIfAny t (Some u) = instant_lt t u ≡ true
 
 -- What a run at `t` gives is sound, where the signals have so many bits: the next state fits and wakes later; what is wished is due
 -- later, at instants that strictly rise, and names only bits of the signals, at each instant some and none twice.

@@ -9,9 +9,10 @@ use Rattle.lh_types.specs.declared.op.Op.TheVariants as op
 use Rattle.lh_unit.specs.Contents.{OperandText, EdgeText, TriggerText, InstText, const_text, pure_text, var_text, ld_text, st_text, sig_text, prb_text, drv_text, reg_text, child_text, call_text, phi_text, br_text, branch_text, wait_text, halt_text, ret_text}
 use Rattle.lh_unit.specs.Lexemes.{Lexeme, word, local, arrow, punct}
 use Rattle.lh_unit.specs.SpellsTypes.{SpellsType}
-use Rattle.lh_unit.specs.SpellsNumbers.{SpellsInteger, SpellsTime}
+use Rattle.lh_unit.specs.SpellsNumbers.{SpellsNumber, SpellsInteger, SpellsTime}
 use Rattle.lh_unit.specs.SpellsParts.{SpellsUnitName, SpellsOperand, SpellsWithType, SpellsMaybe, SpellsParts, SpellsList, SpellsBehind, SpellsLocal, SpellsTrigger, SpellsEdge}
-use Rattle.lh_unit.specs.SpellsInst.{SpellsDelay, SpellsPure, SpellsInst, may_stand_alone}
+use Rattle.lh_unit.specs.CanonWords.{op_numbers}
+use Rattle.lh_unit.specs.SpellsInst.{columns, SpellsColumns, IsOpWord, SpellsDelay, SpellsPure, SpellsInst, may_stand_alone}
 use Rattle.lh_names.specs.declared.name.UnitName.{UnitName}
 use Rattle.lh_scan.specs.Pieces.{◌>>=◌, word_at, local_at, unit_name_at, punct_at, arrow_at, end_at, parts_at, behind_at}
 use Rattle.lh_scan.specs.Types.{no_suffix}
@@ -22,18 +23,19 @@ use Rattle.lh_scan.proofs.SpelledTimes.{time_at-again}
 use Rattle.lh_scan.proofs.TypeStarts.{none_at-type, punct_at-type}
 use Rattle.lh_scan.proofs.SpelledTypes.{type_at-again}
 use Rattle.lh_scan.proofs.SpelledLists.{parts_at-again, behind_at-again}
-use Rattle.lh_syntax.specs.SyntaxOf.{operand_of, operands_of, trigger_of, edge_of}
-use Rattle.lh_syntax.specs.Words.{head_of, form_of}
-use Rattle.lh_syntax.specs.Shorter.{trigger_at-shorter, edge_at-shorter}
-use Rattle.lh_syntax.specs.Operands.{trigger_at, edge_at}
-use Rattle.lh_syntax.specs.Insts.{constant_at, const_at, last_typed_at, last_local_at, var_at, ld_at, sig_at, prb_at, target_at, st_at, after_at, if_after_at, delay_at, drv_at, reg_at, operands_at, child_at, call_at, phi_at, branch_at, br_at, wait_at, halt_at, ret_or, ret_at, worded_at, marked_at, inst_at}
-use Rattle.lh_syntax.specs.declared.syntax.TriggerSyntax.{TriggerSyntax}
-use Rattle.lh_syntax.specs.declared.syntax.EdgeSyntax.{EdgeSyntax}
-use Rattle.lh_syntax.proofs.SpelledOperands.{operand_as, operands_as, operands_as-of, typed_at-again, maybe_at-again, trigger_as, trigger_at-again, edge_as, edge_at-again}
-use Rattle.lh_syntax.proofs.OperandLists.{operand_list-again}
-use Rattle.lh_syntax.proofs.SpelledEach.{parts_unmapped}
-use Rattle.lh_syntax.proofs.SpelledOperations.{word_op-again}
-use Rattle.lh_syntax.proofs.SpelledBrackets.{bracket_at-repeat, bracket_at-array, tuple_at-again}
+use Rattle.lh_phrase.specs.SyntaxOf.{operand_of, operands_of, trigger_of, edge_of}
+use Rattle.lh_phrase.specs.Words.{head_of, form_of}
+use Rattle.lh_phrase.specs.Shorter.{trigger_at-shorter, edge_at-shorter}
+use Rattle.lh_phrase.specs.Operands.{trigger_at, edge_at}
+use Rattle.lh_syntax.specs.Insts.{constant_at, const_at, last_typed_at, last_local_at, var_at, ld_at, sig_at, prb_at, target_at, st_at, after_at, if_after_at, delay_at, drv_at, reg_at, operands_at, child_at, call_at, phi_at, branch_at, br_at, wait_at, halt_at, ret_or, ret_at, form_at, worded_at, marked_at, inst_at}
+use Rattle.lh_phrase.specs.declared.syntax.TriggerSyntax.{TriggerSyntax}
+use Rattle.lh_phrase.specs.declared.syntax.EdgeSyntax.{EdgeSyntax}
+use Rattle.lh_phrase.proofs.SpelledWords.{HasWord, op_found}
+use Rattle.lh_phrase.proofs.SpelledOperands.{operand_as, operands_as, operands_as-of, typed_at-again, maybe_at-again, trigger_as, trigger_at-again, edge_as, edge_at-again}
+use Rattle.lh_phrase.proofs.OperandLists.{operand_list-again}
+use Rattle.lh_phrase.proofs.SpelledEach.{parts_unmapped}
+use Rattle.lh_phrase.proofs.SpelledOperations.{word_op-again}
+use Rattle.lh_phrase.proofs.SpelledBrackets.{bracket_at-repeat, bracket_at-array, tuple_at-again}
 
 -- constants
 integer_begins : (n b : ℕ) (ts : List Lexeme) → SpellsInteger n b ts → no_suffix ts ≡ true
@@ -246,6 +248,12 @@ stands_alone (ret_text None) ts h s = record { keyword = codes "ret"; rest = [];
 stands_alone (ret_text (Some v)) ts h s = record { keyword = codes "ret"; rest = s.0; is = s.1; found = ret-again v s.0 s.2; no_head = refl; no_colon = typed_no_colon v s.0 [] s.2 }
 stands_alone _ ts h s = cc
 
+worded-again : (o : Op) (args : List OperandText) (w : List ℕ) (us vs : List Lexeme) → HasWord o → IsOpWord o w → SpellsColumns (columns o) args us vs
+    → SpellsBehind SpellsNumber (op_numbers o) vs []
+    → worded_at w us ≡ Some (pure_text o args)
+unfolding worded_at
+worded-again o args w us vs h e s n = ap (λ f. f >>= λ x. form_at x us) (op_found o w h e) ∙ word_op-again o args us vs s n
+
 pure-again : (o : Op) (args : List OperandText) (ts : List Lexeme) → SpellsPure o args ts → inst_at ts ≡ Some (pure_text o args)
 unfolding inst_at marked_at
 pure-again op.Array [] ts s = absurd s
@@ -254,7 +262,7 @@ pure-again (op.Repeat n) [] ts s = absurd s
 pure-again (op.Repeat n) (o ∷ []) ts s = ap inst_at s.3 ∙ bracket_at-repeat n o (word s.1 ∷ word (codes "x") ∷ s.2) s.0 s.1 s.2 refl s.4 s.5 s.6 s.7
 pure-again (op.Repeat n) (o ∷ p ∷ os) ts s = absurd s
 pure-again op.Tuple args ts s = ap inst_at s.1 ∙ tuple_at-again args s.0 s.2 s.3
-pure-again o args ts s = ap inst_at s.3 ∙ word_op-again o args s.0 s.1 s.2 tt s.4 s.5 s.6
+pure-again o args ts s = ap inst_at s.3 ∙ worded-again o args s.0 s.1 s.2 tt s.4 s.5 s.6
 
 alone-again : (i : InstText) (ts : List Lexeme) → StandsAlone i ts → inst_at ts ≡ Some i
 unfolding inst_at

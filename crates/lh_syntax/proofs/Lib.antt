@@ -1,12 +1,4 @@
-pub mod Apart
-pub mod SpelledWords
-pub mod SpelledOperands
-pub mod SpelledEach
-pub mod SpelledOperations
-pub mod OperandLists
-pub mod SpelledBrackets
 pub mod SpelledInsts
 pub mod InstsAgain
 pub mod SpelledHeaders
 pub mod SpelledItems
-pub mod Fields

@@ -21,19 +21,19 @@ use Rattle.lh_scan.proofs.Pieces.{unit_name_at-sound, unit_name_at-again, punct_
 use Rattle.lh_scan.proofs.TypeStarts.{punct_at-type, arrow_at-type}
 use Rattle.lh_scan.proofs.SpelledTypes.{type_at-sound, type_at-again, tree-shorter}
 use Rattle.lh_scan.proofs.SpelledLists.{list_at-sound, list_at-again}
-use Rattle.lh_syntax.specs.Words.{head_of}
-use Rattle.lh_syntax.specs.Shorter.{param_at-shorter}
-use Rattle.lh_syntax.specs.Operands.{param_at}
+use Rattle.lh_phrase.specs.Words.{head_of}
+use Rattle.lh_phrase.specs.Shorter.{param_at-shorter}
+use Rattle.lh_phrase.specs.Operands.{param_at}
 use Rattle.lh_types.specs.TypeTests.{is_value_type, is_signal}
 use Rattle.std.specs.List.{list_all}
-use Rattle.lh_syntax.specs.Operations.{last_mark_at}
+use Rattle.lh_phrase.specs.Operations.{last_mark_at}
 use Rattle.lh_syntax.specs.Headers.{is_result_type, item_when, are_values, are_ports, params_at, types_at, func_at, ports_when, ports_at, unit_at, declare_func_at, declare_unit_at, declare_or, declare_at, named_at, head_at}
-use Rattle.lh_syntax.specs.declared.words.Head.{Head}
-use Rattle.lh_syntax.specs.declared.words.Head.TheVariants as head
-use Rattle.lh_syntax.proofs.SpelledWords.{head_word, head_of-sound}
-use Rattle.lh_syntax.proofs.SpelledOperands.{param_at-sound, param_at-again}
-use Rattle.lh_syntax.proofs.SpelledBrackets.{last_mark-sound}
-use Rattle.lh_syntax.proofs.SpelledEach.{list_with, list_each, list_without}
+use Rattle.lh_phrase.specs.declared.words.Head.{Head}
+use Rattle.lh_phrase.specs.declared.words.Head.TheVariants as head
+use Rattle.lh_phrase.proofs.SpelledWords.{head_word, head_of-sound}
+use Rattle.lh_phrase.proofs.SpelledOperands.{param_at-sound, param_at-again}
+use Rattle.lh_phrase.proofs.SpelledBrackets.{last_mark-sound}
+use Rattle.lh_phrase.proofs.SpelledEach.{list_with, list_each, list_without}
 use Rattle.lh_syntax.proofs.InstsAgain.{name_no_colon}
 
 -- kinds of types

@@ -20,22 +20,22 @@ use Rattle.lh_scan.proofs.SpelledNumbers.{integer_at-sound}
 use Rattle.lh_scan.proofs.SpelledTimes.{time_at-sound}
 use Rattle.lh_scan.proofs.SpelledTypes.{type_at-sound}
 use Rattle.lh_scan.proofs.SpelledLists.{parts_at-sound, behind_at-sound}
-use Rattle.lh_syntax.specs.SyntaxOf.{operand_of, operands_of, trigger_of, edge_of}
-use Rattle.lh_syntax.specs.Words.{form_of}
-use Rattle.lh_syntax.specs.Operands.{typed_at, free_at, maybe_at, trigger_at, edge_at}
-use Rattle.lh_syntax.specs.Operations.{bracket_at, tuple_at}
+use Rattle.lh_phrase.specs.SyntaxOf.{operand_of, operands_of, trigger_of, edge_of}
+use Rattle.lh_phrase.specs.Words.{form_of}
+use Rattle.lh_phrase.specs.Operands.{typed_at, free_at, maybe_at, trigger_at, edge_at}
+use Rattle.lh_phrase.specs.Operations.{bracket_at, tuple_at}
 use Rattle.lh_syntax.specs.Insts.{constant_at, const_at, last_typed_at, last_local_at, var_at, ld_at, sig_at, prb_at, target_at, st_at, after_at, if_after_at, delay_or, delay_at, drv_at, reg_at, operands_at, child_at, call_at, phi_at, branch_at, br_or, br_at, wait_at, halt_at, ret_or, ret_at, form_at, worded_at, marked_at, inst_at}
-use Rattle.lh_syntax.specs.declared.syntax.Operand.{Operand}
-use Rattle.lh_syntax.specs.declared.syntax.TriggerSyntax.{TriggerSyntax}
-use Rattle.lh_syntax.specs.declared.syntax.EdgeSyntax.{EdgeSyntax}
-use Rattle.lh_syntax.specs.declared.words.Form.{Form}
-use Rattle.lh_syntax.specs.declared.words.Form.TheVariants as form
-use Rattle.lh_syntax.proofs.SpelledWords.{form_of-sound, IsFormRow}
-use Rattle.lh_syntax.proofs.SpelledOperands.{typed_at-sound, maybe_at-sound, trigger_at-sound, edge_at-sound}
-use Rattle.lh_syntax.proofs.OperandLists.{operand_list-sound}
-use Rattle.lh_syntax.proofs.SpelledEach.{parts_mapped}
-use Rattle.lh_syntax.proofs.SpelledOperations.{word_op-sound}
-use Rattle.lh_syntax.proofs.SpelledBrackets.{bracket_at-sound, tuple_at-sound}
+use Rattle.lh_phrase.specs.declared.syntax.Operand.{Operand}
+use Rattle.lh_phrase.specs.declared.syntax.TriggerSyntax.{TriggerSyntax}
+use Rattle.lh_phrase.specs.declared.syntax.EdgeSyntax.{EdgeSyntax}
+use Rattle.lh_phrase.specs.declared.words.Form.{Form}
+use Rattle.lh_phrase.specs.declared.words.Form.TheVariants as form
+use Rattle.lh_phrase.proofs.SpelledWords.{form_of-sound, IsFormRow}
+use Rattle.lh_phrase.proofs.SpelledOperands.{typed_at-sound, maybe_at-sound, trigger_at-sound, edge_at-sound}
+use Rattle.lh_phrase.proofs.OperandLists.{operand_list-sound}
+use Rattle.lh_phrase.proofs.SpelledEach.{parts_mapped}
+use Rattle.lh_phrase.proofs.SpelledOperations.{word_op-sound}
+use Rattle.lh_phrase.proofs.SpelledBrackets.{bracket_at-sound, tuple_at-sound}
 
 -- constants
 constant-sound : (t : TypeTree) (us ts : List Lexeme) (d : Datum) → SpellsType t us ts → constant_at t ts ≡ Some d → SpellsInst (const_text d) (word (codes "const") ∷ us)

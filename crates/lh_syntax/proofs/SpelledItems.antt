@@ -14,13 +14,13 @@ use Rattle.lh_scan.specs.Pieces.{◌>>=◌, name_at, punct_at, end_at}
 use Rattle.lh_scan.specs.Shorter.{bind_some}
 use Rattle.lh_scan.proofs.Pieces.{name_at-inv, name_at-again, punct_at-inv, end_at-inv}
 use Rattle.lh_syntax.specs.SpelledBy.{SpelledBy}
-use Rattle.lh_syntax.specs.SyntaxOf.{item_of}
-use Rattle.lh_syntax.specs.Words.{head_of}
+use Rattle.lh_phrase.specs.SyntaxOf.{item_of}
+use Rattle.lh_phrase.specs.Words.{head_of}
 use Rattle.lh_syntax.specs.Insts.{worded_at, inst_at}
 use Rattle.lh_syntax.specs.Headers.{item_when}
 use Rattle.lh_syntax.specs.Items.{label_at, word_label_at, assigned_at, alone_at, head_or, local_or, word_or, close_at, item_at}
-use Rattle.lh_syntax.specs.declared.words.Head.{Head}
-use Rattle.lh_syntax.specs.declared.syntax.LineSyntax.{LineSyntax}
+use Rattle.lh_phrase.specs.declared.words.Head.{Head}
+use Rattle.lh_phrase.specs.declared.syntax.LineSyntax.{LineSyntax}
 use Rattle.lh_syntax.proofs.SpelledInsts.{worded_at-sound, inst_at-sound}
 use Rattle.lh_syntax.proofs.InstsAgain.{stands_alone, inst_at-again}
 use Rattle.lh_syntax.proofs.SpelledHeaders.{head_at-sound, IsHead, header-again, declared-again}

@@ -12,10 +12,10 @@ use Rattle.lh_unit.specs.declared.inst.UnitKind.TheVariants as kind
 use Rattle.lh_unit.specs.declared.inst.Declare.TheVariants as declare
 use Rattle.lh_scan.specs.Pieces.{◌>>=◌, unit_name_at, punct_at, arrow_at, end_at, list_at}
 use Rattle.lh_scan.specs.Types.{type_at}
-use Rattle.lh_syntax.specs.Operands.{param_at}
-use Rattle.lh_syntax.specs.Operations.{last_mark_at}
-use Rattle.lh_syntax.specs.declared.words.Head.{Head}
-use Rattle.lh_syntax.specs.declared.words.Head.TheVariants as head
+use Rattle.lh_phrase.specs.Operands.{param_at}
+use Rattle.lh_phrase.specs.Operations.{last_mark_at}
+use Rattle.lh_phrase.specs.declared.words.Head.{Head}
+use Rattle.lh_phrase.specs.declared.words.Head.TheVariants as head
 
 -- a data type, `time` or `void`
 abbrev pub is_result_type : TypeTree → Bool

@@ -8,13 +8,13 @@ use Rattle.lh_scan.specs.Pieces.{◌>>=◌, word_at, local_at, unit_name_at, pun
 use Rattle.lh_scan.specs.Numbers.{integer_at}
 use Rattle.lh_scan.specs.Times.{time_at}
 use Rattle.lh_scan.specs.Types.{type_at}
-use Rattle.lh_syntax.specs.SyntaxOf.{operand_of, operands_of, trigger_of, edge_of}
-use Rattle.lh_syntax.specs.Words.{form_of}
-use Rattle.lh_syntax.specs.Operands.{typed_at, free_at, maybe_at, trigger_at, edge_at}
-use Rattle.lh_syntax.specs.Operations.{word_op_at, bracket_at, tuple_at}
-use Rattle.lh_syntax.specs.declared.syntax.Operand.{Operand}
-use Rattle.lh_syntax.specs.declared.words.Form.{Form}
-use Rattle.lh_syntax.specs.declared.words.Form.TheVariants as form
+use Rattle.lh_phrase.specs.SyntaxOf.{operand_of, operands_of, trigger_of, edge_of}
+use Rattle.lh_phrase.specs.Words.{form_of}
+use Rattle.lh_phrase.specs.Operands.{typed_at, free_at, maybe_at, trigger_at, edge_at}
+use Rattle.lh_phrase.specs.Operations.{word_op_at, bracket_at, tuple_at}
+use Rattle.lh_phrase.specs.declared.syntax.Operand.{Operand}
+use Rattle.lh_phrase.specs.declared.words.Form.{Form}
+use Rattle.lh_phrase.specs.declared.words.Form.TheVariants as form
 
 -- the constant of this type that ends the line
 abbrev pub constant_at : TypeTree → List Lexeme → Option Datum

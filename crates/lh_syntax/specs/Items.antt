@@ -4,10 +4,10 @@ use Rattle.lh_unit.specs.Lexemes.{Lexeme, word, local, punct}
 use Rattle.lh_unit.specs.Spells.{LineItem, empty_item, label_item, inst_item, close_item}
 use Rattle.lh_unit.specs.SpellsInst.{gives_value, may_stand_alone}
 use Rattle.lh_scan.specs.Pieces.{◌>>=◌, name_at, punct_at, end_at}
-use Rattle.lh_syntax.specs.Words.{head_of}
+use Rattle.lh_phrase.specs.Words.{head_of}
 use Rattle.lh_syntax.specs.Insts.{worded_at, inst_at}
 use Rattle.lh_syntax.specs.Headers.{item_when, head_at}
-use Rattle.lh_syntax.specs.declared.words.Head.{Head}
+use Rattle.lh_phrase.specs.declared.words.Head.{Head}
 
 -- `:` and the end of the line behind a name
 unfoldable pub label_at : List ℕ → List Lexeme → Option LineItem

@@ -1,9 +1,4 @@
-pub mod SyntaxOf
 pub mod SpelledBy
-pub mod Words
-pub mod Operands
-pub mod Shorter
-pub mod Operations
 pub mod Insts
 pub mod Headers
 pub mod Items

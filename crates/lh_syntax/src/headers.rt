@@ -4,13 +4,13 @@ ghost use Rattle.std.specs.List.{list_all};
 ghost use Rattle.lh_types.specs.TypeTests as spec;
 ghost use Rattle.lh_scan.specs.Found.{ReadsAsFound, FindsAs};
 ghost use Rattle.lh_scan.specs.LexemeOf.{unit_name_of};
-ghost use Rattle.lh_syntax.specs.SyntaxOf.{ports_of, item_of};
+ghost use Rattle.lh_phrase.specs.SyntaxOf.{ports_of, item_of};
 ghost use Rattle.lh_syntax.specs.Headers.{is_result_type as result_type, are_values, are_ports, params_at, types_at, func_at, ports_at, unit_at, declare_func_at, declare_unit_at, declare_at, head_at};
 ghost use Rattle.lh_unit.specs.declared.inst.UnitKind.TheVariants as kind;
 
-use crate::brackets::last_mark;
-use crate::syntax::{LineSyntax, Param, Ports};
-use crate::words::Head;
+use lh_phrase::brackets::last_mark;
+use lh_phrase::syntax::{LineSyntax, Param, Ports};
+use lh_phrase::words::Head;
 use lh_scan::fault::ScanFault::{self, NotSpelled};
 use lh_scan::list::list;
 use lh_scan::tokens::{Tokens, UnitNameText};

@@ -2,14 +2,14 @@
 ghost use Rattle.std.specs.Prelude.{◌≡◌, option_map};
 ghost use Rattle.lh_scan.specs.Found.{ReadsAsFound, FindsAs};
 ghost use Rattle.lh_types.specs.ValueOf.{datum_of};
-ghost use Rattle.lh_syntax.specs.SyntaxOf.{inst_of};
+ghost use Rattle.lh_phrase.specs.SyntaxOf.{inst_of};
 ghost use Rattle.lh_syntax.specs.Insts.{constant_at, const_at, last_typed_at, last_local_at, var_at, ld_at, sig_at, prb_at, target_at, st_at, after_at, if_after_at, delay_at, drv_at, reg_at, operands_at, outputs_at, child_at, call_at, phi_at, branch_at, br_at, wait_at, halt_at, ret_at, form_at, worded_at, inst_at};
 
-use crate::brackets::{bracket, tuple};
-use crate::operands::{OperandsAt, maybe, typed};
-use crate::operations::word_op;
-use crate::syntax::{InstSyntax, Operand};
-use crate::words::{Form, find_form};
+use lh_phrase::brackets::{bracket, tuple};
+use lh_phrase::operands::{OperandsAt, maybe, typed};
+use lh_phrase::operations::word_op;
+use lh_phrase::syntax::{InstSyntax, Operand};
+use lh_phrase::words::{Form, find_form};
 use lh_scan::fault::ScanFault::{self, NotSpelled};
 use lh_scan::list::{behind, list, parts};
 use lh_scan::numbers::integer;

@@ -4,19 +4,14 @@
 ghost use Rattle.std.specs.Prelude.{◌≡◌, IfOk, Some, None, Err};
 ghost use Rattle.lh_scan.specs.declared.fault.ScanFault.TheVariants as fault;
 ghost use Rattle.lh_syntax.specs.SpelledBy.{SpelledBy};
-ghost use Rattle.lh_syntax.specs.SyntaxOf.{item_of};
+ghost use Rattle.lh_phrase.specs.SyntaxOf.{item_of};
 
-mod brackets;
 mod headers;
 mod insts;
 mod line;
-mod operands;
-mod operations;
-pub mod syntax;
-mod words;
 
 use crate::line::line_item;
-use crate::syntax::LineSyntax;
+use lh_phrase::syntax::LineSyntax;
 use lh_scan::fault::ScanFault;
 use lh_scan::tokens::Tokens;
 use std::alloc::Global;

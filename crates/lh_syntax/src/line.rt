@@ -2,13 +2,13 @@
 ghost use Rattle.std.specs.Prelude.{◌≡◌, option_map};
 ghost use Rattle.lh_scan.specs.Found.{FindsAs};
 ghost use Rattle.lh_unit.specs.SpellsInst as spec;
-ghost use Rattle.lh_syntax.specs.SyntaxOf.{inst_of, item_of};
+ghost use Rattle.lh_phrase.specs.SyntaxOf.{inst_of, item_of};
 ghost use Rattle.lh_syntax.specs.Items.{label_at, word_label_at, assigned_at, alone_at, behind_local_at, behind_word_at, item_at};
 
 use crate::headers::{LineAt, headed};
 use crate::insts::{inst, worded};
-use crate::syntax::{InstSyntax, LineSyntax};
-use crate::words::find_head;
+use lh_phrase::syntax::{InstSyntax, LineSyntax};
+use lh_phrase::words::find_head;
 use lh_scan::fault::ScanFault::NotSpelled;
 use lh_scan::tokens::{Lex, NameText, Tokens};
 use std::alloc::Global;

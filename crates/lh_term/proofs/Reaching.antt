@@ -8,7 +8,7 @@ use Rattle.std.specs.BTreeSet as sorted
 use Rattle.std.specs.BTreeSet.{BTreeSet}
 use Rattle.std.proofs.lemmas.Bool.{or_cases, or_left, or_right}
 use Rattle.std.proofs.Math.Bool.{or-false}
-use Rattle.lh_term.specs.Same.{nat_eq-is, nat_eq-refl}
+use Rattle.lh_types.specs.Same.{nat_eq-refl, nat_eq-is}
 use Rattle.lh_term.specs.Arena.{terms_in, ids_below, AreIn}
 use Rattle.lh_term.specs.Reach.{Leads, is_on, AllPass, Leaves, GoesOn, GoOn, none_left, PassesOn, AreReached}
 use Rattle.lh_term.specs.declared.term.TermId.{TermId}

@@ -8,7 +8,7 @@ use Rattle.lh_types.specs.Types.{TypeTree, int_type, row_of, IsData, AreData}
 use Rattle.lh_types.specs.Values.{Datum, int_value, time_value, array_value, tuple_value, data_row}
 use Rattle.lh_types.specs.Fits.{FitsType, FitsRow}
 use Rattle.lh_types.specs.ApplyTypes.{FitsOp}
-use Rattle.lh_types.specs.Same.{and_both}
+use Rattle.lh_types.specs.Same.{and_both, nat_eq-is}
 use Rattle.lh_types.specs.Apply.{apply, bit_value}
 use Rattle.lh_types.specs.declared.op.Op.{Op}
 use Rattle.lh_types.specs.declared.op.Op.TheVariants.{Not, And, Or, Eq, Neq}
@@ -18,7 +18,6 @@ use Rattle.lh_ops.proofs.BooleanLemmas.{words_are_boolean_lem, equality_tells_le
 use Rattle.lh_term.specs.Tree.{Tree, constant, past_of, now_of, operation, choice_of, no_trees, more_trees, tree_row, operation_on}
 use Rattle.lh_term.specs.Types.{type_of, types_of, FitsTerm, TakesTypes, IsTyped, AreTyped}
 use Rattle.lh_term.specs.Mean.{Valuation, IsFitting, chosen, mean, means}
-use Rattle.lh_term.specs.Same.{nat_eq-is}
 use Rattle.lh_term.specs.SameTree.{same_tree, same_tree-is}
 use Rattle.lh_term.specs.Make.{is_that, is_constant, all_constant, value_in, values_in, is_zero, is_ones, is_bit, is_bit_value, negated, is_not_of, anded, halves, width_in, zero_like, ones_like, bit_of, found_or, not_rows, make_not, and_rows, or_rows, eq_rows, neq_rows, rows_of, make_operation, make_choice}
 use Rattle.lh_term.specs.Laws.{MeansSame}

@@ -2,7 +2,7 @@
 use Rattle.std.proofs.Common.{◌≡◌, ℕ, zero, suc, ◌+◌, ◌-◌, ◌<◌, ◌≤◌, Result, Ok, Err, IfOk, List, [], ◌∷◌, ◌++◌, length, map, Bool, true, false, ◌&&◌, nat_lt, refl, ap, sym, ◌∙◌, subst, Some, arith, append_assoc, length-append, take, drop, get_or, slice_get, inl, inr, nat_eq, Option, drop-cons, drop_of_length-le, ltb-true, lt-ltb}
 use Rattle.std.specs.Option.{is_some}
 use Rattle.std.proofs.lemmas.Bool.{or_cases}
-use Rattle.lh_term.specs.Same.{nat_eq-is, nat_eq-refl}
+use Rattle.lh_types.specs.Same.{nat_eq-refl, nat_eq-is}
 use Rattle.std.specs.Bool.{if◌then◌else◌}
 use Rattle.std.proofs.lemmas.List.{append-nil}
 use Rattle.std.specs.Cmp.{first_so, second_so}

@@ -1,10 +1,9 @@
 -- Whether two operations, two parts or two lists of ids are one.
-use Rattle.std.specs.Prelude.{◌≡◌, ℕ, Bool, true, false, ◌&&◌, nat_eq, List, [], ◌∷◌, slice_index_or, refl}
+use Rattle.std.specs.Prelude.{◌≡◌, ℕ, Bool, true, ◌&&◌, nat_eq, [], ◌∷◌, slice_index_or, refl}
 use Rattle.std.specs.Cmp.{IsEquivalence}
-use Rattle.std.proofs.Common.{arith, sym, ◌∙◌}
-use Rattle.std.proofs.lemmas.Grind.{common_steps}
+use Rattle.std.proofs.Common.{sym, ◌∙◌}
 use Rattle.lh_types.specs.Types.{same_type}
-use Rattle.lh_types.specs.Same.{and_both, test_equiv, same-is, same-refl}
+use Rattle.lh_types.specs.Same.{nat_eq-is, nat_eq-refl, and_both, test_equiv, same-is, same-refl}
 use Rattle.lh_types.specs.Classes.{class_of}
 use Rattle.lh_types.specs.declared.part.Step.{Step}
 use Rattle.lh_types.specs.declared.part.Step.TheVariants.{Field, Slice}
@@ -13,12 +12,6 @@ use Rattle.lh_types.specs.declared.op.OpClass.TheVariants as class
 use Rattle.lh_types.specs.declared.op.Op.{Op}
 use Rattle.lh_types.specs.declared.op.Op.TheVariants.{Not, Neg, Add, Sub, Umul, Smul, Udiv, Sdiv, Umod, Smod, Urem, Srem, And, Or, Xor, Eq, Neq, Slt, Sgt, Sle, Sge, Ult, Ugt, Ule, Uge, Shl, Shr, Mux, Array, Tuple, Extf, Exts, Insf, Inss, Repeat}
 use Rattle.lh_term.specs.declared.part.Part.{Part}
-
-pub nat_eq-is : (m n : ℕ) → nat_eq m n ≡ true → m ≡ n
-nat_eq-is m n p = grind (arith, common_steps)
-
-pub nat_eq-refl : (n : ℕ) → nat_eq n n ≡ true
-nat_eq-refl n = grind (arith, common_steps)
 
 -- a number for each operation
 abbrev pub op_tag : Op → ℕ

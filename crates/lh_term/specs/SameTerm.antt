@@ -1,17 +1,15 @@
 -- Whether two terms by ids are one.
 use Rattle.std.specs.Prelude.{◌≡◌, Bool, true, false, ◌&&◌, nat_eq, List, [], ◌∷◌, refl}
 use Rattle.std.specs.Cmp.{IsEquivalence}
-use Rattle.std.proofs.Common.{ap, sym, ◌∙◌}
-use Rattle.lh_time.specs.declared.Delay.{Delay}
-use Rattle.lh_types.specs.Types.{same_type}
-use Rattle.lh_types.specs.Values.{Datum, DatumRow, data_row, int_value, time_value, array_value, tuple_value, no_values, more_values}
+use Rattle.std.proofs.Common.{ap, ◌∙◌}
+use Rattle.lh_types.specs.Values.{Datum, data_row}
 use Rattle.lh_types.specs.ValueOf.{datum_of}
-use Rattle.lh_types.specs.SameValue.{same_val, same_datum}
+use Rattle.lh_types.specs.SameValue.{same_val}
 use Rattle.lh_types.specs.SameValueLaws.{same_datum-is, same_datum-refl}
-use Rattle.lh_types.specs.Same.{and_both, test_equiv}
+use Rattle.lh_types.specs.Same.{and_both, test_equiv, nat_eq-is, nat_eq-refl}
 use Rattle.lh_types.specs.declared.val.Val.{Val}
 use Rattle.lh_types.specs.declared.val.Val.TheVariants.{Int, Time, Array, Tuple}
-use Rattle.lh_term.specs.Same.{nat_eq-is, nat_eq-refl, same_op, same_op-is, same_op-refl, same_part, same_part-is, same_part-refl}
+use Rattle.lh_term.specs.Same.{same_op, same_op-is, same_op-refl, same_part, same_part-is, same_part-refl}
 use Rattle.lh_term.specs.declared.term.TermId.{TermId}
 use Rattle.lh_term.specs.declared.term.Term.{Term}
 use Rattle.lh_term.specs.declared.term.Term.TheVariants.{Konst, Past, Now, Op as Applied, Choice}

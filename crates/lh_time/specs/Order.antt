@@ -1,7 +1,7 @@
 -- The order of instants, and that of delays.
-use Rattle.std.specs.Prelude.{Bool}
+use Rattle.std.specs.Prelude.{◌≡◌, Bool, true, Option, Some, None}
 use Rattle.std.specs.declared.cmp.Ordering.{Ordering}
-use Rattle.std.specs.Ordering.{nat_cmp, ordering_then, is_lt, is_le}
+use Rattle.std.specs.Ordering.{nat_cmp, ordering_then, is_lt, is_le, is_eq}
 use Rattle.lh_time.specs.declared.Instant.{Instant}
 use Rattle.lh_time.specs.declared.Delay.{Delay}
 
@@ -20,3 +20,12 @@ instant_lt a b = is_lt (instant_cmp a b)
 -- whether a is no later than b
 abbrev pub instant_le : Instant → Instant → Bool
 instant_le a b = is_le (instant_cmp a b)
+
+-- whether a and b are one instant
+abbrev pub instant_eq : Instant → Instant → Bool
+instant_eq a b = is_eq (instant_cmp a b)
+
+-- the second instant, if there is one, is later than the first
+abbrev pub IsLaterIfAny : Instant → Option Instant → Type 0
+IsLaterIfAny t None = Unit {0}
+IsLaterIfAny t (Some u) = instant_lt t u ≡ true

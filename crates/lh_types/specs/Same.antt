@@ -1,9 +1,13 @@
 -- The test of two types is equality.
-use Rattle.std.specs.Prelude.{◌≡◌, Bool, true, false, ◌&&◌, nat_eq, refl}
+use Rattle.std.specs.Prelude.{◌≡◌, ℕ, Bool, true, false, ◌&&◌, nat_eq, refl}
 use Rattle.std.specs.Cmp.{IsEquivalence}
-use Rattle.std.proofs.Common.{arith, sym, ap, ◌∙◌}
-use Rattle.std.proofs.lemmas.Grind.{common_steps}
+use Rattle.std.proofs.Common.{sym, ap, ◌∙◌}
+use Rattle.std.proofs.lemmas.Bool.{eq-eqb}
+pub use Rattle.std.proofs.lemmas.Bool.{eqb-true as nat_eq-is}
 use Rattle.lh_types.specs.Types.{TypeTree, TypeRow, int_type, time_type, void_type, array_type, tuple_type, signal_type, pointer_type, no_types, more_types, same_type, same_row}
+
+pub nat_eq-refl : (n : ℕ) → nat_eq n n ≡ true
+nat_eq-refl n = eq-eqb n n refl
 
 pub and_both : (a b : Bool) → a && b ≡ true → (a ≡ true) × (b ≡ true)
 and_both true b p = (refl, p)
@@ -11,10 +15,10 @@ and_both false b p = (p, cc)
 
 mutual
   pub same-is : (x y : TypeTree) → same_type x y ≡ true → x ≡ y
-  same-is (int_type n) (int_type m) p = grind (arith, common_steps)
+  same-is (int_type n) (int_type m) p = ap int_type (nat_eq-is n m p)
   same-is time_type time_type p = refl
   same-is void_type void_type p = refl
-  same-is (array_type n t) (array_type m u) p = let b = and_both (nat_eq n m) (same_type t u) p in let e : n ≡ m = grind (arith, common_steps) in cc (e, same-is t u b.1)
+  same-is (array_type n t) (array_type m u) p = let b = and_both (nat_eq n m) (same_type t u) p in let e : n ≡ m = nat_eq-is n m b.0 in cc (e, same-is t u b.1)
   same-is (tuple_type r) (tuple_type s) p = ap tuple_type (same_row-is r s p)
   same-is (signal_type t) (signal_type u) p = ap signal_type (same-is t u p)
   same-is (pointer_type t) (pointer_type u) p = ap pointer_type (same-is t u p)
@@ -27,10 +31,10 @@ mutual
 
 mutual
   pub same-refl : (x : TypeTree) → same_type x x ≡ true
-  same-refl (int_type n) = grind (arith, common_steps)
+  same-refl (int_type n) = nat_eq-refl n
   same-refl time_type = refl
   same-refl void_type = refl
-  same-refl (array_type n t) = let e : nat_eq n n ≡ true = grind (arith, common_steps) in rw e (same-refl t)
+  same-refl (array_type n t) = rw (nat_eq-refl n) (same-refl t)
   same-refl (tuple_type r) = same_row-refl r
   same-refl (signal_type t) = same-refl t
   same-refl (pointer_type t) = same-refl t

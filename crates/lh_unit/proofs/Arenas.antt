@@ -29,7 +29,8 @@ use Rattle.lh_unit.specs.declared.inst.Declare.{Declare}
 use Rattle.lh_unit.specs.declared.inst.Item.TheVariants as item
 use Rattle.lh_unit.specs.declared.table.Line.{Line}
 use Rattle.lh_unit.proofs.Lists.{Same, same, other, same_or, get_or-push_default, nat_eq-is, nat_eq-refl}
-use Rattle.lh_names.proofs.Lists.{Trichotomy, before, at, past, trichotomy, Pushed, old, new, pushed, slice_get-push, slice_get-push_before, AllDistinct-push, other_keys}
+use Rattle.lh_names.proofs.Lists.{Trichotomy, before, at, past, trichotomy, Pushed, old, new, pushed, AllDistinct-push, other_keys}
+use Rattle.lh_types.proofs.Lists.{get_below, get_last}
 use Rattle.lh_unit.proofs.Tables.{IsTable-with_value, IsTable-with_label, IsTable-with_arg, IsTable-with_result, IsTable-with_block, IsTable-with_line}
 use Rattle.lh_names.proofs.NameLists.{same_name-is, same_name-refl}
 use Rattle.lh_unit.proofs.Within.{InstWithin-more}
@@ -257,9 +258,9 @@ IsArena-begun a u t o h e w k x = record {
     distinct i j v (new l p) (new m q) = l ∙ sym m
 
     defined : (v : UnitId) → v.0 < length a.units → IsSome (get_or (set a.units u.0 t) v.0 no_table).kind → Same v.0 u.0 → (i : ℕ) × (slice_get (a.items ++ item.Unit u ∷ []) i ≡ Some (item.Unit v))
-    defined v q s (same r) = (length a.items, slice_get-push a.items (item.Unit u) (length a.items) refl ∙ ap (λ z. Some (item.Unit z)) (sym (λ i. record { 0 = r i })))
+    defined v q s (same r) = (length a.items, get_last a.items (item.Unit u) ∙ ap (λ z. Some (item.Unit z)) (sym (λ i. record { 0 = r i })))
     defined v q s (other r) = let d = o.items_defined v q (subst IsSome (ap (λ z. z.kind) (table_at-other a u.0 v.0 t r)) s) in
-        (d.0, slice_get-push_before a.items (item.Unit u) d.0 (slice_get_within a.items d.0 (item.Unit v) d.1) ∙ d.1)
+        (d.0, get_below a.items (item.Unit u ∷ []) d.0 (slice_get_within a.items d.0 (item.Unit v) d.1) ∙ d.1)
 
 -- one more declaration
 unit_no_declare : (d : Declare) (v : UnitId) → item.Declare d ≡ item.Unit v → ⊥
@@ -275,7 +276,7 @@ IsArena-declared a d o = record {
   items_within = λ i v q. o.items_within i v (there i v q);
   items_begun = λ i v q. o.items_begun i v (there i v q);
   items_distinct = λ i j v p q. o.items_distinct i j v (there i v p) (there j v q);
-  items_defined = λ v w s. let e = o.items_defined v w s in (e.0, slice_get-push_before a.items (item.Declare d) e.0 (slice_get_within a.items e.0 (item.Unit v) e.1) ∙ e.1);
+  items_defined = λ v w s. let e = o.items_defined v w s in (e.0, get_below a.items (item.Declare d ∷ []) e.0 (slice_get_within a.items e.0 (item.Unit v) e.1) ∙ e.1);
 }
   where
     there : (i : ℕ) (v : UnitId) → slice_get (a.items ++ item.Declare d ∷ []) i ≡ Some (item.Unit v) → slice_get a.items i ≡ Some (item.Unit v)
@@ -358,7 +359,7 @@ IsArena-with_unit a n o f room = record {
 
 -- the open unit has an entry and is begun
 pub open-item : (a : Arena) (u : UnitId) → (p : IsOpen a u) → slice_get a.items (length p.0) ≡ Some (item.Unit u)
-open-item a u p = ap (λ l. slice_get l (length p.0)) p.1 ∙ slice_get-push p.0 (item.Unit u) (length p.0) refl
+open-item a u p = ap (λ l. slice_get l (length p.0)) p.1 ∙ get_last p.0 (item.Unit u)
 
 pub open-begun : (a : Arena) (u : UnitId) → IsArena a → IsOpen a u → IsSome (kind_at a u.0)
 open-begun a u o p = o.items_begun (length p.0) u (open-item a u p)

@@ -19,7 +19,7 @@ use Rattle.lh_unit.specs.declared.inst.Item.{Item}
 use Rattle.lh_unit.specs.declared.inst.Item.TheVariants as item
 use Rattle.lh_unit.specs.declared.table.Line.{Line}
 use Rattle.lh_unit.proofs.Lists.{map-same, map-each, Each-left, Each-right}
-use Rattle.lh_names.proofs.Lists.{slice_get-push, slice_get-push_before}
+use Rattle.lh_types.proofs.Lists.{get_below, get_last}
 use Rattle.lh_names.specs.declared.name.UnitName.{UnitName}
 use Rattle.lh_unit.proofs.Tables.{last-split, front-apart, insts_at-written, last-within, apart}
 use Rattle.lh_unit.proofs.Arenas.{with_table, table_at-same, table_at-other, open-within, open-item}
@@ -89,7 +89,7 @@ contents-with_table a u t f o p e =
     apart_from i v q r =
         let w : v ≡ u = λ j. record { 0 = r j } in
         let l : i < length p.0 = slice_get_within p.0 i (item.Unit v) q in
-        let x : slice_get a.items i ≡ Some (item.Unit u) = ap (λ z. slice_get z i) p.1 ∙ slice_get-push_before p.0 (item.Unit u) i l ∙ q ∙ ap (λ z. Some (item.Unit z)) w in
+        let x : slice_get a.items i ≡ Some (item.Unit u) = ap (λ z. slice_get z i) p.1 ∙ get_below p.0 (item.Unit u ∷ []) i l ∙ q ∙ ap (λ z. Some (item.Unit z)) w in
         let z : i ≡ length p.0 = o.items_distinct i (length p.0) u x (open-item a u p) in omega (arith, z, l)
 
     others : map (item_text_at (with_table a u.0 t)) p.0 ≡ map (item_text_at a) p.0
@@ -161,7 +161,7 @@ text-with_line a u t r i o h =
         (λ k w. ap (line_text f) (get_or_append_left t.lines (line ∷ []) no_line k.0 w)) (insts-within t o j x q)
 
     in_front : (j : ℕ) (x : BlockId) → slice_get s.0 j ≡ Some x → slice_get t.blocks j ≡ Some x
-    in_front j x q = ap (λ z. slice_get z j) s.1 ∙ slice_get-push_before s.0 (last_block t) j (slice_get_within s.0 j x q) ∙ q
+    in_front j x q = ap (λ z. slice_get z j) s.1 ∙ get_below s.0 (last_block t ∷ []) j (slice_get_within s.0 j x q) ∙ q
 
     others : map (block_text f now) s.0 ≡ map (block_text f t) s.0
     others = map-same (block_text f now) (block_text f t) s.0 (λ j x q.
@@ -171,7 +171,7 @@ text-with_line a u t r i o h =
         λ n. record { label = label_text f t.kind x; lines = l n })
 
     at_last : slice_get t.blocks (length s.0) ≡ Some (last_block t)
-    at_last = ap (λ z. slice_get z (length s.0)) s.1 ∙ slice_get-push s.0 (last_block t) (length s.0) refl
+    at_last = ap (λ z. slice_get z (length s.0)) s.1 ∙ get_last s.0 (last_block t)
 
     last : block_text f now (last_block t) ≡ record (block_text f t (last_block t)) { lines = (block_text f t (last_block t)).lines ++ line_text f line ∷ [] }
     last =

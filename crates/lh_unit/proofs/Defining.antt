@@ -11,7 +11,8 @@ use Rattle.lh_unit.specs.declared.inst.Inst.{Inst}
 use Rattle.lh_unit.specs.declared.inst.Arg.{Arg}
 use Rattle.lh_unit.specs.declared.table.Line.{Line}
 use Rattle.lh_unit.proofs.Lists.{nat_eq-refl, nat_eq-is, not_true, or_false, or_true, or-assoc, some_inj}
-use Rattle.lh_names.proofs.Lists.{Trichotomy, before, at, past, trichotomy, slice_get-push, slice_get-push_before}
+use Rattle.lh_names.proofs.Lists.{Trichotomy, before, at, past, trichotomy}
+use Rattle.lh_types.proofs.Lists.{get_below, get_last}
 
 pub is_arg-push : (xs : List Arg) (a : Arg) (k : ℕ) → is_arg (xs ++ a ∷ []) k ≡ (is_arg xs k || nat_eq a.value.0 k)
 is_arg-push [] a k = or_false (nat_eq a.value.0 k)
@@ -71,7 +72,7 @@ get_or-push (x ∷ xs) y d (suc k) e = get_or-push xs y d k (omega arith)
 -- a definition that stays
 pub IsDefinition-with_arg : (t : Table) (a : Arg) (k : ℕ) (d : ValueDef) → nat_eq a.value.0 k ≡ false → IsDefinition t k d → IsDefinition (with_arg t a) k d
 IsDefinition-with_arg t a k value_def.Missing n p = is_defined-with_arg t a k ∙ (λ i. p i || n i)
-IsDefinition-with_arg t a k (value_def.Arg j) n p = (omega (arith, p.0, length-append t.args (a ∷ [])), ap (option_map (λ (x : Arg). x.value)) (slice_get-push_before t.args a j p.0) ∙ p.1)
+IsDefinition-with_arg t a k (value_def.Arg j) n p = (omega (arith, p.0, length-append t.args (a ∷ [])), ap (option_map (λ (x : Arg). x.value)) (get_below t.args (a ∷ []) j p.0) ∙ p.1)
 IsDefinition-with_arg t a k (value_def.Inst i) n p = p
 
 pub IsDefinition-with_line : (t : Table) (r : Option ValueId) (i : Inst) (k : ℕ) (d : ValueDef) → is_result r k ≡ false → IsDefinition t k d → IsDefinition (with_line t r i) k d
@@ -83,7 +84,7 @@ IsDefinition-with_line t r i k (value_def.Inst x) n p =
 
 -- what was added defines its value
 pub arg-defines : (t : Table) (a : Arg) → IsDefinition (with_arg t a) a.value.0 (value_def.Arg (length t.args))
-arg-defines t a = (omega (arith, length-append t.args (a ∷ [])), ap (option_map (λ (x : Arg). x.value)) (slice_get-push t.args a (length t.args) refl))
+arg-defines t a = (omega (arith, length-append t.args (a ∷ [])), ap (option_map (λ (x : Arg). x.value)) (get_last t.args a))
 
 pub line-defines : (t : Table) (v : ValueId) (i : Inst) → IsDefinition (with_line t (Some v) i) v.0 (value_def.Inst record { 0 = length t.lines })
 line-defines t v i =
@@ -115,10 +116,10 @@ after-arg t a k (value_def.Arg j) n p = by (trichotomy (length t.args) j)
   where
     by : Trichotomy (length t.args) j → After t k (value_def.Arg (length t.args)) (nat_eq a.value.0 k) (value_def.Arg j)
     by (before h) =
-        let q : IsDefinition t k (value_def.Arg j) = (h, sym (ap (option_map (λ (x : Arg). x.value)) (slice_get-push_before t.args a j h)) ∙ p.1) in
+        let q : IsDefinition t k (value_def.Arg j) = (h, sym (ap (option_map (λ (x : Arg). x.value)) (get_below t.args (a ∷ []) j h)) ∙ p.1) in
         old q (fresh t a.value.0 k n (definition-tells t k (value_def.Arg j) q))
     by (at h) =
-        let q : Some a.value ≡ Some (record { 0 = k }) = sym (ap (option_map (λ (x : Arg). x.value)) (slice_get-push t.args a j h)) ∙ p.1 in
+        let q : Some a.value ≡ Some (record { 0 = k }) = sym (ap (option_map (λ (x : Arg). x.value)) (ap (slice_get (t.args ++ a ∷ [])) h ∙ get_last t.args a)) ∙ p.1 in
         let e : a.value ≡ record { 0 = k } = some_inj a.value (record { 0 = k }) q in
         now (ap (λ (v : ValueId). nat_eq v.0 k) e ∙ nat_eq-refl k) (ap value_def.Arg h)
     by (past h) = absurd (omega (arith, h, p.0, length-append t.args (a ∷ [])))

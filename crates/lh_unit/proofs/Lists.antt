@@ -9,8 +9,9 @@ use Rattle.lh_unit.specs.Design.{first_some}
 use Rattle.lh_unit.specs.Typing.{or_else, if_made}
 -- std's laws of tests and of equal options
 pub use Rattle.std.proofs.Math.Bool.{or-false as or_false, or-true as or_true, or_assoc as or-assoc}
-pub use Rattle.std.proofs.lemmas.Bool.{false_from_ne_true as not_true, ne_eqb as nat_eq-other, eqb-true as nat_eq-is}
+pub use Rattle.std.proofs.lemmas.Bool.{false_from_ne_true as not_true, ne_eqb as nat_eq-other}
 pub use Rattle.std.proofs.lemmas.Option.{same_Some as some_inj}
+pub use Rattle.lh_types.specs.Same.{nat_eq-is, nat_eq-refl}
 use Rattle.std.proofs.lemmas.Bool.{or_parts}
 use Rattle.std.specs.List.{list_any}
 use Rattle.lh_types.specs.declared.ty.TyFault.{TyFault}
@@ -23,9 +24,6 @@ pub data Same (a b : ℕ) : Type 0 where
 
 pub same_or : (a b : ℕ) → Same a b
 same_or a b = elim (trichotomy b a) [ before h ↦ other (λ e. omega (arith, h, e)) | at h ↦ same h | past h ↦ other (λ e. omega (arith, h, e)) ]
-
-pub nat_eq-refl : (a : ℕ) → nat_eq a a ≡ true
-nat_eq-refl a = grind (arith, common_steps)
 
 pub nat_eq-next : (a b : ℕ) → nat_eq (a + 1) (b + 1) ≡ nat_eq a b
 nat_eq-next a b = grind (arith, common_steps)

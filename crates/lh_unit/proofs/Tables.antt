@@ -19,7 +19,8 @@ use Rattle.lh_unit.specs.declared.table.Line.{Line}
 pub use Rattle.lh_unit.proofs.Defining.{is_arg-push, is_made-push}
 use Rattle.lh_unit.proofs.Defining.{definition-tells, IsDefinition-with_arg, IsDefinition-with_line, IsDefinition-same, arg-defines, line-defines, once-with_arg, once-with_line}
 use Rattle.lh_unit.proofs.Lists.{Same, same, other, same_or, nat_eq-refl, nat_eq-other, or_false, or_true, or-assoc, get_or-push_default, front_last, map-ext, map-same, flat-append}
-use Rattle.lh_names.proofs.Lists.{Trichotomy, before, at, past, trichotomy, slice_get-push, slice_get-push_before, AllDistinct-push}
+use Rattle.lh_names.proofs.Lists.{Trichotomy, before, at, past, trichotomy, AllDistinct-push}
+use Rattle.lh_types.proofs.Lists.{get_below, get_last}
 use Rattle.lh_names.proofs.NameLists.{absent}
 
 -- bounds that grow
@@ -345,8 +346,8 @@ pub front-apart : (t : Table) (front : List BlockId) → IsTable t → t.blocks 
 front-apart t front o e i x p q =
     let w : x ≡ last_block t = λ j. record { 0 = q j } in
     let l : i < length front = slice_get_within front i x p in
-    let y : slice_get t.blocks i ≡ Some (last_block t) = ap (λ z. slice_get z i) e ∙ slice_get-push_before front (last_block t) i l ∙ p ∙ ap Some w in
-    let z : slice_get t.blocks (length front) ≡ Some (last_block t) = ap (λ z. slice_get z (length front)) e ∙ slice_get-push front (last_block t) (length front) refl in
+    let y : slice_get t.blocks i ≡ Some (last_block t) = ap (λ z. slice_get z i) e ∙ get_below front (last_block t ∷ []) i l ∙ p ∙ ap Some w in
+    let z : slice_get t.blocks (length front) ≡ Some (last_block t) = ap (λ z. slice_get z (length front)) e ∙ get_last front (last_block t) in
     let n : i ≡ length front = o.blocks_distinct i (length front) (last_block t) y z in omega (arith, n, l)
 
 -- one more line

@@ -2,9 +2,8 @@
 use Rattle.std.specs.Prelude.{ℕ, zero, suc, ◌+◌, List, [], ◌∷◌, ◌++◌, map, unwrap_or, slice_get, Bool, true, false, not, ◌&&◌, ◌||◌, Option, Some, None, ◌≡◌, ◌⊎◌}
 use Rattle.std.specs.Option.{option_map, option_map_or}
 use Rattle.std.specs.List.{list_any}
-use Rattle.std.specs.Ordering.{is_eq}
 use Rattle.lh_time.specs.declared.Instant.{Instant}
-use Rattle.lh_time.specs.Order.{instant_cmp, instant_lt, instant_le}
+use Rattle.lh_time.specs.Order.{instant_lt, instant_le, instant_eq}
 use Rattle.lh_time.specs.Due.{instant}
 use Rattle.lh_types.specs.Wish.{Wish, no_wish}
 use Rattle.lh_types.specs.History.{Made, Claim, claims, bits_at, sooner, if_later, soonest_due}
@@ -30,10 +29,14 @@ pub data State : Type 0 where
 abbrev pub unit_of : List ItemText → UnitName → UnitText
 unit_of items n = unwrap_or (unit_named n items) (new_unit n kind.Entity)
 
+-- a process before its first activation, where its arguments have these bits
+abbrev pub begun : UnitText → List Range → ProcessState
+begun u args = record { stand = is_new; held = with_args nothing_held u.args (map part_held args) }
+
 -- an instance as it begins: a process holds its arguments, an entity has not run
 abbrev pub start_by : UnitKind → UnitText → Instance → State
 start_by kind.Entity u i = of_entity None
-start_by _ u i = of_process (record { stand = is_new; held = with_args nothing_held u.args (map part_held i.args) })
+start_by _ u i = of_process (begun u i.args)
 
 -- an instance as it begins
 abbrev pub start : UnitText → Instance → State
@@ -79,10 +82,6 @@ bit_at bits k = unwrap_or (slice_get bits k) false
 abbrev pub bit_differs : (old now : List Bool) → ℕ → Bool
 bit_differs old now k = (bit_at old k && not (bit_at now k)) || (not (bit_at old k) && bit_at now k)
 
--- the two instants are one
-abbrev pub is_at : Instant → Instant → Bool
-is_at t u = is_eq (instant_cmp t u)
-
 -- The moment of a frame: its instant, the bits at it, and the bits of the frame before, none in the first frame.
 pub record Moment : Type 0 where
   pub before : Option (List Bool)
@@ -92,7 +91,7 @@ pub record Moment : Type 0 where
 -- A frame wakes who senses these parts and wakes by itself at this instant: the first frame always, a later one where a bit that is sensed differs or the instant has come.
 abbrev pub wakes : Moment → (sensed : List Range) → (wake : Option Instant) → Bool
 wakes m sensed wake =
-    option_map_or (λ old. list_any (bit_differs old m.now) (bit_numbers sensed) || option_map_or (is_at m.at) wake false) m.before true
+    option_map_or (λ old. list_any (bit_differs old m.now) (bit_numbers sensed) || option_map_or (instant_eq m.at) wake false) m.before true
 
 -- an instance is woken
 abbrev pub woken : Moment → UnitText → Instance → State → Bool

@@ -27,7 +27,8 @@ use Rattle.lh_term.specs.Arena.{StandsForTree}
 use Rattle.lh_term.specs.declared.term.TermId.{TermId}
 use Rattle.lh_term.specs.declared.term.Node.{Node}
 use Rattle.lh_joins.specs.Joins.{AreConditions}
-use Rattle.lh_rows.specs.Known.{known_value, known_part, Knowledge, nothing_known, with_known, with_given, whole_argument, with_arguments}
+use Rattle.lh_rows.specs.Known.{known_value, known_part, Knowledge, nothing_known, with_known, with_given, with_arguments}
+use Rattle.lh_term.specs.Parts.{whole_argument}
 use Rattle.lh_rows.specs.Regions.{with_constant, with_constants, lines_at, head_of, known_first}
 use Rattle.lh_places.specs.declared.state.PlaceState.{PlaceState}
 use Rattle.lh_places.specs.Asked.{kept_by, kept_at, keeps, source_of, edges_at, IsBelow, Tells, Joins, IsJoin}

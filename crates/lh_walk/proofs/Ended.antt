@@ -26,7 +26,7 @@ use Rattle.lh_inlined.specs.Formed.{IsWithoutCalls}
 use Rattle.lh_flat.specs.declared.flat.FlatInst.{FlatInst}
 use Rattle.lh_flat.specs.declared.flat.FlatBlock.{FlatBlock}
 use Rattle.lh_flat.specs.Below.{ValuesBelow, InstBelow}
-use Rattle.lh_flat.specs.Flat.{FlatBlockText}
+use Rattle.lh_flat.specs.Flat.{FlatBlockText, as_block}
 use Rattle.lh_flat.specs.Reads.{flat_line_text, flat_block_text}
 use Rattle.lh_term.specs.Tree.{Tree}
 use Rattle.lh_term.specs.declared.part.Part.{Part}
@@ -38,7 +38,6 @@ use Rattle.lh_rows.specs.Known.{value_known, parts_known}
 use Rattle.lh_rows.specs.Rows as text
 use Rattle.lh_rows.specs.Places.{Region as RegionText, Here, Midst, block_number, branches, wait_way, ends_if, takes}
 use Rattle.lh_rows.specs.Regions.{max_turns, turns_too_often}
-use Rattle.lh_rows.specs.Right.{as_block}
 use Rattle.lh_rows.specs.Typed.{IsCondition}
 use Rattle.lh_rows.proofs.Leading.{branch-known}
 use Rattle.lh_rows.proofs.Operations.{part-known}

@@ -10,7 +10,7 @@ use Rattle.lh_unit.specs.Typing.{or_else}
 use Rattle.lh_inlined.specs.Formed.{IsFormed}
 use Rattle.lh_flat.specs.declared.flat.FlatBlock.{FlatBlock}
 use Rattle.lh_flat.specs.declared.flat.FlatInst.{FlatInst}
-use Rattle.lh_flat.specs.Flat.{FlatBlockText, FlatText, flat_unit}
+use Rattle.lh_flat.specs.Flat.{FlatBlockText, FlatText, flat_unit, as_block}
 use Rattle.lh_flat.specs.Reads.{flat_block_text, flat_text}
 use Rattle.lh_term.specs.Make.{bit_of}
 use Rattle.lh_term.specs.Arena.{StandsForTree, Grows}
@@ -20,7 +20,6 @@ use Rattle.lh_rows.specs.Joins.{RegionEdge, merged, first_one, joined}
 use Rattle.lh_rows.specs.Regions as rows
 use Rattle.lh_rows.specs.Regions.{lines_at, head_of, known_first, edge_into, first_region, region_from}
 use Rattle.lh_rows.specs.Typed.{JoinEdge}
-use Rattle.lh_rows.specs.Right.{as_block}
 use Rattle.lh_rows.proofs.Start as Start
 use Rattle.lh_places.specs.declared.state.PlaceState.{PlaceState}
 use Rattle.lh_walk.specs.declared.walk.Region.{Region}

@@ -6,14 +6,14 @@ use Rattle.lh_term.specs.Arena.{Grows, trees, tree_at}
 use Rattle.lh_term.specs.declared.part.Part.{Part}
 use Rattle.lh_term.specs.declared.term.Node.{Node}
 use Rattle.lh_rows.specs.Rows as text
-use Rattle.lh_rows.specs.Right.{DriveFine}
+use Rattle.lh_rows.specs.Right.{DriveTyped}
 use Rattle.lh_rows.specs.Typed.{IsOfType}
 use Rattle.lh_joins.proofs.Conditions.{stands-condition, condition-grown}
 use Rattle.lh_term.proofs.Swaps.{tree_grown, in_grown}
 use Rattle.lh_region.specs.declared.rows.DriveRow.{DriveRow}
 use Rattle.lh_region.specs.Stands.{IsDrive, AreDrives, DriveFits, DrivesFit}
 
-drive-fits : (ns : List Node) (d : DriveRow) (x : text.Drive) → IsDrive ns d x → DriveFine x → DriveFits ns d
+drive-fits : (ns : List Node) (d : DriveRow) (x : text.Drive) → IsDrive ns d x → DriveTyped x → DriveFits ns d
 drive-fits ns d x h t = record {
   cond = stands-condition ns d.cond x.cond h.cond t.cond;
   value_in = h.value.is_in;
@@ -21,7 +21,7 @@ drive-fits ns d x h t = record {
   delay_in = h.delay.is_in;
 }
 
-pub drives-fit : (ns : List Node) (ds : List DriveRow) (xs : List text.Drive) → AreDrives ns ds xs → Each DriveFine xs → DrivesFit ns ds
+pub drives-fit : (ns : List Node) (ds : List DriveRow) (xs : List text.Drive) → AreDrives ns ds xs → Each DriveTyped xs → DrivesFit ns ds
 drives-fit ns [] [] h t = tt
 drives-fit ns [] (x ∷ xs) h t = absurd h
 drives-fit ns (d ∷ ds) [] h t = absurd h

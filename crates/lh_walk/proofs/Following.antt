@@ -8,7 +8,7 @@ use Rattle.lh_unit.specs.Within.{Each}
 use Rattle.lh_inlined.specs.Formed.{IsFormed}
 use Rattle.lh_flat.specs.declared.flat.FlatBlock.{FlatBlock}
 use Rattle.lh_flat.specs.Below.{IdsBelow}
-use Rattle.lh_flat.specs.Flat.{FlatText, flat_unit}
+use Rattle.lh_flat.specs.Flat.{FlatText, flat_unit, as_block}
 use Rattle.lh_flat.specs.Reads.{flat_block_text, flat_blocks_text, flat_text}
 use Rattle.lh_flat.proofs.Placing.{read-long}
 use Rattle.lh_parts.specs.Steps.{IsPartTable}
@@ -20,7 +20,6 @@ use Rattle.lh_rows.specs.Rows as text
 use Rattle.lh_rows.specs.Joins.{RegionEdge, joined}
 use Rattle.lh_rows.specs.Regions.{begins_with_phi, lines_at, head_of, edges_of_ends, waits_for, RegionRefusal, Course, Coursed, comes_to, then_course, region_from, first_region, second_region}
 use Rattle.lh_rows.specs.Typed.{JoinEdge}
-use Rattle.lh_rows.specs.Right.{as_block}
 use Rattle.lh_rows.proofs.Courses.{coursed-is}
 use Rattle.lh_before.proofs.Second as Before
 use Rattle.lh_joins.specs.declared.edge.Edge.{Edge}

@@ -24,12 +24,11 @@ use Rattle.lh_flat.specs.declared.flat.FlatInst.{FlatInst}
 use Rattle.lh_flat.specs.declared.flat.FlatBlock.{FlatBlock}
 use Rattle.lh_flat.specs.declared.flat.Flat.{Flat}
 use Rattle.lh_flat.specs.Below.{IdsBelow, InstBelow, BlockBelow}
-use Rattle.lh_flat.specs.Flat.{MergeText, FlatBlockText, with_merge, flat_unit}
+use Rattle.lh_flat.specs.Flat.{MergeText, FlatBlockText, with_merge, flat_unit, as_block}
 use Rattle.lh_flat.specs.Reads.{merge_text, flat_line_text, flat_block_text, flat_blocks_text, flat_text}
 use Rattle.lh_term.specs.Types.{FitsTerm}
 use Rattle.lh_rows.specs.Regions as rows
 use Rattle.lh_rows.specs.Regions.{lines_at, head_of}
-use Rattle.lh_rows.specs.Right.{as_block}
 use Rattle.lh_rows.proofs.Knowing.{constant-typed}
 use Rattle.lh_rows.proofs.Sites.{block-lines}
 use Rattle.lh_region.specs.Forms.{Names}

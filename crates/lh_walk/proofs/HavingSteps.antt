@@ -36,14 +36,14 @@ use Rattle.lh_flat.specs.declared.flat.Flat.{Flat}
 use Rattle.lh_flat.specs.declared.flat.FlatInst.{FlatInst}
 use Rattle.lh_flat.specs.declared.flat.FlatBlock.{FlatBlock}
 use Rattle.lh_flat.specs.declared.flat.Merge.{Merge}
-use Rattle.lh_flat.specs.Flat.{with_merge}
+use Rattle.lh_flat.specs.Flat.{with_merge, as_block}
 use Rattle.lh_flat.specs.Below.{ValuesBelow, InstBelow, BlockBelow, IdsBelow}
 use Rattle.lh_flat.specs.Reads.{merge_text, flat_line_text, flat_blocks_text}
 use Rattle.lh_term.specs.declared.part.Part.{Part}
-use Rattle.lh_parts.specs.Steps.{step_if, step_in, is_result, if_result, step_giving, insts_in, argument_from, argument_of, whole_of, range_by, type_carried, StepWithin, HasSteps}
+use Rattle.lh_parts.specs.Steps.{step_if, step_in, is_result, if_result, step_giving, insts_in, argument_from, argument_of, range_by, type_carried, StepWithin, HasSteps}
+use Rattle.lh_term.specs.Parts.{whole_argument}
 use Rattle.lh_parts.specs.declared.step.PartStep.{PartStep}
 use Rattle.lh_rows.specs.Typed.{Among}
-use Rattle.lh_rows.specs.Right.{as_block}
 use Rattle.lh_rows.proofs.Among.{in-each}
 use Rattle.lh_rows.proofs.Operations.{carried-is}
 use Rattle.lh_region.specs.Forms.{Names}
@@ -137,15 +137,15 @@ as-argument : (k : ℕ) (xs : List Arg) (v : ℕ) (p : Part) → argument_from k
 as-argument k [] v p e = absurd (none-some p e)
 as-argument k (a ∷ more) v p e = by (argument_from (k + 1) more v) (as-argument (k + 1) more v p) e
   where
-    whole : (c : Option TypeTree) → carried a.ty ≡ c → nat_eq a.value.0 v ≡ true → option_map (whole_of k) c ≡ Some p → AsArgument (a ∷ more) v p
+    whole : (c : Option TypeTree) → carried a.ty ≡ c → nat_eq a.value.0 v ≡ true → option_map (whole_argument k) c ≡ Some p → AsArgument (a ∷ more) v p
     whole None q r g = absurd (none-some p g)
-    whole (Some t) q r g = record { arg = a; among = inl refl; value = nat_eq-is a.value.0 v r; carries = q ∙ ap (λ (y : Part). Some y.ty) (same_Some (whole_of k t) p g) }
+    whole (Some t) q r g = record { arg = a; among = inl refl; value = nat_eq-is a.value.0 v r; carries = q ∙ ap (λ (y : Part). Some y.ty) (same_Some (whole_argument k t) p g) }
 
-    here : (b : Bool) → nat_eq a.value.0 v ≡ b → (if b then option_map (whole_of k) (carried a.ty) else None) ≡ Some p → AsArgument (a ∷ more) v p
+    here : (b : Bool) → nat_eq a.value.0 v ≡ b → (if b then option_map (whole_argument k) (carried a.ty) else None) ≡ Some p → AsArgument (a ∷ more) v p
     here true r g = whole (carried a.ty) refl r g
     here false r g = absurd (none-some p g)
 
-    by : (o : Option Part) → (o ≡ Some p → AsArgument more v p) → or_else o (if nat_eq a.value.0 v then option_map (whole_of k) (carried a.ty) else None) ≡ Some p → AsArgument (a ∷ more) v p
+    by : (o : Option Part) → (o ≡ Some p → AsArgument more v p) → or_else o (if nat_eq a.value.0 v then option_map (whole_argument k) (carried a.ty) else None) ≡ Some p → AsArgument (a ∷ more) v p
     by None go g = here (nat_eq a.value.0 v) refl g
     by (Some x) go g = let z = go g in record { arg = z.arg; among = inr z.among; value = z.value; carries = z.carries }
 

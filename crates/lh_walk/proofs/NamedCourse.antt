@@ -15,16 +15,16 @@ use Rattle.lh_unit.proofs.Lists.{Each-append}
 use Rattle.lh_inlined.specs.Formed.{IsFormed}
 use Rattle.lh_formed.specs.KindsOf.{HasTypeOfKind}
 use Rattle.lh_sound.specs.Units.{HasItsType}
-use Rattle.lh_flat.specs.Flat.{FlatBlockText, FlatText, with_merge, flat_unit}
+use Rattle.lh_flat.specs.Flat.{FlatBlockText, FlatText, with_merge, flat_unit, as_block}
 use Rattle.lh_term.specs.Tree.{Tree}
 use Rattle.lh_term.specs.Make.{is_zero, make_operation}
 use Rattle.lh_term.specs.declared.part.Part.{Part}
-use Rattle.lh_rows.specs.Known.{Known, known_value, known_cell, known_part, Knowledge, nothing_known, with_known, with_given, value_known, part_known, with_arguments, whole_argument}
+use Rattle.lh_rows.specs.Known.{Known, known_value, known_cell, known_part, Knowledge, nothing_known, with_known, with_given, value_known, part_known, with_arguments}
+use Rattle.lh_term.specs.Parts.{whole_argument}
 use Rattle.lh_rows.specs.Rows.{Drive, Way, enters_head, RegionEnd, Rows}
 use Rattle.lh_rows.specs.Joins.{RegionPlace, RegionEdge, joined, with_phi, with_phis, known_at}
 use Rattle.lh_rows.specs.Places.{Region, Here, Midst, gives, probes, with_drive, drive_cond, drives, asserts, ends, goes, goes_if, both, leads, branches, ends_if, block_number, next_place, takes, takes_all}
 use Rattle.lh_rows.specs.Regions.{Course, comes_to, is_place, edges_to, edges_of_ends, through_block, through, through_reached, head_of, with_constant, with_constants, lines_at, known_first}
-use Rattle.lh_rows.specs.Right.{as_block}
 use Rattle.lh_rows.proofs.Sites.{block-lines}
 use Rattle.lh_rows.proofs.Labels.{block-text}
 use Rattle.lh_rows.proofs.Joining.{GiveEach, given-each, value_on, cell_on, part_on, JoinCase, of_value, of_cell, of_part, join-case, merged-of, known-by-value, known-by-cell, known-by-part}

@@ -20,7 +20,7 @@ use Rattle.lh_flat.specs.declared.flat.Merge.{Merge}
 use Rattle.lh_flat.specs.declared.flat.FlatInst.{FlatInst}
 use Rattle.lh_flat.specs.declared.flat.FlatBlock.{FlatBlock}
 use Rattle.lh_flat.specs.Below.{ValuesBelow, InstBelow, EdgeBelow, MaybeBelow, BlockBelow}
-use Rattle.lh_flat.specs.Flat.{MergeText, FlatBlockText, with_merge}
+use Rattle.lh_flat.specs.Flat.{MergeText, FlatBlockText, with_merge, as_block}
 use Rattle.lh_flat.specs.Reads.{merge_edge_text, merge_text, flat_line_text, flat_block_text, flat_blocks_text}
 use Rattle.lh_term.specs.Arena.{Grows}
 use Rattle.lh_term.specs.declared.term.Node.{Node}
@@ -30,7 +30,7 @@ use Rattle.lh_rows.specs.Joins.{RegionEdge, joined, with_phi, with_phis, known_a
 use Rattle.lh_rows.specs.Places.{Here}
 use Rattle.lh_rows.specs.Regions.{Course}
 use Rattle.lh_rows.specs.Typed.{KnowsThere, PhiKnown, JoinEdge}
-use Rattle.lh_rows.specs.Right.{as_block, PhisGiven}
+use Rattle.lh_rows.specs.Right.{PhisGiven}
 use Rattle.lh_rows.proofs.Sites.{LineGood, good-lines}
 use Rattle.lh_rows.proofs.Labels.{block-text}
 use Rattle.lh_rows.proofs.Knowing.{there-past}

@@ -35,18 +35,18 @@ use Rattle.lh_flat.specs.declared.flat.Flat.{Flat}
 use Rattle.lh_flat.specs.declared.flat.FlatInst.{FlatInst}
 use Rattle.lh_flat.specs.declared.flat.FlatBlock.{FlatBlock}
 use Rattle.lh_flat.specs.declared.flat.Merge.{Merge}
-use Rattle.lh_flat.specs.Flat.{with_merge}
+use Rattle.lh_flat.specs.Flat.{with_merge, as_block}
 use Rattle.lh_flat.specs.Below.{ValuesBelow, InstBelow, BlockBelow, IdsBelow}
 use Rattle.lh_flat.specs.Reads.{merge_text, flat_line_text, flat_blocks_text}
 use Rattle.lh_term.specs.declared.part.Part.{Part}
 use Rattle.lh_parts.specs.Steps as ids
-use Rattle.lh_parts.specs.Steps.{step_if, step_on, step_in, is_result, if_result, step_giving, insts_in, argument_from, argument_of, whole_of, part_by, part_found, IsPart, part_at, IsPartTable}
+use Rattle.lh_parts.specs.Steps.{step_if, step_on, step_in, is_result, if_result, step_giving, insts_in, argument_from, argument_of, part_by, part_found, IsPart, part_at, IsPartTable}
+use Rattle.lh_term.specs.Parts.{whole_argument}
 use Rattle.lh_parts.specs.declared.step.PartStep.{PartStep}
 use Rattle.lh_parts.specs.declared.table.PartTable.{PartTable}
-use Rattle.lh_rows.specs.Known.{known_part, whole_argument}
+use Rattle.lh_rows.specs.Known.{known_part, argument_part}
 use Rattle.lh_rows.specs.Places.{stepped}
-use Rattle.lh_rows.specs.Typed.{Among, argument_part, IsPartOf, of_argument, of_step}
-use Rattle.lh_rows.specs.Right.{as_block}
+use Rattle.lh_rows.specs.Typed.{Among, IsPartOf, of_argument, of_step}
 use Rattle.lh_rows.proofs.Among.{in-each, among-split, among-left, among-right}
 use Rattle.lh_rows.proofs.PartsNamed.{part-argument, part-is as same-known}
 use Rattle.lh_rows.proofs.Heads.{define-last, define-append}
@@ -193,9 +193,9 @@ module _ (f : Naming) (t : Flat) (n : Names t f) (v : ℕ) (l : v < t.values) wh
   args-none seen k (a ∷ xs) b d r =
       let p = or_parts (args_define (f.value_name a.value.0) seen) (args_repeat (seen ++ arg_text f a ∷ []) (map (arg_text f) xs)) r in
       let other : nat_eq a.value.0 v ≡ false = by (nat_eq a.value.0 v) refl p.0 in
-      or-none (argument_from (k + 1) xs v) (if nat_eq a.value.0 v then option_map (whole_of k) (carried a.ty) else None)
+      or-none (argument_from (k + 1) xs v) (if nat_eq a.value.0 v then option_map (whole_argument k) (carried a.ty) else None)
       (args-none (seen ++ arg_text f a ∷ []) (k + 1) xs b.1 (define-append (f.value_name v) seen (arg_text f a ∷ []) d) p.1)
-      (ap (λ (c : Bool). if c then option_map (whole_of k) (carried a.ty) else None) other)
+      (ap (λ (c : Bool). if c then option_map (whole_argument k) (carried a.ty) else None) other)
     where
       by : (c : Bool) → nat_eq a.value.0 v ≡ c → args_define (f.value_name a.value.0) seen ≡ false → c ≡ false
       by false e h = refl
@@ -212,9 +212,9 @@ module _ (f : Naming) (t : Flat) (n : Names t f) (v : ℕ) (l : v < t.values) wh
       by : (args_repeat (seen ++ arg_text f a ∷ []) (map (arg_text f) xs) ≡ false → argument_part (f.value_name v) (k + 1) (map (arg_text f) xs) ≡ Some p → argument_from (k + 1) xs v ≡ Some p)
           → (c : Bool) → nat_eq a.value.0 v ≡ c → args_repeat (seen ++ arg_text f a ∷ []) (map (arg_text f) xs) ≡ false
           → (if c then option_map (whole_argument k) (carried a.ty) else argument_part (f.value_name v) (k + 1) (map (arg_text f) xs)) ≡ Some p
-          → or_else (argument_from (k + 1) xs v) (if c then option_map (whole_of k) (carried a.ty) else None) ≡ Some p
+          → or_else (argument_from (k + 1) xs v) (if c then option_map (whole_argument k) (carried a.ty) else None) ≡ Some p
       by go true q h g =
-          ap (λ (x : Option Part). or_else x (option_map (whole_of k) (carried a.ty)))
+          ap (λ (x : Option Part). or_else x (option_map (whole_argument k) (carried a.ty)))
           (args-none (seen ++ arg_text f a ∷ []) (k + 1) xs b.1 (define-last (f.value_name v) seen (arg_text f a) (name-same a b.0 ∙ q)) h) ∙ g
       by go false q h g = ap (λ (x : Option Part). or_else x None) (go h g)
 

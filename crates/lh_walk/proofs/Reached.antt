@@ -5,9 +5,9 @@ use Rattle.lh_names.specs.declared.name.UnitName.{UnitName}
 use Rattle.lh_unit.specs.Contents.{BlockText, UnitText}
 use Rattle.lh_unit.specs.Naming.{Naming}
 use Rattle.lh_unit.specs.Within.{Each}
-use Rattle.lh_names.proofs.Lists.{slice_get-push}
+use Rattle.lh_types.proofs.Lists.{get_last}
 use Rattle.lh_flat.specs.declared.flat.FlatBlock.{FlatBlock}
-use Rattle.lh_flat.specs.Flat.{FlatBlockText}
+use Rattle.lh_flat.specs.Flat.{FlatBlockText, as_block}
 use Rattle.lh_flat.specs.Reads.{flat_block_text}
 use Rattle.lh_term.specs.Arena.{StandsForTree, Grows}
 use Rattle.lh_term.specs.declared.term.Node.{Node}
@@ -15,7 +15,6 @@ use Rattle.lh_rows.specs.Joins.{RegionPlace, RegionEdge, any_taken, joined}
 use Rattle.lh_rows.specs.Places.{Region as RegionText, Here}
 use Rattle.lh_rows.specs.Regions.{RegionRefusal, Course, Coursed, stops, comes_to, then_course, max_turns, through_block, edges_to, through_reached, through_all}
 use Rattle.lh_rows.specs.Typed.{JoinEdge}
-use Rattle.lh_rows.specs.Right.{as_block}
 use Rattle.lh_rows.proofs.Steps.{RegionOf}
 use Rattle.lh_rows.proofs.Merging.{any-condition, EachCondition}
 use Rattle.lh_rows.proofs.Courses as Courses
@@ -56,7 +55,7 @@ join-conditions b u (e ∷ es) h = (h.0.cond, join-conditions b u es h.1)
 
 -- the edges of the last place
 pub edges-last : (ps qs : List PlaceState) (block : ℕ) (es : List Edge) → IsBegun ps block es qs → edges_at qs (length ps) ≡ es
-edges-last ps qs block es b = edges-of qs (length ps) b.new (ap (λ (xs : List PlaceState). slice_get xs (length ps)) b.put ∙ slice_get-push ps b.new (length ps) refl) ∙ b.edges_are
+edges-last ps qs block es b = edges-of qs (length ps) b.new (ap (λ (xs : List PlaceState). slice_get xs (length ps)) b.put ∙ get_last ps b.new) ∙ b.edges_are
 
 -- what is so far where a place was reached
 pub so-far-reached : (ns : List Node) (f : Naming) (r : Region) (w q : Walk) (turns block : ℕ) (s : Story) (c : Course) → IsSoFar ns f r w turns block s c

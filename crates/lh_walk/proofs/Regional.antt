@@ -6,12 +6,12 @@ use Rattle.lh_names.specs.declared.name.UnitName.{UnitName}
 use Rattle.lh_unit.specs.Contents.{LineText}
 use Rattle.lh_unit.specs.Naming.{Naming}
 use Rattle.lh_flat.specs.declared.flat.FlatBlock.{FlatBlock}
-use Rattle.lh_flat.specs.Flat.{with_merge}
+use Rattle.lh_flat.specs.Flat.{with_merge, as_block}
 use Rattle.lh_flat.specs.Reads.{flat_block_text, flat_blocks_text}
 use Rattle.lh_term.specs.declared.part.Part.{Part}
 use Rattle.lh_rows.specs.Places.{block_number, Here}
 use Rattle.lh_rows.specs.Typed.{IsOfType}
-use Rattle.lh_rows.specs.Right.{as_block, BlockAt}
+use Rattle.lh_rows.specs.Right.{BlockAt}
 use Rattle.lh_rows.proofs.Sites.{Site, site-at}
 use Rattle.lh_rows.proofs.Steps.{RegionOf, text-at}
 use Rattle.lh_walk.specs.declared.walk.Region.{Region}

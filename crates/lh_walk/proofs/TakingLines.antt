@@ -39,7 +39,7 @@ use Rattle.lh_sound.proofs.Finding.{some-of}
 use Rattle.lh_inlined.specs.Formed.{IsWithoutCalls}
 use Rattle.lh_flat.specs.declared.flat.FlatInst.{FlatInst}
 use Rattle.lh_flat.specs.declared.flat.FlatBlock.{FlatBlock}
-use Rattle.lh_flat.specs.Flat.{FlatBlockText}
+use Rattle.lh_flat.specs.Flat.{FlatBlockText, as_block}
 use Rattle.lh_flat.specs.Below.{ValuesBelow, InstBelow}
 use Rattle.lh_flat.specs.Reads.{flat_line_text, flat_block_text}
 use Rattle.lh_term.specs.Tree.{Tree, constant, operation_on}
@@ -61,7 +61,7 @@ use Rattle.lh_rows.specs.Joins.{RegionEdge}
 use Rattle.lh_rows.specs.Places.{Region as RegionText, Here, Midst, probes, both, drives, asserts, takes}
 use Rattle.lh_rows.specs.Regions.{turns_too_often}
 use Rattle.lh_rows.specs.Typed.{known_type, IsTypedKnown, KnowsTyped, IsCondition}
-use Rattle.lh_rows.specs.Right.{as_block, BlockAt}
+use Rattle.lh_rows.specs.Right.{BlockAt}
 use Rattle.lh_rows.proofs.Knowing.{phis-more, constant-typed}
 use Rattle.lh_rows.proofs.Operations.{term-type, PartStep}
 use Rattle.lh_rows.proofs.Sites.{Site, block-lines}

@@ -27,7 +27,8 @@ use Rattle.lh_walk.specs.declared.walk.WalkPoint.{WalkPoint}
 use Rattle.lh_region.specs.declared.rows.RegionFault.{RegionFault}
 use Rattle.lh_region.specs.Ahead.{LeadsNowhere}
 use Rattle.lh_places.specs.Asked.{edges_at, Tells}
-use Rattle.lh_region.specs.Stands.{AreDrives, AreTerms, AreEnds, refusal_of}
+use Rattle.lh_region.specs.Stands.{AreDrives, AreEnds, refusal_of}
+use Rattle.lh_joins.specs.Joins.{AreTerms}
 use Rattle.lh_region.specs.Walking.{Story, AreEdges, place_of}
 use Rattle.lh_walk.specs.Walked.{process_by, region_text, IsCourse, IsOpened, CanTreat, treated, Treats, TreatsNot, StopsFor}
 use Rattle.lh_walk.specs.Turns.{IsTurn, CanTurn, Stops, turns_at, PassesAll, start_here, IsStart, CanStart, GoesThrough, GoesNot}

@@ -16,7 +16,7 @@ use Rattle.lh_formed.specs.Shape.{EndsOnce}
 use Rattle.lh_flat.specs.declared.flat.FlatInst.{FlatInst}
 use Rattle.lh_flat.specs.declared.flat.FlatBlock.{FlatBlock}
 use Rattle.lh_flat.specs.Below.{InstBelow}
-use Rattle.lh_flat.specs.Flat.{MergeText, with_merge}
+use Rattle.lh_flat.specs.Flat.{MergeText, with_merge, as_block}
 use Rattle.lh_flat.specs.Reads.{merge_text, flat_line_text, flat_block_text, flat_blocks_text}
 use Rattle.lh_term.specs.Arena.{Grows}
 use Rattle.lh_term.specs.declared.term.Node.{Node}
@@ -27,7 +27,6 @@ use Rattle.lh_formed.proofs.EachItem.{each-split}
 use Rattle.lh_rows.specs.Joins.{RegionEdge}
 use Rattle.lh_rows.specs.Places.{Region as RegionText, Here, Midst, takes, takes_all}
 use Rattle.lh_rows.specs.Regions.{Course, stops, comes_to, region_too_large, too_many_turns, max_insts, turns_too_often, after_lines}
-use Rattle.lh_rows.specs.Right.{as_block}
 use Rattle.lh_rows.proofs.Sites.{block-at}
 use Rattle.lh_rows.proofs.Labels.{block-text}
 use Rattle.lh_walk.specs.declared.walk.Region.{Region}

@@ -13,7 +13,8 @@ use Rattle.lh_rows.specs.Joins.{RegionPlace, RegionEdge, joined}
 use Rattle.lh_rows.specs.Places.{Here}
 use Rattle.lh_rows.specs.Regions.{Course, Coursed, comes_to, edges_to, through_all, numbers_below, all_places, region_from}
 use Rattle.lh_rows.specs.Typed.{JoinEdge}
-use Rattle.lh_rows.specs.Right.{as_block, CourseFine}
+use Rattle.lh_rows.specs.Right.{CourseFine}
+use Rattle.lh_flat.specs.Flat.{as_block}
 use Rattle.lh_places.specs.declared.state.PlaceState.{PlaceState}
 use Rattle.lh_walk.specs.declared.walk.Region.{Region}
 use Rattle.lh_walk.specs.declared.walk.Walk.{Walk}

@@ -9,7 +9,7 @@ use Rattle.lh_unit.specs.declared.inst.Inst.TheVariants as inst
 use Rattle.lh_flat.specs.declared.flat.Flat.{Flat}
 use Rattle.lh_flat.specs.declared.flat.FlatInst.{FlatInst}
 use Rattle.lh_flat.specs.declared.flat.FlatBlock.{FlatBlock}
-use Rattle.lh_flat.specs.Flat.{FlatBlockText, flat_unit, with_merge}
+use Rattle.lh_flat.specs.Flat.{FlatBlockText, flat_unit, with_merge, as_block}
 use Rattle.lh_flat.specs.Below.{IdsBelow, InstBelow}
 use Rattle.lh_flat.specs.Reads.{flat_line_text, flat_block_text, flat_text}
 use Rattle.lh_term.specs.Arena.{StandsForTree}
@@ -20,7 +20,7 @@ use Rattle.lh_rows.specs.Joins.{RegionEdge, joined}
 use Rattle.lh_rows.specs.Places.{Region as RegionText, Here, Midst, takes}
 use Rattle.lh_rows.specs.Regions.{RegionRefusal, Course, Coursed, stops, comes_to, max_turns, turns_too_often, through_block}
 use Rattle.lh_rows.specs.Typed.{KnowsTyped, KnowsThere, IsCondition, JoinEdge}
-use Rattle.lh_rows.specs.Right.{as_block, PhisGiven}
+use Rattle.lh_rows.specs.Right.{PhisGiven}
 use Rattle.lh_walk.specs.declared.walk.Region.{Region}
 use Rattle.lh_walk.specs.declared.walk.Walk.{Walk}
 use Rattle.lh_walk.specs.declared.walk.WalkPoint.{WalkPoint}

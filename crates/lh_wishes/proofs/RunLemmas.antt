@@ -4,6 +4,7 @@ use Rattle.std.proofs.lemmas.List.{append-nil, take_more, drop_more, set_split, 
 use Rattle.std.proofs.Math.Seq.{take-length, drop-length}
 use Rattle.std.proofs.lemmas.List.Elements.{filter-append}
 use Rattle.std.proofs.lemmas.Bool.Decides.{nat_tests}
+use Rattle.std.proofs.lemmas.Option.{slice_get_read}
 use Rattle.std.specs.declared.cmp.Ordering.{Ordering}
 use Rattle.std.specs.declared.cmp.Ordering.TheVariants.{Less, Equal, Greater}
 use Rattle.std.specs.Ordering.{is_lt, ordering_then, nat_cmp}
@@ -204,19 +205,14 @@ is_filled-by (b ∷ bs) h = refl
 
 -- ---- the steps of the code
 
-pub get-at : {X : Type 0} (xs : List X) (i : ℕ) (x : X) → i < length xs → x ≡ get_or xs i x → slice_get xs i ≡ Some x
-get-at [] i x h e = absurd (omega arith)
-get-at (y ∷ ys) zero x h e = ap Some (sym e)
-get-at (y ∷ ys) (suc i) x h e = get-at ys i x (omega arith) e
-
 -- one more run that is below a key
 pub below-more : (k : DueBit) (rs : List WishRun) (i : ℕ) (r : WishRun) → AreRuns rs → i < length rs → r ≡ get_or rs i r → AllBelow k (run_wish r) → AllBelow k (runs_wish (take (i + 1) rs))
 below-more k rs i r a h e b =
     let n : suc i ≡ i + 1 = omega arith in
-    subst (λ (j : ℕ). AllBelow k (runs_wish (take j rs))) n (all_below k rs i r a.ordered a.filled (get-at rs i r h e) b)
+    subst (λ (j : ℕ). AllBelow k (runs_wish (take j rs))) n (all_below k rs i r a.ordered a.filled (slice_get_read rs (length rs) i r refl h e) b)
 
 pub above-here : (k : DueBit) (rs : List WishRun) (i : ℕ) (r : WishRun) → AreRuns rs → i < length rs → r ≡ get_or rs i r → AllFrom k (run_wish r) → AllFrom k (runs_wish (drop i rs))
-above-here k rs i r a h e b = all_from k rs i r a.ordered a.filled (get-at rs i r h e) b
+above-here k rs i r a h e b = all_from k rs i r a.ordered a.filled (slice_get_read rs (length rs) i r refl h e) b
 
 -- what is left of a run
 pub low-less : (s t : Instant) (l lo n : ℕ) (bs cs : List Bool) → instant_cmp s t ≡ Less → n ≡ length bs → cs ≡ take n bs → row_wish s l cs ≡ below (due_bit t lo) (row_wish s l bs)

@@ -5,7 +5,7 @@ use Rattle.lh_unit.specs.Held.{Held}
 use Rattle.lh_eval.specs.Beginning.{args_given}
 use Rattle.lh_exec.specs.declared.machine.UnitFrame.{UnitFrame}
 use Rattle.lh_exec.specs.Standing.{MaybeFrame}
-use Rattle.lh_exec.specs.States.{begun}
+use Rattle.lh_unit.specs.World.{begun}
 use Rattle.lh_exec.proofs.Begins.{held-args, begins-some, begins-none}
 use Rattle.lh_exec.proofs.begin.begin_new.Goals as goal
 

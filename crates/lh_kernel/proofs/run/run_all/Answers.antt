@@ -1,11 +1,11 @@
-use Rattle.std.proofs.Common.{◌≡◌, ℕ, ◌<◌, ◌≤◌, length, slice_index_or, ap, sym, subst}
+use Rattle.std.proofs.Common.{◌≡◌, ℕ, ◌<◌, ◌≤◌, length, slice_index_or, refl, ap, sym, subst}
+use Rattle.std.proofs.lemmas.Option.{slice_get_read}
 use Rattle.lh_types.specs.Raised.{raised}
 use Rattle.lh_elab.specs.Answer.{InstanceIs}
 use Rattle.lh_kernel.proofs.Running.{in-place, known-at, turn-on, turn-off, turn-sound, tally-more, tally-off, tally-some, on-err}
 use Rattle.lh_kernel.proofs.Places.{as_many, fit_at}
 use Rattle.lh_kernel.proofs.run.run_all.Goals as goal
 use Rattle.lh_unit.proofs.Lists.{Each-get}
-use Rattle.lh_wishes.proofs.RunLemmas.{get-at}
 
 pub bounds-instances-k : goal.bounds-instances-k
 bounds-instances-k g c =
@@ -35,7 +35,7 @@ run_instance-requires-clause-fits g c =
     let h = known-at c.args.woken.now c.loop-instance.instance-index is c.loop-instance-test.true c.requires.known in
     let e = in-place is c.instances.result.now k c.index-instances-k.result c.instances.ensures h c.index-instances-k.is in
     let long = as_many c.args.m.now (length c.args.now.now) is ss c.requires.fit in
-    let f = get-at ss k c.index-states-k.result (subst (λ (n : ℕ). k < n) (sym long) h) c.index-states-k.is in
+    let f = slice_get_read ss (length ss) k c.index-states-k.result refl (subst (λ (n : ℕ). k < n) (sym long) h) c.index-states-k.is in
     fit_at c.args.m.now (length c.args.now.now) is ss k c.index-instances-k.result c.index-states-k.result c.requires.fit e f
 
 pub returns-in_err-push-in-Ok-clause-err : goal.returns-in_err-push-in-Ok-clause-err
@@ -60,7 +60,7 @@ returns-in-Err-Runaway-clause-ran g c = λ ps q.
     let s = c.index-states-k.result in
     let h = known-at c.args.woken.now j is c.loop-instance-test.true c.requires.known in
     let e = in-place is c.instances.result.now k i c.instances.ensures h c.index-instances-k.is in
-    let f = get-at ss k s (subst (λ (n : ℕ). k < n) (sym (as_many m (length c.args.now.now) is ss c.requires.fit)) h) c.index-states-k.is in
+    let f = slice_get_read ss (length ss) k s refl (subst (λ (n : ℕ). k < n) (sym (as_many m (length c.args.now.now) is ss c.requires.fit)) h) c.index-states-k.is in
     turn-off m c.args.now.now c.args.at is ss ps c.args.woken.now c.loop-instance.acts.items j i s c.loop-instance-test.true e f q
     (λ p w. rw c.in-Err-Runaway.field-0-is at c.in-Err-Runaway.ensures.act p w)
     (c.loop-instance.invariant.ran ps q)
@@ -82,7 +82,7 @@ loop-instance-preserved g c =
     let x = c.in-Ok.act in
     let h = known-at c.args.woken.now j is c.loop-instance-test.true c.requires.known in
     let e = in-place is c.instances.result.now k i c.instances.ensures h c.index-instances-k.is in
-    let f = get-at ss k s (subst (λ (n : ℕ). k < n) (sym (as_many m (length c.args.now.now) is ss c.requires.fit)) h) c.index-states-k.is in
+    let f = slice_get_read ss (length ss) k s refl (subst (λ (n : ℕ). k < n) (sym (as_many m (length c.args.now.now) is ss c.requires.fit)) h) c.index-states-k.is in
     record {
       ran = λ ps q. turn-on m c.args.now.now c.args.at is ss ps c.args.woken.now c.loop-instance.acts.items c.push.new.self.items j i s x
           c.loop-instance-test.true e f q (λ p w. c.in-Ok.ensures.act p w) c.in_ok-push-in-Ok.ensures.items (c.loop-instance.invariant.ran ps q);

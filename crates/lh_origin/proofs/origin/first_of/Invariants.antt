@@ -1,10 +1,11 @@
 use Rattle.std.proofs.Common.{◌≡◌, length}
-use Rattle.lh_origin.specs.Firsts.{AreValues, first_result}
+use Rattle.lh_origin.specs.Firsts.{first_result}
+use Rattle.lh_flat.specs.Below.{ValuesBelow}
 use Rattle.lh_origin.proofs.origin.first_of.Given as goal
 
 abbrev pub invariant-loop-left : goal.invariant-loop-left
 invariant-loop-left l = record {
-  within : AreValues (length l.parts.parts.items) l.left;
+  within : ValuesBelow (length l.parts.parts.items) l.left;
   same : first_result l.parts.parts.items l.left l.part ≡ first_result l.parts.parts.items l.values l.part;
 }
 

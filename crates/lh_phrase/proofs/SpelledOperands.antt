@@ -18,15 +18,15 @@ use Rattle.lh_scan.specs.Types.{type_at}
 use Rattle.lh_scan.proofs.Pieces.{word_at-inv, any_word_at-inv, local_at-inv, punct_at-inv}
 use Rattle.lh_scan.proofs.TypeStarts.{local_at-type}
 use Rattle.lh_scan.proofs.SpelledTypes.{type_at-sound, type_at-again}
-use Rattle.lh_syntax.specs.SyntaxOf.{operand_of, operands_of, trigger_of, edge_of}
-use Rattle.lh_syntax.specs.Words.{mode_of}
-use Rattle.lh_syntax.specs.Operands.{typed_at, bare_at, free_at, next_bare_at, next_free_at, one_at, two_at, shift_at, columns_at, maybe_or, maybe_at, trigger_at, edge_at, param_at}
-use Rattle.lh_syntax.specs.declared.syntax.Operand.{Operand}
-use Rattle.lh_syntax.specs.declared.syntax.TriggerSyntax.{TriggerSyntax}
-use Rattle.lh_syntax.specs.declared.syntax.EdgeSyntax.{EdgeSyntax}
-use Rattle.lh_syntax.specs.declared.words.Columns.{Columns}
-use Rattle.lh_syntax.specs.declared.words.Columns.TheVariants as written
-use Rattle.lh_syntax.proofs.SpelledWords.{mode_of-sound, mode_of-again, columns_of}
+use Rattle.lh_phrase.specs.SyntaxOf.{operand_of, operands_of, trigger_of, edge_of}
+use Rattle.lh_phrase.specs.Words.{mode_of}
+use Rattle.lh_phrase.specs.Operands.{typed_at, bare_at, free_at, next_bare_at, next_free_at, one_at, two_at, shift_at, columns_at, maybe_or, maybe_at, trigger_at, edge_at, param_at}
+use Rattle.lh_phrase.specs.declared.syntax.Operand.{Operand}
+use Rattle.lh_phrase.specs.declared.syntax.TriggerSyntax.{TriggerSyntax}
+use Rattle.lh_phrase.specs.declared.syntax.EdgeSyntax.{EdgeSyntax}
+use Rattle.lh_phrase.specs.declared.words.Columns.{Columns}
+use Rattle.lh_phrase.specs.declared.words.Columns.TheVariants as written
+use Rattle.lh_phrase.proofs.SpelledWords.{mode_of-sound, mode_of-again, columns_of}
 
 -- an operand as the program holds it
 abbrev pub operand_as : OperandText → Operand

@@ -7,12 +7,12 @@ use Rattle.lh_unit.specs.SpellsParts.{SpellsTyped, SpellsOperand, SpellsParts, S
 use Rattle.lh_scan.specs.Pieces.{punct_at, parts_at, list_at}
 use Rattle.lh_scan.proofs.TypeStarts.{punct_at-type}
 use Rattle.lh_scan.proofs.SpelledLists.{parts_at-sound, parts_at-again, list_at-sound, list_at-again}
-use Rattle.lh_syntax.specs.SyntaxOf.{operand_of, operands_of}
-use Rattle.lh_syntax.specs.Shorter.{free_at-shorter}
-use Rattle.lh_syntax.specs.Operands.{free_at}
-use Rattle.lh_syntax.specs.declared.syntax.Operand.{Operand}
-use Rattle.lh_syntax.proofs.SpelledOperands.{operands_as, operands_as-of, free_at-sound, free_at-again}
-use Rattle.lh_syntax.proofs.SpelledEach.{parts_mapped, list_mapped, parts_unmapped, list_unmapped}
+use Rattle.lh_phrase.specs.SyntaxOf.{operand_of, operands_of}
+use Rattle.lh_phrase.specs.Shorter.{free_at-shorter}
+use Rattle.lh_phrase.specs.Operands.{free_at}
+use Rattle.lh_phrase.specs.declared.syntax.Operand.{Operand}
+use Rattle.lh_phrase.proofs.SpelledOperands.{operands_as, operands_as-of, free_at-sound, free_at-again}
+use Rattle.lh_phrase.proofs.SpelledEach.{parts_mapped, list_mapped, parts_unmapped, list_unmapped}
 
 -- an operand as the program holds it is spelled
 abbrev pub SpellsFree : Operand → List Lexeme → List Lexeme → Type 0

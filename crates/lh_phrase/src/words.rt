@@ -1,7 +1,7 @@
 //! The words of the language, in tables: what each begins or stands for.
 ghost use Rattle.std.specs.Prelude.{◌≡◌, false, nat_eq, map};
 ghost use lib.Pointwise.{pointwise};
-ghost use Rattle.lh_syntax.specs.Words.{found, head_of, form_of, mode_of};
+ghost use Rattle.lh_phrase.specs.Words.{found, head_of, form_of, mode_of};
 
 use lh_types::op::Op;
 use lh_unit::inst::Mode;

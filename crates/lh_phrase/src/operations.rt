@@ -1,8 +1,8 @@
 //! The operations that have a word.
 ghost use Rattle.std.specs.Prelude.{◌≡◌};
 ghost use Rattle.lh_scan.specs.Found.{FindsAs};
-ghost use Rattle.lh_syntax.specs.SyntaxOf.{inst_of};
-ghost use Rattle.lh_syntax.specs.Operations.{behind_number_at, one_number_at, two_numbers_at, numbered_at, word_op_at};
+ghost use Rattle.lh_phrase.specs.SyntaxOf.{inst_of};
+ghost use Rattle.lh_phrase.specs.Operations.{behind_number_at, one_number_at, two_numbers_at, numbered_at, word_op_at};
 
 use crate::operands::columns;
 use crate::syntax::InstSyntax;

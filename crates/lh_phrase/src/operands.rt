@@ -1,7 +1,7 @@
 //! The operands in front of the tokens, and the other parts of which lists are made.
 ghost use Rattle.std.specs.Prelude.{◌≡◌, ◌++◌, ◌∷◌, [], IfOk};
 ghost use Rattle.lh_scan.specs.Found.{ReadsAsFound};
-ghost use Rattle.lh_syntax.specs.Operands.{typed_at, bare_at, free_at, one_at, next_bare_at, next_free_at, two_at, and_free_at, shift_at, columns_at, maybe_at, trigger_at, edge_at, param_at};
+ghost use Rattle.lh_phrase.specs.Operands.{typed_at, bare_at, free_at, one_at, next_bare_at, next_free_at, two_at, and_free_at, shift_at, columns_at, maybe_at, trigger_at, edge_at, param_at};
 
 use crate::syntax::{EdgeSyntax, Operand, Param, TriggerSyntax};
 use crate::words::{Columns, find_mode};
@@ -52,8 +52,8 @@ pub fn free<'a>(alloc: Global, tokens: &Tokens<'a>) -> Result<(Operand<'a>, Toke
 }
 
 impl<'a> Part<'a> for Operand<'a> {
-    ghost use Rattle.lh_syntax.specs.Operands.{free_at};
-    ghost use Rattle.lh_syntax.specs.Shorter.{free_at-shorter};
+    ghost use Rattle.lh_phrase.specs.Operands.{free_at};
+    ghost use Rattle.lh_phrase.specs.Shorter.{free_at-shorter};
 
     ghost part_at = { free_at };
 
@@ -206,8 +206,8 @@ fn trigger<'a>(tokens: &Tokens<'a>) -> Option<(TriggerSyntax<'a>, Tokens<'a>)>
 }
 
 impl<'a> Part<'a> for TriggerSyntax<'a> {
-    ghost use Rattle.lh_syntax.specs.Operands.{trigger_at};
-    ghost use Rattle.lh_syntax.specs.Shorter.{trigger_at-shorter};
+    ghost use Rattle.lh_phrase.specs.Operands.{trigger_at};
+    ghost use Rattle.lh_phrase.specs.Shorter.{trigger_at-shorter};
 
     ghost part_at = { trigger_at };
 
@@ -233,8 +233,8 @@ fn edge<'a>(tokens: &Tokens<'a>) -> Option<(EdgeSyntax<'a>, Tokens<'a>)>
 }
 
 impl<'a> Part<'a> for EdgeSyntax<'a> {
-    ghost use Rattle.lh_syntax.specs.Operands.{edge_at};
-    ghost use Rattle.lh_syntax.specs.Shorter.{edge_at-shorter};
+    ghost use Rattle.lh_phrase.specs.Operands.{edge_at};
+    ghost use Rattle.lh_phrase.specs.Shorter.{edge_at-shorter};
 
     ghost part_at = { edge_at };
 
@@ -246,8 +246,8 @@ impl<'a> Part<'a> for EdgeSyntax<'a> {
 }
 
 impl<'a> Part<'a> for Param<'a> {
-    ghost use Rattle.lh_syntax.specs.Operands.{param_at};
-    ghost use Rattle.lh_syntax.specs.Shorter.{param_at-shorter};
+    ghost use Rattle.lh_phrase.specs.Operands.{param_at};
+    ghost use Rattle.lh_phrase.specs.Shorter.{param_at-shorter};
 
     ghost part_at = { param_at };
 

@@ -14,13 +14,13 @@ use Rattle.lh_unit.specs.declared.inst.Mode.{Mode}
 use Rattle.lh_unit.specs.declared.inst.Mode.TheVariants as mode
 use Rattle.lh_unit.specs.CanonWords.{op_word, mode_word}
 use Rattle.lh_unit.specs.SpellsInst.{Column, typed, bare, free, class_columns, columns, IsOpWord}
-use Rattle.lh_syntax.specs.Words.{found, head_rows, form_rows, mode_rows, head_of, form_of, mode_of}
-use Rattle.lh_syntax.specs.declared.words.Head.{Head}
-use Rattle.lh_syntax.specs.declared.words.Head.TheVariants as head
-use Rattle.lh_syntax.specs.declared.words.Columns.{Columns}
-use Rattle.lh_syntax.specs.declared.words.Columns.TheVariants as written
-use Rattle.lh_syntax.specs.declared.words.Form.{Form}
-use Rattle.lh_syntax.specs.declared.words.Form.TheVariants as form
+use Rattle.lh_phrase.specs.Words.{found, head_rows, form_rows, mode_rows, head_of, form_of, mode_of}
+use Rattle.lh_phrase.specs.declared.words.Head.{Head}
+use Rattle.lh_phrase.specs.declared.words.Head.TheVariants as head
+use Rattle.lh_phrase.specs.declared.words.Columns.{Columns}
+use Rattle.lh_phrase.specs.declared.words.Columns.TheVariants as written
+use Rattle.lh_phrase.specs.declared.words.Form.{Form}
+use Rattle.lh_phrase.specs.declared.words.Form.TheVariants as form
 
 -- a fact of each row of a table
 abbrev pub EachRow : {A : Type 0} → (List ℕ → A → Type 0) → List (List ℕ × A) → Type 0

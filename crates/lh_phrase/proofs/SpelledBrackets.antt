@@ -22,12 +22,12 @@ use Rattle.lh_scan.proofs.Pieces.{word_at-inv, punct_at-inv, end_at-inv}
 use Rattle.lh_scan.proofs.SpelledNumbers.{number_at-sound, number_at-again}
 use Rattle.lh_scan.proofs.TypeStarts.{number_at-type}
 use Rattle.lh_types.proofs.TypeFaults.{array-again, tuple-sound, tuple-again, limited_data, four_none, array-limited}
-use Rattle.lh_syntax.specs.SyntaxOf.{operand_of, operands_of}
-use Rattle.lh_syntax.specs.Operands.{typed_at, free_at}
-use Rattle.lh_syntax.specs.Operations.{last_mark_at, when, fits_array, repeated_of, repeat_at, all_bare, element_of, array_at, bracket_at, fields_of, fits_tuple, tuple_at}
-use Rattle.lh_syntax.specs.declared.syntax.Operand.{Operand}
-use Rattle.lh_syntax.proofs.SpelledOperands.{operands_as, operands_as-of, typed_at-sound, typed_at-again, bare_free, typed_free}
-use Rattle.lh_syntax.proofs.OperandLists.{operand_parts-sound, operand_parts-again}
+use Rattle.lh_phrase.specs.SyntaxOf.{operand_of, operands_of}
+use Rattle.lh_phrase.specs.Operands.{typed_at, free_at}
+use Rattle.lh_phrase.specs.Operations.{last_mark_at, when, fits_array, repeated_of, repeat_at, all_bare, element_of, array_at, bracket_at, fields_of, fits_tuple, tuple_at}
+use Rattle.lh_phrase.specs.declared.syntax.Operand.{Operand}
+use Rattle.lh_phrase.proofs.SpelledOperands.{operands_as, operands_as-of, typed_at-sound, typed_at-again, bare_free, typed_free}
+use Rattle.lh_phrase.proofs.OperandLists.{operand_parts-sound, operand_parts-again}
 
 pub last_mark-sound : (b : ℕ) (ts : List Lexeme) (u : Unit {0}) → last_mark_at b ts ≡ Some u → ts ≡ punct b ∷ []
 unfolding last_mark_at

@@ -10,10 +10,10 @@ use Rattle.lh_unit.specs.Lexemes.{Lexeme}
 use Rattle.lh_unit.specs.Typing.{or_else}
 use Rattle.lh_scan.specs.Pieces.{◌>>=◌, word_at, punct_at, end_at, parts_at}
 use Rattle.lh_scan.specs.Numbers.{number_at}
-use Rattle.lh_syntax.specs.SyntaxOf.{operand_of, operands_of}
-use Rattle.lh_syntax.specs.Operands.{typed_at, free_at, columns_at}
-use Rattle.lh_syntax.specs.declared.syntax.Operand.{Operand}
-use Rattle.lh_syntax.specs.declared.words.Columns.{Columns}
+use Rattle.lh_phrase.specs.SyntaxOf.{operand_of, operands_of}
+use Rattle.lh_phrase.specs.Operands.{typed_at, free_at, columns_at}
+use Rattle.lh_phrase.specs.declared.syntax.Operand.{Operand}
+use Rattle.lh_phrase.specs.declared.words.Columns.{Columns}
 
 -- a comma and a number
 unfoldable pub behind_number_at : List Lexeme → Option (ℕ × List Lexeme)

@@ -13,13 +13,12 @@ use Rattle.lh_scan.specs.Pieces.{◌>>=◌, punct_at, end_at}
 use Rattle.lh_scan.specs.Shorter.{bind_some}
 use Rattle.lh_scan.proofs.Pieces.{punct_at-inv, end_at-inv}
 use Rattle.lh_scan.proofs.SpelledNumbers.{number_at-sound, number_at-again}
-use Rattle.lh_syntax.specs.SyntaxOf.{operands_of}
-use Rattle.lh_syntax.specs.Operands.{columns_at}
-use Rattle.lh_syntax.specs.Operations.{behind_number_at, one_number_at, two_numbers_at, numbered_at, word_op_at}
-use Rattle.lh_syntax.specs.Insts.{form_at, worded_at}
-use Rattle.lh_syntax.specs.declared.words.Columns.{Columns}
-use Rattle.lh_syntax.proofs.SpelledWords.{HasWord, IsOpRow, unnumbered, written_as, columns-written, op_found}
-use Rattle.lh_syntax.proofs.SpelledOperands.{columns_at-sound, columns_at-again, operands_as, operands_as-of}
+use Rattle.lh_phrase.specs.SyntaxOf.{operands_of}
+use Rattle.lh_phrase.specs.Operands.{columns_at}
+use Rattle.lh_phrase.specs.Operations.{behind_number_at, one_number_at, two_numbers_at, numbered_at, word_op_at}
+use Rattle.lh_phrase.specs.declared.words.Columns.{Columns}
+use Rattle.lh_phrase.proofs.SpelledWords.{HasWord, IsOpRow, unnumbered, written_as, columns-written}
+use Rattle.lh_phrase.proofs.SpelledOperands.{columns_at-sound, columns_at-again, operands_as, operands_as-of}
 
 behind_number-sound : (ts : List Lexeme) (r : ℕ × List Lexeme) → behind_number_at ts ≡ Some r → (us : List Lexeme) × (ts ≡ punct 44 ∷ us) × SpellsNumber r.0 us r.1
 unfolding behind_number_at
@@ -93,13 +92,11 @@ numbered-again (op.Inss at len) vs s = ap (λ o. o >>= λ r. Some (op.Inss r.0 r
 numbered-again o vs s = ap (λ l. end_at l >>= λ _. Some o) s
 
 -- an operation is found behind its word
-pub word_op-again : (o : Op) (args : List OperandText) (w : List ℕ) (us vs : List Lexeme) → HasWord o → IsOpWord o w → SpellsColumns (columns o) args us vs
-    → SpellsBehind SpellsNumber (op_numbers o) vs []
-    → worded_at w us ≡ Some (pure_text o args)
-unfolding worded_at word_op_at
-word_op-again o args w us vs h e s n =
+pub word_op-again : (o : Op) (args : List OperandText) (us vs : List Lexeme) → SpellsColumns (columns o) args us vs → SpellsBehind SpellsNumber (op_numbers o) vs []
+    → word_op_at (unnumbered o) (written_as o) us ≡ Some (pure_text o args)
+unfolding word_op_at
+word_op-again o args us vs s n =
     let c = subst (λ l. SpellsColumns l args us vs) (columns-written o) s in
-    ap (λ f. f >>= λ x. form_at x us) (op_found o w h e)
-    ∙ ap (λ a. a >>= λ x. (numbered_at (unnumbered o) x.1 >>= λ p. Some (pure_text p (operands_of x.0)))) (columns_at-again (written_as o) args us vs c)
+    ap (λ a. a >>= λ x. (numbered_at (unnumbered o) x.1 >>= λ p. Some (pure_text p (operands_of x.0)))) (columns_at-again (written_as o) args us vs c)
     ∙ ap (λ a. a >>= λ p. Some (pure_text p (operands_of (operands_as args)))) (numbered-again o vs n)
     ∙ ap (λ l. Some (pure_text o l)) (operands_as-of args)

@@ -6,14 +6,14 @@ use Rattle.lh_unit.specs.Spells.{input_of, output_of, LineItem, empty_item, head
 use Rattle.lh_unit.specs.declared.inst.UnitKind.TheVariants as kind
 use Rattle.lh_unit.specs.declared.inst.Declare.TheVariants as declare
 use Rattle.lh_scan.specs.LexemeOf.{unit_name_of}
-use Rattle.lh_syntax.specs.declared.syntax.Operand.{Operand}
-use Rattle.lh_syntax.specs.declared.syntax.TriggerSyntax.{TriggerSyntax}
-use Rattle.lh_syntax.specs.declared.syntax.EdgeSyntax.{EdgeSyntax}
-use Rattle.lh_syntax.specs.declared.syntax.Ports.{Ports}
-use Rattle.lh_syntax.specs.declared.syntax.InstSyntax.{InstSyntax}
-use Rattle.lh_syntax.specs.declared.syntax.InstSyntax.TheVariants as inst
-use Rattle.lh_syntax.specs.declared.syntax.LineSyntax.{LineSyntax}
-use Rattle.lh_syntax.specs.declared.syntax.LineSyntax.TheVariants as line
+use Rattle.lh_phrase.specs.declared.syntax.Operand.{Operand}
+use Rattle.lh_phrase.specs.declared.syntax.TriggerSyntax.{TriggerSyntax}
+use Rattle.lh_phrase.specs.declared.syntax.EdgeSyntax.{EdgeSyntax}
+use Rattle.lh_phrase.specs.declared.syntax.Ports.{Ports}
+use Rattle.lh_phrase.specs.declared.syntax.InstSyntax.{InstSyntax}
+use Rattle.lh_phrase.specs.declared.syntax.InstSyntax.TheVariants as inst
+use Rattle.lh_phrase.specs.declared.syntax.LineSyntax.{LineSyntax}
+use Rattle.lh_phrase.specs.declared.syntax.LineSyntax.TheVariants as line
 
 abbrev pub operand_of : Operand → OperandText
 operand_of o = record { value = o.value; ty = o.ty }

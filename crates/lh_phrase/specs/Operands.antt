@@ -5,12 +5,12 @@ use Rattle.lh_unit.specs.Spells.{TypedName}
 use Rattle.lh_unit.specs.Typing.{or_else}
 use Rattle.lh_scan.specs.Pieces.{◌>>=◌, word_at, any_word_at, local_at, punct_at}
 use Rattle.lh_scan.specs.Types.{type_at}
-use Rattle.lh_syntax.specs.Words.{mode_of}
-use Rattle.lh_syntax.specs.declared.syntax.Operand.{Operand}
-use Rattle.lh_syntax.specs.declared.syntax.TriggerSyntax.{TriggerSyntax}
-use Rattle.lh_syntax.specs.declared.syntax.EdgeSyntax.{EdgeSyntax}
-use Rattle.lh_syntax.specs.declared.words.Columns.{Columns}
-use Rattle.lh_syntax.specs.declared.words.Columns.TheVariants as columns
+use Rattle.lh_phrase.specs.Words.{mode_of}
+use Rattle.lh_phrase.specs.declared.syntax.Operand.{Operand}
+use Rattle.lh_phrase.specs.declared.syntax.TriggerSyntax.{TriggerSyntax}
+use Rattle.lh_phrase.specs.declared.syntax.EdgeSyntax.{EdgeSyntax}
+use Rattle.lh_phrase.specs.declared.words.Columns.{Columns}
+use Rattle.lh_phrase.specs.declared.words.Columns.TheVariants as columns
 
 -- `T %a`
 unfoldable pub typed_at : List Lexeme → Option (Operand × List Lexeme)

@@ -2,9 +2,9 @@
 use Rattle.std.specs.Prelude.{ℕ, nat_eq, List, [], ◌∷◌, map, Option, Some, None, if◌then◌else◌}
 use lib.Pointwise.{pointwise}
 use Rattle.lh_unit.specs.declared.inst.Mode.{Mode}
-use Rattle.lh_syntax.specs.declared.words.Head.{Head}
-use Rattle.lh_syntax.specs.declared.words.Form.{Form}
-use Rattle.lh_syntax.specs.declared.words.TheConstants.{HEADS, FORMS, MODES}
+use Rattle.lh_phrase.specs.declared.words.Head.{Head}
+use Rattle.lh_phrase.specs.declared.words.Form.{Form}
+use Rattle.lh_phrase.specs.declared.words.TheConstants.{HEADS, FORMS, MODES}
 
 -- what stands beside a word in a table
 abbrev pub found : {A : Type 0} → List (List ℕ × A) → List ℕ → Option A

@@ -1,8 +1,8 @@
 //! Arrays and structs, which brackets spell.
 ghost use Rattle.std.specs.Prelude.{◌≡◌, IfOk, option_map, length, Some};
 ghost use Rattle.lh_scan.specs.Found.{FindsAs};
-ghost use Rattle.lh_syntax.specs.SyntaxOf.{inst_of};
-ghost use Rattle.lh_syntax.specs.Operations.{last_mark_at, fits_array, repeated_of, repeat_at, all_bare, element_of, array_at, bracket_at, fields_of, fits_tuple, tuple_at};
+ghost use Rattle.lh_phrase.specs.SyntaxOf.{inst_of};
+ghost use Rattle.lh_phrase.specs.Operations.{last_mark_at, fits_array, repeated_of, repeat_at, all_bare, element_of, array_at, bracket_at, fields_of, fits_tuple, tuple_at};
 
 use crate::operands::typed;
 use crate::syntax::{InstSyntax, Operand};

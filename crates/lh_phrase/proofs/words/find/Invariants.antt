@@ -1,6 +1,6 @@
 use Rattle.std.proofs.Common.{◌≡◌, map, length}
-use Rattle.lh_syntax.specs.Words.{found}
-use Rattle.lh_syntax.proofs.words.find.Given as goal
+use Rattle.lh_phrase.specs.Words.{found}
+use Rattle.lh_phrase.proofs.words.find.Given as goal
 
 abbrev pub invariant-loop-table : goal.invariant-loop-table
 invariant-loop-table g l = found (map (λ r. (r.0.now, r.1)) l.table) l.word ≡ found (map (λ r. (r.0.now, r.1)) l.initial.table) l.word

@@ -1,7 +1,7 @@
 use Rattle.std.proofs.Common.{◌≡◌, length}
-use Rattle.lh_syntax.specs.Operations.{fields_of}
-use Rattle.lh_syntax.proofs.Fields.{in_front}
-use Rattle.lh_syntax.proofs.brackets.fields.Given as goal
+use Rattle.lh_phrase.specs.Operations.{fields_of}
+use Rattle.lh_phrase.proofs.Fields.{in_front}
+use Rattle.lh_phrase.proofs.brackets.fields.Given as goal
 
 abbrev pub invariant-loop-operands : goal.invariant-loop-operands
 invariant-loop-operands l = in_front l.fields (fields_of l.operands) ≡ fields_of l.initial.operands

@@ -8,11 +8,11 @@ use Rattle.lh_unit.specs.Typing.{or_else}
 use Rattle.lh_scan.specs.Pieces.{word_at, any_word_at, local_at, punct_at}
 use Rattle.lh_scan.specs.Types.{type_at}
 use Rattle.lh_scan.specs.Shorter.{bind_some, word_at-shorter, any_word_at-shorter, local_at-shorter, punct_at-shorter, type_at-shorter}
-use Rattle.lh_syntax.specs.Words.{mode_of}
-use Rattle.lh_syntax.specs.Operands.{typed_at, bare_at, free_at, maybe_or, maybe_at, trigger_at, edge_at, param_at}
-use Rattle.lh_syntax.specs.declared.syntax.Operand.{Operand}
-use Rattle.lh_syntax.specs.declared.syntax.TriggerSyntax.{TriggerSyntax}
-use Rattle.lh_syntax.specs.declared.syntax.EdgeSyntax.{EdgeSyntax}
+use Rattle.lh_phrase.specs.Words.{mode_of}
+use Rattle.lh_phrase.specs.Operands.{typed_at, bare_at, free_at, maybe_or, maybe_at, trigger_at, edge_at, param_at}
+use Rattle.lh_phrase.specs.declared.syntax.Operand.{Operand}
+use Rattle.lh_phrase.specs.declared.syntax.TriggerSyntax.{TriggerSyntax}
+use Rattle.lh_phrase.specs.declared.syntax.EdgeSyntax.{EdgeSyntax}
 
 typed_at-shorter : (ts : List Lexeme) (r : Operand × List Lexeme) → typed_at ts ≡ Some r → length r.1 < length ts
 unfolding typed_at
