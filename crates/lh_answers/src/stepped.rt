@@ -6,7 +6,7 @@ use lh_design::Design;
 use lh_io::count::Count;
 use lh_kernel::{Sim, SimStep};
 use lh_naive::frames::{put_frame, put_instant, put_named, put_sensing};
-use lh_types::text::put;
+use lh_text::Text;
 use lh_types::ty::NoMemory;
 use lh_unit::module::Module;
 use lh_wave::value::put_value;
@@ -16,24 +16,30 @@ use std::alloc::Global;
 pub fn stepped(alloc: Global, m: &Module, design: Design, steps: u32) -> Result<Vec<u8>, NoMemory>
     requires { IsDesignOf m.now design }
 {
-    let mut to = Vec::new(alloc);
-    put_simulated(&mut to, m, design, steps)?;
-    Ok(to)
+    let mut to = Text::new(alloc);
+    put_simulated(&mut to, alloc, m, design, steps)?;
+    to.finish()
 }
 
-fn put_simulated(to: &mut Vec<u8>, m: &Module, design: Design, steps: u32) -> Result<(), NoMemory>
+fn put_simulated(
+    to: &mut Text,
+    alloc: Global,
+    m: &Module,
+    design: Design,
+    steps: u32,
+) -> Result<(), NoMemory>
     requires { IsDesignOf m.now design }
 {
-    let mut sim = Sim::new(*to.allocator(), m, design)?;
+    let mut sim = Sim::new(alloc, m, design)?;
     put_stepped(to, &mut sim, steps)
 }
 
-fn put_stepped(to: &mut Vec<u8>, sim: &mut Sim<'_>, steps: u32) -> Result<(), NoMemory> {
+fn put_stepped(to: &mut Text, sim: &mut Sim<'_>, steps: u32) -> Result<(), NoMemory> {
     let mut count = Count::new();
     for _ in 0..steps {
         let goes = put_step(to, sim, &mut count)?;
-        put_named(to, b"activations", count.get())?;
-        put_senses(to, sim)?;
+        put_named(to, b"activations", count.get());
+        put_senses(to, sim);
         put_values(to, sim)?;
         if !goes {
             return Ok(());
@@ -43,25 +49,25 @@ fn put_stepped(to: &mut Vec<u8>, sim: &mut Sim<'_>, steps: u32) -> Result<(), No
 }
 
 /// The next step; whether a further one may follow.
-fn put_step(to: &mut Vec<u8>, sim: &mut Sim<'_>, count: &mut Count) -> Result<bool, NoMemory> {
+fn put_step(to: &mut Text, sim: &mut Sim<'_>, count: &mut Count) -> Result<bool, NoMemory> {
     match sim.next() {
-        Some(at) => put_instant(to, b"next", at)?,
-        None => put(to, b"next none\n")?,
+        Some(at) => put_instant(to, b"next", at),
+        None => to.put(b"next none\n"),
     }
     let step = sim.step(count)?;
-    put_told(to, &step)?;
+    put_told(to, &step);
     Ok(matches!(step, SimStep::Frame(_)))
 }
 
 /// What a step tells.
-fn put_told(to: &mut Vec<u8>, step: &SimStep) -> Result<(), NoMemory> {
+fn put_told(to: &mut Text, step: &SimStep) {
     match step {
         SimStep::Frame(frame) => put_frame(to, frame),
         SimStep::Runaway(frame, instance) => {
-            put_frame(to, frame)?;
-            put_named(to, b"runaway", *instance as u64)
+            put_frame(to, frame);
+            put_named(to, b"runaway", *instance as u64);
         }
-        SimStep::Quiet => put(to, b"quiet\n"),
+        SimStep::Quiet => to.put(b"quiet\n"),
     }
 }
 
@@ -71,24 +77,24 @@ fn signals_of(sim: &Sim<'_>) -> u32 {
 }
 
 /// The instances that sense each signal now.
-fn put_senses(to: &mut Vec<u8>, sim: &Sim<'_>) -> Result<(), NoMemory> {
+fn put_senses(to: &mut Text, sim: &Sim<'_>) {
     for signal in 0..signals_of(sim) {
         if (signal as usize) < sim.design().signals().len() {
-            put_sensing(to, signal as u64, sim.sensing(signal))?;
+            put_sensing(to, signal as u64, sim.sensing(signal));
         }
     }
-    Ok(())
 }
 
 /// The values of all signals now.
-fn put_values(to: &mut Vec<u8>, sim: &Sim<'_>) -> Result<(), NoMemory> {
+fn put_values(to: &mut Text, sim: &Sim<'_>) -> Result<(), NoMemory> {
     for signal in 0..signals_of(sim) {
         if (signal as usize) < sim.design().signals().len() {
-            put_value(to, &sim.value(signal)?)?;
-            put(to, b" ")?;
+            put_value(to, &sim.value(signal)?);
+            to.put(b" ");
         }
     }
-    put(to, b"\n")
+    to.put(b"\n");
+    Ok(())
 }
 
 /// At most so many frames of a simulation: the instant of each, the activations so far, and the instances that sense each signal
@@ -97,17 +103,16 @@ pub fn sensed(alloc: Global, m: &Module, design: Design, steps: u32) -> Result<V
     requires { IsDesignOf m.now design }
 {
     let stepped = stepped(alloc, m, design, steps)?;
-    let mut to = Vec::new(alloc);
-    put_sensed(&mut to, str::from_utf8(&stepped).unwrap_or(""))?;
-    Ok(to)
+    let mut to = Text::new(alloc);
+    put_sensed(&mut to, str::from_utf8(&stepped).unwrap_or(""));
+    to.finish()
 }
 
-fn put_sensed(to: &mut Vec<u8>, stepped: &str) -> Result<(), NoMemory> {
+fn put_sensed(to: &mut Text, stepped: &str) {
     for line in stepped.lines() {
         if line.starts_with('@') || line.starts_with("activations") || line.starts_with("signal") {
-            put(to, line.as_bytes())?;
-            put(to, b"\n")?;
+            to.put(line.as_bytes());
+            to.put(b"\n");
         }
     }
-    Ok(())
 }

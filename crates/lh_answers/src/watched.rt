@@ -1,6 +1,10 @@
 //! Simulations shown to watchers that say a word at a frame.
-ghost use Rattle.std.specs.Prelude.{◌<◌};
+ghost use Rattle.std.specs.Prelude.{◌≡◌, ◌<◌};
+ghost use Rattle.lh_unit.specs.Arena.{contents};
+ghost use Rattle.lh_unit.specs.World.{first_world};
+ghost use Rattle.lh_design.specs.Texts.{design_text};
 ghost use Rattle.lh_elab.specs.Answer.{IsDesignOf};
+ghost use Rattle.lh_kernel.specs.Simulation.{StandsFor};
 
 use crate::answer::number;
 use crate::program::sink;
@@ -8,7 +12,7 @@ use lh_design::Design;
 use lh_kernel::Sim;
 use lh_naive::frames::put_named;
 use lh_speakers::speaker::{Speaker, speakers};
-use lh_types::text::put;
+use lh_text::Text;
 use lh_types::ty::NoMemory;
 use lh_unit::module::Module;
 use lh_watch::watcher::Watcher;
@@ -23,13 +27,21 @@ pub fn watched(alloc: Global, m: &Module, design: Design, words: &str) -> Result
 {
     let (steps, words) = words.split_once(' ').unwrap_or((words, ""));
     let mut watchers = speakers(alloc, words)?;
-    let mut answer = Vec::new(alloc);
-    put_watched(&mut answer, m, design, number(steps).max(1), &mut watchers)?;
-    Ok(answer)
+    let mut answer = Text::new(alloc);
+    put_watched(
+        &mut answer,
+        alloc,
+        m,
+        design,
+        number(steps).max(1),
+        &mut watchers,
+    )?;
+    answer.finish()
 }
 
 fn put_watched(
-    to: &mut Vec<u8>,
+    to: &mut Text,
+    alloc: Global,
     m: &Module,
     design: Design,
     steps: u32,
@@ -38,13 +50,28 @@ fn put_watched(
     requires design { IsDesignOf m.now design }
     requires steps { 0 < steps }
 {
-    let alloc = *to.allocator();
     let mut sim = Sim::new(alloc, m, design)?;
+    put_run(to, alloc, m, &mut sim, steps, watchers)
+}
+
+/// The same of a simulation before its first frame.
+fn put_run(
+    to: &mut Text,
+    alloc: Global,
+    m: &Module,
+    sim: &mut Sim<'_>,
+    steps: u32,
+    watchers: &mut Vec<Speaker>,
+) -> Result<(), NoMemory>
+    requires steps { 0 < steps }
+    requires module { sim.old.arena ≡ m.now }
+    requires first { StandsFor sim.old (first_world (contents m.now) (design_text m.now sim.old.design)) }
+{
     let mut out = sink(alloc)?;
     let mut reports = Vec::new(alloc);
     match run_wave(
         alloc,
-        &mut sim,
+        sim,
         m,
         steps,
         WaveMode::Trace,
@@ -52,49 +79,64 @@ fn put_watched(
         &mut out,
         &mut reports,
     ) {
-        Ok(ending) => put_shown(to, out.written(), ending.end, watchers, &reports),
-        Err(fault) => put_fault(to, fault, watchers),
+        Ok(ending) => put_shown(to, alloc, out.written(), ending.end, watchers, &reports),
+        Err(fault) => put_fault(to, alloc, fault, watchers),
     }
 }
 
 fn put_shown(
-    to: &mut Vec<u8>,
+    to: &mut Text,
+    alloc: Global,
     trace: &[u8],
     end: End,
     watchers: &[Speaker],
     reports: &[u8],
 ) -> Result<(), NoMemory> {
-    put(to, trace)?;
-    put_end(to, end)?;
-    put_left(to, watchers)?;
-    put(to, b"reports ")?;
-    put(to, reports)?;
-    put(to, b"\n")
+    to.put(trace);
+    put_end(to, end);
+    put_left(to, alloc, watchers)?;
+    to.put(b"reports ");
+    to.put(reports);
+    to.put(b"\n");
+    Ok(())
 }
 
-fn put_fault(to: &mut Vec<u8>, fault: WaveFault, watchers: &[Speaker]) -> Result<(), NoMemory> {
+fn put_fault(
+    to: &mut Text,
+    alloc: Global,
+    fault: WaveFault,
+    watchers: &[Speaker],
+) -> Result<(), NoMemory> {
     let line: &[u8] = match fault {
         WaveFault::WriteFault => b"write fault\n",
         WaveFault::OutOfMemory => b"out of memory\n",
     };
-    put(to, line)?;
-    put_left(to, watchers)
+    to.put(line);
+    put_left(to, alloc, watchers)
 }
 
-fn put_end(to: &mut Vec<u8>, end: End) -> Result<(), NoMemory> {
+fn put_end(to: &mut Text, end: End) {
     match end {
-        End::Quiet => put(to, b"quiet\n"),
-        End::Steps => put(to, b"steps\n"),
+        End::Quiet => to.put(b"quiet\n"),
+        End::Steps => to.put(b"steps\n"),
         End::Runaway(instance) => put_named(to, b"runaway", instance as u64),
         End::Stop(place) => put_named(to, b"stop", place as u64),
     }
 }
 
 /// What the watchers that are left report, one behind the other.
-fn put_left(to: &mut Vec<u8>, watchers: &[Speaker]) -> Result<(), NoMemory> {
-    put(to, b"left ")?;
+fn put_left(to: &mut Text, alloc: Global, watchers: &[Speaker]) -> Result<(), NoMemory> {
+    let mut left = Vec::new(alloc);
+    put_reports(&mut left, watchers)?;
+    to.put(b"left ");
+    to.put(&left);
+    to.put(b"\n");
+    Ok(())
+}
+
+fn put_reports(to: &mut Vec<u8>, watchers: &[Speaker]) -> Result<(), NoMemory> {
     for watcher in watchers {
         watcher.report(to)?;
     }
-    put(to, b"\n")
+    Ok(())
 }

@@ -10,10 +10,10 @@ use lh_bits::layout::from_bits;
 use lh_design::{Design, Signal};
 use lh_elab::probes_of;
 use lh_exec::ExecFault;
+use lh_text::Text;
 use lh_time::Instant;
 use lh_types::frame::{Change, ChangeList, Frame, OutcomeList};
 use lh_types::part::RangeList;
-use lh_types::text::put;
 use lh_types::ty::{NoMemory, bits, carries_data};
 use lh_types::val::Val;
 use lh_unit::module::Module;
@@ -38,11 +38,11 @@ pub fn defined(alloc: Global, m: &Module, design: &Design, steps: u32) -> Result
     requires { IsDesignOf m.now design.now }
 {
     let mut naive = begun(alloc, m, design)?;
-    let mut to = Vec::new(alloc);
+    let mut to = Text::new(alloc);
     let put = naive.put_steps(&mut to, steps);
     drop(naive);
     put?;
-    Ok(to)
+    to.finish()
 }
 
 /// A design before its first frame.
@@ -112,10 +112,10 @@ impl Naive<'_> {
     }
 
     /// At most so many frames, each with the senses and the values after it.
-    fn put_steps(&mut self, to: &mut Vec<u8>, steps: u32) -> Result<(), NoMemory> {
+    fn put_steps(&mut self, to: &mut Text, steps: u32) -> Result<(), NoMemory> {
         for _ in 0..steps {
             let goes = self.put_step(to)?;
-            put_named(to, b"activations", self.activations)?;
+            put_named(to, b"activations", self.activations);
             self.put_senses(to)?;
             self.put_values(to)?;
             if !goes {
@@ -126,22 +126,22 @@ impl Naive<'_> {
     }
 
     /// The next frame; whether a further one may follow.
-    fn put_step(&mut self, to: &mut Vec<u8>) -> Result<bool, NoMemory> {
+    fn put_step(&mut self, to: &mut Text) -> Result<bool, NoMemory> {
         let Some(at) = self.next() else {
-            put(to, b"next none\nquiet\n")?;
+            to.put(b"next none\nquiet\n");
             return Ok(false);
         };
-        put_instant(to, b"next", at)?;
+        put_instant(to, b"next", at);
         self.put_frame_at(to, at)?;
         let Some(instance) = self.runaway else {
             return Ok(true);
         };
-        put_named(to, b"runaway", instance as u64)?;
+        put_named(to, b"runaway", instance as u64);
         Ok(false)
     }
 
     /// The frame at an instant, which is the last one then.
-    fn put_frame_at(&mut self, to: &mut Vec<u8>, at: Instant) -> Result<(), NoMemory> {
+    fn put_frame_at(&mut self, to: &mut Text, at: Instant) -> Result<(), NoMemory> {
         let now = bits_at(&self.history, self.design.init(), at)?;
         let put = self.put_frame_of(to, &now, at);
         self.last = Some(at);
@@ -150,9 +150,10 @@ impl Naive<'_> {
     }
 
     /// The frame at an instant at which the bits are these.
-    fn put_frame_of(&mut self, to: &mut Vec<u8>, now: &Bits, at: Instant) -> Result<(), NoMemory> {
+    fn put_frame_of(&mut self, to: &mut Text, now: &Bits, at: Instant) -> Result<(), NoMemory> {
         let frame = self.frame(now, at)?;
-        put_frame(to, &frame)
+        put_frame(to, &frame);
+        Ok(())
     }
 
     /// What the instances do at an instant, and what differs from the last frame.
@@ -236,9 +237,9 @@ impl Naive<'_> {
     }
 
     /// The instances that sense each signal.
-    fn put_senses(&self, to: &mut Vec<u8>) -> Result<(), NoMemory> {
+    fn put_senses(&self, to: &mut Text) -> Result<(), NoMemory> {
         for (k, signal) in self.design.signals().iter().enumerate() {
-            put_sensing(to, k as u64, &self.sensing(signal)?)?;
+            put_sensing(to, k as u64, &self.sensing(signal)?);
         }
         Ok(())
     }
@@ -255,17 +256,19 @@ impl Naive<'_> {
     }
 
     /// The values of all signals.
-    fn put_values(&self, to: &mut Vec<u8>) -> Result<(), NoMemory> {
+    fn put_values(&self, to: &mut Text) -> Result<(), NoMemory> {
         for signal in self.design.signals() {
             self.put_value_of(to, signal)?;
-            put(to, b" ")?;
+            to.put(b" ");
         }
-        put(to, b"\n")
+        to.put(b"\n");
+        Ok(())
     }
 
-    fn put_value_of(&self, to: &mut Vec<u8>, signal: &Signal) -> Result<(), NoMemory> {
+    fn put_value_of(&self, to: &mut Text, signal: &Signal) -> Result<(), NoMemory> {
         let value = value_of(self.alloc, signal, &self.bits)?;
-        put_value(to, &value)
+        put_value(to, &value);
+        Ok(())
     }
 }
 

@@ -1,7 +1,9 @@
 -- Texts written one after another.
-use Rattle.std.proofs.Common.{◌≡◌, ℕ, ◌+◌, List, [], ◌∷◌, ◌++◌, map, refl, ap, sym, ◌∙◌, append_assoc}
+use Rattle.std.proofs.Common.{◌≡◌, List, ℕ, [], ◌∷◌, ◌++◌, map, refl, ap, sym, ◌∙◌, append_assoc}
 use Rattle.std.proofs.lemmas.List.{append-nil}
 use Rattle.lh_types.specs.Types.{TypeTree, row_of}
+use Rattle.lh_text.specs.Writing.{Written, Writes, Leaves}
+use Rattle.lh_text.proofs.Parts.{less-left, still-left}
 use Rattle.lh_unit.specs.Marks.{comma}
 use Rattle.lh_unit.specs.Canon.{text_of}
 use Rattle.lh_unit.specs.Pieces.{Piece, token, space, render, commas, behind_commas}
@@ -11,32 +13,16 @@ use Rattle.lh_unit.proofs.Rendering.{render-append, text_of-append}
 pub ruleset steps = (render-append, text_of-append, append_assoc, append-nil)
 
 -- one more part behind a comma
-pub behind_step : (out new all : List ℕ) (part rest whole : List Piece) → whole ≡ token comma ∷ space ∷ part ++ rest → new ≡ out ++ (44 ∷ 32 ∷ render part) → out ++ render whole ≡ all
-    → new ++ render rest ≡ all
-behind_step out new all part rest whole w n a =
-    ap (λ l. l ++ render rest) n
-    ∙ append_assoc out (44 ∷ 32 ∷ render part) (render rest)
-    ∙ ap (λ l. out ++ (44 ∷ 32 ∷ l)) (sym (render-append part rest))
-    ∙ ap (λ l. out ++ render l) (sym w)
-    ∙ a
+pub behind_step : (start now next : Written) (all : List ℕ) (part rest whole : List Piece) → whole ≡ token comma ∷ space ∷ part ++ rest → Writes now next (44 ∷ 32 ∷ render part)
+    → Leaves start now (render whole) all
+    → Leaves start next (render rest) all
+behind_step start now next all part rest whole w n a =
+    less-left start now next (44 ∷ 32 ∷ render part) (render rest) (render whole) all (ap render w ∙ ap (λ l. 44 ∷ 32 ∷ l) (render-append part rest)) n a
 
--- one more line
-pub line_step : (out new all : List ℕ) (part rest whole : List (List Piece)) → whole ≡ part ++ rest → new ≡ out ++ text_of part → out ++ text_of whole ≡ all → new ++ text_of rest ≡ all
-line_step out new all part rest whole w n a =
-    ap (λ l. l ++ text_of rest) n
-    ∙ append_assoc out (text_of part) (text_of rest)
-    ∙ ap (λ l. out ++ l) (sym (text_of-append part rest))
-    ∙ ap (λ l. out ++ text_of l) (sym w)
-    ∙ a
-
--- one more part
-pub part_step : (out new all : List ℕ) (part rest whole : List Piece) → whole ≡ part ++ rest → new ≡ out ++ render part → out ++ render whole ≡ all → new ++ render rest ≡ all
-part_step out new all part rest whole w n a =
-    ap (λ l. l ++ render rest) n
-    ∙ append_assoc out (render part) (render rest)
-    ∙ ap (λ l. out ++ l) (sym (render-append part rest))
-    ∙ ap (λ l. out ++ render l) (sym w)
-    ∙ a
+-- more lines
+pub line_step : (start now next : Written) (all : List ℕ) (part rest whole : List (List Piece)) → whole ≡ part ++ rest → Writes now next (text_of part) → Leaves start now (text_of whole) all
+    → Leaves start next (text_of rest) all
+line_step start now next all part rest whole w n a = less-left start now next (text_of part) (text_of rest) (text_of whole) all (ap text_of w ∙ text_of-append part rest) n a
 
 -- parts of which the first stands behind this text, and each other behind a comma and a space
 abbrev pub in_row : List ℕ → List (List Piece) → List ℕ
@@ -61,22 +47,18 @@ in_row-more [] = refl
 in_row-more (p ∷ ps) = ap (λ l. 44 ∷ 32 ∷ l) (sym (render-append p (behind_commas ps)))
 
 -- one more part of a row
-pub row_step : (out new all before next : List ℕ) (part : List Piece) (rest whole : List (List Piece)) → whole ≡ part ∷ rest → next ≡ 44 ∷ 32 ∷ [] → new ≡ out ++ (before ++ render part)
-    → out ++ in_row before whole ≡ all
-    → new ++ in_row next rest ≡ all
-row_step out new all before next part rest whole w m n a =
-    ap (λ l. l ++ in_row next rest) n
-    ∙ ap (λ b. (out ++ (before ++ render part)) ++ in_row b rest) m
-    ∙ ap (λ l. (out ++ (before ++ render part)) ++ l) (in_row-more rest)
-    ∙ append_assoc out (before ++ render part) (render (behind_commas rest))
-    ∙ ap (λ l. out ++ l) (append_assoc before (render part) (render (behind_commas rest)))
-    ∙ ap (λ l. out ++ in_row before l) (sym w)
-    ∙ a
+pub row_step : (start now next : Written) (all before behind : List ℕ) (part : List Piece) (rest whole : List (List Piece)) → whole ≡ part ∷ rest → behind ≡ 44 ∷ 32 ∷ []
+    → Writes now next (before ++ render part)
+    → Leaves start now (in_row before whole) all
+    → Leaves start next (in_row behind rest) all
+row_step start now next all before behind part rest whole w m n a =
+    less-left start now next (before ++ render part) (in_row behind rest) (in_row before whole) all
+    (ap (in_row before) w ∙ sym (append_assoc before (render part) (render (behind_commas rest)))
+    ∙ ap (λ l. (before ++ render part) ++ l) (sym (in_row-more rest)) ∙ ap (λ b. (before ++ render part) ++ in_row b rest) (sym m))
+    n a
 
 -- a row that stays
-pub row_same : (out new all before next : List ℕ) (rest whole : List (List Piece)) → whole ≡ rest → next ≡ before → new ≡ out → out ++ in_row before whole ≡ all → new ++ in_row next rest ≡ all
-row_same out new all before next rest whole w m n a =
-    ap (λ l. l ++ in_row next rest) n
-    ∙ ap (λ b. out ++ in_row b rest) m
-    ∙ ap (λ l. out ++ in_row before l) (sym w)
-    ∙ a
+pub row_same : (start now next : Written) (all before behind : List ℕ) (rest whole : List (List Piece)) → whole ≡ rest → behind ≡ before → next ≡ now → Leaves start now (in_row before whole) all
+    → Leaves start next (in_row behind rest) all
+row_same start now next all before behind rest whole w m n a =
+    still-left start now next (in_row behind rest) (in_row before whole) all (ap (in_row before) w ∙ ap (λ b. in_row b rest) (sym m)) n a

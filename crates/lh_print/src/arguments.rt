@@ -1,7 +1,8 @@
 //! Arguments of units.
 #![tactic(auto, using(crate::proofs::Joined::steps))]
 
-ghost use Rattle.std.specs.Prelude.{◌≡◌, ◌<◌, ◌++◌, ◌∷◌, map, OnOk};
+ghost use Rattle.std.specs.Prelude.{◌≡◌, ◌<◌, ◌++◌, ◌∷◌, map};
+ghost use Rattle.lh_text.specs.Writing.{Writes};
 ghost use Rattle.lh_unit.specs.Table.{ArgsWithin};
 ghost use Rattle.lh_unit.specs.Arena.{value_count, naming, args_at, result_type_at};
 ghost use Rattle.lh_unit.specs.Naming.{arg_text};
@@ -10,37 +11,30 @@ ghost use Rattle.lh_unit.specs.Canon.{argument, arguments, on_side, side_of, por
 
 use crate::names::put_value;
 use crate::types::put_type;
-use lh_types::text::put;
-use lh_types::ty::NoMemory;
+use lh_text::Text;
 use lh_unit::inst::Arg;
 use lh_unit::view::UnitView;
 
 /// Writes a text, and then an argument.
-fn put_argument(
-    out: &mut Vec<u8>,
-    before: &[u8],
-    view: UnitView<'_>,
-    arg: &Arg,
-) -> Result<(), NoMemory>
+fn put_argument(out: &mut Text, before: &[u8], view: UnitView<'_>, arg: &Arg)
     requires placed { arg.now.value.0 < value_count view.module.now view.unit.0 }
-    ensures { OnOk result (out.new.items ≡ out.old.items ++ (before.now ++ render (argument (arg_text (naming view.entry.module.now view.entry.unit.0) arg.now)))) }
+    ensures { Writes out.old out.new (before.now ++ render (argument (arg_text (naming view.entry.module.now view.entry.unit.0) arg.now))) }
 {
-    put(out, before)?;
-    put_type(out, &arg.ty)?;
-    put_value(out, b" %", view, arg.value)
+    out.put(before);
+    put_type(out, &arg.ty);
+    put_value(out, b" %", view, arg.value);
 }
 
 /// Writes arguments, with a comma and a space between them.
-fn put_arguments(out: &mut Vec<u8>, view: UnitView<'_>, args: &[Arg]) -> Result<(), NoMemory>
+fn put_arguments(out: &mut Text, view: UnitView<'_>, args: &[Arg])
     requires placed { ArgsWithin (value_count view.module.now view.unit.0) args.now }
-    ensures { OnOk result (out.new.items ≡ out.old.items ++ render (arguments (map (arg_text (naming view.entry.module.now view.entry.unit.0)) args.now))) }
+    ensures { Writes out.old out.new (render (arguments (map (arg_text (naming view.entry.module.now view.entry.unit.0)) args.now))) }
 {
     let mut before: &[u8] = b"";
     for arg in args {
-        put_argument(out, before, view, arg)?;
+        put_argument(out, before, view, arg);
         before = b", ";
     }
-    Ok(())
 }
 
 /// Whether an argument is an output, or whether it is none.
@@ -51,49 +45,43 @@ fn is_on_side(output: bool, arg: &Arg, view: UnitView<'_>) -> bool
 }
 
 /// Writes the outputs among arguments, or the others, with a comma and a space between them.
-fn put_side(
-    out: &mut Vec<u8>,
-    output: bool,
-    view: UnitView<'_>,
-    args: &[Arg],
-) -> Result<(), NoMemory>
+fn put_side(out: &mut Text, output: bool, view: UnitView<'_>, args: &[Arg])
     requires placed { ArgsWithin (value_count view.module.now view.unit.0) args.now }
-    ensures { OnOk result (out.new.items ≡ out.old.items ++ render (arguments (side_of output (map (arg_text (naming view.entry.module.now view.entry.unit.0)) args.now)))) }
+    ensures { Writes out.old out.new (render (arguments (side_of output (map (arg_text (naming view.entry.module.now view.entry.unit.0)) args.now)))) }
 {
     let mut before: &[u8] = b"";
     for arg in args {
         if is_on_side(output, arg, view) {
-            put_argument(out, before, view, arg)?;
+            put_argument(out, before, view, arg);
             before = b", ";
         }
     }
-    Ok(())
 }
 
 /// Writes ` (S1 %a1) -> (S2 %a2) {`.
-pub fn put_ports(out: &mut Vec<u8>, view: UnitView<'_>) -> Result<(), NoMemory>
-    ensures { OnOk result (out.new.items ≡ out.old.items ++ (32 ∷ render (ports (map (arg_text (naming view.entry.module.now view.entry.unit.0)) (args_at view.entry.module.now view.entry.unit.0))))) }
+pub fn put_ports(out: &mut Text, view: UnitView<'_>)
+    ensures { Writes out.old out.new (32 ∷ render (ports (map (arg_text (naming view.entry.module.now view.entry.unit.0)) (args_at view.entry.module.now view.entry.unit.0)))) }
 {
     let args = view.args();
-    put(out, b" (")?;
-    put_side(out, false, view, args)?;
-    put(out, b") -> (")?;
-    put_side(out, true, view, args)?;
-    put(out, b") {")
+    out.put(b" (");
+    put_side(out, false, view, args);
+    out.put(b") -> (");
+    put_side(out, true, view, args);
+    out.put(b") {");
 }
 
 /// Writes ` (V1 %a1, V2 %a2) R {`.
-pub fn put_signature(out: &mut Vec<u8>, view: UnitView<'_>) -> Result<(), NoMemory>
-    ensures { OnOk result (out.new.items ≡ out.old.items ++ (32 ∷ render (in_parens (arguments (map (arg_text (naming view.entry.module.now view.entry.unit.0)) (args_at view.entry.module.now view.entry.unit.0))) ␣ result_pieces (result_type_at view.entry.module.now view.entry.unit.0)))) }
+pub fn put_signature(out: &mut Text, view: UnitView<'_>)
+    ensures { Writes out.old out.new (32 ∷ render (in_parens (arguments (map (arg_text (naming view.entry.module.now view.entry.unit.0)) (args_at view.entry.module.now view.entry.unit.0))) ␣ result_pieces (result_type_at view.entry.module.now view.entry.unit.0))) }
 {
-    put(out, b" (")?;
-    put_arguments(out, view, view.args())?;
-    put(out, b") ")?;
+    out.put(b" (");
+    put_arguments(out, view, view.args());
+    out.put(b") ");
     match view.result() {
-        None => put(out, b"{"),
+        None => out.put(b"{"),
         Some(ty) => {
-            put_type(out, ty)?;
-            put(out, b" {")
+            put_type(out, ty);
+            out.put(b" {");
         }
     }
 }

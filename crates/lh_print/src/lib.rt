@@ -14,6 +14,7 @@ mod units;
 mod values;
 mod words;
 
+use lh_text::Text;
 use lh_types::ty::NoMemory;
 use lh_unit::module::Module;
 use std::alloc::Global;
@@ -24,7 +25,7 @@ use std::alloc::Global;
 pub fn print(alloc: Global, m: &Module) -> Result<Vec<u8>, NoMemory>
     ensures { IfOk result (λ v. v.items ≡ canon (contents m.now)) }
 {
-    let mut out = Vec::new(alloc);
-    units::put_items(&mut out, m)?;
-    Ok(out)
+    let mut out = Text::new(alloc);
+    units::put_items(&mut out, m);
+    out.finish()
 }

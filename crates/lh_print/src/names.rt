@@ -1,7 +1,8 @@
 //! Names of units, values and labels.
 #![tactic(auto, using(crate::proofs::Joined::steps))]
 
-ghost use Rattle.std.specs.Prelude.{◌≡◌, ◌<◌, ◌++◌, OnOk};
+ghost use Rattle.std.specs.Prelude.{◌≡◌, ◌<◌, ◌++◌};
+ghost use Rattle.lh_text.specs.Writing.{Writes};
 ghost use Rattle.lh_unit.specs.Arena.{value_count, label_count, value_name_at, label_name_at, naming, sizes, unit_name_at};
 ghost use Rattle.lh_unit.specs.Naming.{maybe_text};
 ghost use Rattle.lh_unit.specs.Within.{MaybeWithin};
@@ -9,74 +10,58 @@ ghost use Rattle.lh_unit.specs.Pieces.{render};
 ghost use Rattle.lh_unit.specs.Canon.{unit_name_pieces, maybe};
 
 use lh_names::name::{Name, UnitName};
-use lh_types::text::put;
-use lh_types::ty::NoMemory;
+use lh_text::Text;
 use lh_unit::inst::{BlockId, ValueId};
 use lh_unit::view::UnitView;
 
 /// Writes a text, and then the name of a unit.
 #[inline]
-pub fn put_unit_name(out: &mut Vec<u8>, before: &[u8], name: &UnitName) -> Result<(), NoMemory>
-    ensures { OnOk result (out.new.items ≡ out.old.items ++ (before.now ++ render (unit_name_pieces name.now))) }
+pub fn put_unit_name(out: &mut Text, before: &[u8], name: &UnitName)
+    ensures { Writes out.old out.new (before.now ++ render (unit_name_pieces name.now)) }
 {
-    put(out, before)?;
+    out.put(before);
     let sigil: &[u8] = if name.sigil == b'@' { b"@" } else { b"%" };
-    put(out, sigil)?;
-    put_name(out, &name.name)
+    out.put(sigil);
+    put_name(out, &name.name);
 }
 
 // On its own, so that a text before it is put where the caller stands.
-fn put_name(out: &mut Vec<u8>, name: &Name) -> Result<(), NoMemory>
-    ensures { OnOk result (out.new.items ≡ out.old.items ++ name.now) }
+fn put_name(out: &mut Text, name: &Name)
+    ensures { Writes out.old out.new name.now }
 {
-    put(out, name.as_bytes())
+    out.put(name.as_bytes());
 }
 
 /// Writes a text, and then the name of a value.
 #[inline(always)]
-pub fn put_value(
-    out: &mut Vec<u8>,
-    before: &[u8],
-    view: UnitView<'_>,
-    value: ValueId,
-) -> Result<(), NoMemory>
+pub fn put_value(out: &mut Text, before: &[u8], view: UnitView<'_>, value: ValueId)
     requires value { value.0 < value_count view.module.now view.unit.0 }
-    ensures { OnOk result (out.new.items ≡ out.old.items ++ (before.now ++ value_name_at view.entry.module.now view.entry.unit.0 value.0)) }
+    ensures { Writes out.old out.new (before.now ++ value_name_at view.entry.module.now view.entry.unit.0 value.0) }
 {
-    put(out, before)?;
-    put_name(out, view.value_name(value))
+    out.put(before);
+    put_name(out, view.value_name(value));
 }
 
 /// Writes a text, and then the name of a label.
-pub fn put_label(
-    out: &mut Vec<u8>,
-    before: &[u8],
-    view: UnitView<'_>,
-    block: BlockId,
-) -> Result<(), NoMemory>
+pub fn put_label(out: &mut Text, before: &[u8], view: UnitView<'_>, block: BlockId)
     requires block { block.0 < label_count view.module.now view.unit.0 }
-    ensures { OnOk result (out.new.items ≡ out.old.items ++ (before.now ++ label_name_at view.entry.module.now view.entry.unit.0 block.0)) }
+    ensures { Writes out.old out.new (before.now ++ label_name_at view.entry.module.now view.entry.unit.0 block.0) }
 {
-    put(out, before)?;
-    put_name(out, view.block_name(block))
+    out.put(before);
+    put_name(out, view.block_name(block));
 }
 
 /// Writes a word and a value, such as ` if %c`, where there is a value.
-pub fn put_maybe(
-    out: &mut Vec<u8>,
-    word: &[u8],
-    view: UnitView<'_>,
-    value: Option<ValueId>,
-) -> Result<(), NoMemory>
+pub fn put_maybe(out: &mut Text, word: &[u8], view: UnitView<'_>, value: Option<ValueId>)
     requires value { MaybeWithin (sizes view.module.now view.unit.0) value }
-    ensures { OnOk result (out.new.items ≡ out.old.items ++ render (maybe word.now (maybe_text (naming view.entry.module.now view.entry.unit.0) value))) }
+    ensures { Writes out.old out.new (render (maybe word.now (maybe_text (naming view.entry.module.now view.entry.unit.0) value))) }
 {
     match value {
-        None => Ok(()),
+        None => {}
         Some(value) => {
-            put(out, b" ")?;
-            put(out, word)?;
-            put_value(out, b" %", view, value)
+            out.put(b" ");
+            out.put(word);
+            put_value(out, b" %", view, value);
         }
     }
 }

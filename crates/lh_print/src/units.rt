@@ -1,7 +1,8 @@
 //! Items and their lines.
 #![tactic(auto, using(crate::proofs::Joined::steps))]
 
-ghost use Rattle.std.specs.Prelude.{◌≡◌, ◌<◌, ◌++◌, ◌∷◌, [], map, OnOk};
+ghost use Rattle.std.specs.Prelude.{◌≡◌, ◌<◌, ◌++◌, ◌∷◌, [], map};
+ghost use Rattle.lh_text.specs.Writing.{Writes};
 ghost use Rattle.lh_unit.specs.Contents.{unit_text};
 ghost use Rattle.lh_unit.specs.Table.{line_at};
 ghost use Rattle.lh_unit.specs.Naming.{maybe_text, line_text, label_text, block_text};
@@ -18,105 +19,99 @@ use crate::insts::put_inst;
 use crate::names::{put_label, put_unit_name, put_value};
 use crate::types::{put_type, put_types};
 use lh_names::name::UnitName;
-use lh_types::text::put;
-use lh_types::ty::{NoMemory, Ty};
+use lh_text::Text;
+use lh_types::ty::Ty;
 use lh_unit::inst::{BlockId, Declare, InstId, Item, UnitKind, ValueId};
 use lh_unit::module::Module;
 use lh_unit::view::UnitView;
 
 /// Writes `%r = ` where there is a result.
-fn put_assigned(
-    out: &mut Vec<u8>,
-    view: UnitView<'_>,
-    value: Option<ValueId>,
-) -> Result<(), NoMemory>
+fn put_assigned(out: &mut Text, view: UnitView<'_>, value: Option<ValueId>)
     requires value { MaybeWithin (sizes view.module.now view.unit.0) value }
-    ensures { OnOk result (out.new.items ≡ out.old.items ++ render (assigned (maybe_text (naming view.entry.module.now view.entry.unit.0) value))) }
+    ensures { Writes out.old out.new (render (assigned (maybe_text (naming view.entry.module.now view.entry.unit.0) value))) }
 {
     match value {
-        None => Ok(()),
+        None => {}
         Some(value) => {
-            put_value(out, b"%", view, value)?;
-            put(out, b" = ")
+            put_value(out, b"%", view, value);
+            out.put(b" = ");
         }
     }
 }
 
 /// Writes the line of an instruction.
-fn put_line(out: &mut Vec<u8>, view: UnitView<'_>, inst: InstId) -> Result<(), NoMemory>
+fn put_line(out: &mut Text, view: UnitView<'_>, inst: InstId)
     requires inst { IsInstOf view.module.now view.unit.0 inst }
-    ensures { OnOk result (out.new.items ≡ out.old.items ++ text_of (canon_inst_line (line_text (naming view.entry.module.now view.entry.unit.0) (line_at (table_at view.entry.module.now view.entry.unit.0) inst.0)) ∷ [])) }
+    ensures { Writes out.old out.new (text_of (canon_inst_line (line_text (naming view.entry.module.now view.entry.unit.0) (line_at (table_at view.entry.module.now view.entry.unit.0) inst.0)) ∷ [])) }
 {
-    put(out, b"    ")?;
-    put_assigned(out, view, view.result_of(inst))?;
-    put_inst(out, view, view.inst(inst))?;
-    put(out, b"\n")
+    out.put(b"    ");
+    put_assigned(out, view, view.result_of(inst));
+    put_inst(out, view, view.inst(inst));
+    out.put(b"\n");
 }
 
 /// Writes the lines of instructions.
-fn put_lines(out: &mut Vec<u8>, view: UnitView<'_>, insts: &[InstId]) -> Result<(), NoMemory>
+fn put_lines(out: &mut Text, view: UnitView<'_>, insts: &[InstId])
     requires insts { Each (IsInstOf view.module.now view.unit.0) insts.now }
-    ensures { OnOk result (out.new.items ≡ out.old.items ++ text_of (map canon_inst_line (map (λ i. line_text (naming view.entry.module.now view.entry.unit.0) (line_at (table_at view.entry.module.now view.entry.unit.0) i.0)) insts.now))) }
+    ensures { Writes out.old out.new (text_of (map canon_inst_line (map (λ i. line_text (naming view.entry.module.now view.entry.unit.0) (line_at (table_at view.entry.module.now view.entry.unit.0) i.0)) insts.now))) }
 {
     for inst in insts {
-        put_line(out, view, *inst)?;
+        put_line(out, view, *inst);
     }
-    Ok(())
 }
 
 /// Writes the line of a label; an entity's block has none.
-fn put_label_line(out: &mut Vec<u8>, view: UnitView<'_>, block: BlockId) -> Result<(), NoMemory>
+fn put_label_line(out: &mut Text, view: UnitView<'_>, block: BlockId)
     requires labelled { IsLabelled view.module.now view.unit.0 (kind_at view.module.now view.unit.0) block }
-    ensures { OnOk result (out.new.items ≡ out.old.items ++ text_of (label_lines (label_text (naming view.entry.module.now view.entry.unit.0) (kind_at view.entry.module.now view.entry.unit.0) block))) }
+    ensures { Writes out.old out.new (text_of (label_lines (label_text (naming view.entry.module.now view.entry.unit.0) (kind_at view.entry.module.now view.entry.unit.0) block))) }
 {
     match view.kind() {
-        Some(UnitKind::Entity) => Ok(()),
+        Some(UnitKind::Entity) => {}
         None | Some(UnitKind::Func) | Some(UnitKind::Proc) => {
-            put_label(out, b"", view, block)?;
-            put(out, b":\n")
+            put_label(out, b"", view, block);
+            out.put(b":\n");
         }
     }
 }
 
 /// Writes the lines of a block.
-fn put_block(out: &mut Vec<u8>, view: UnitView<'_>, block: BlockId) -> Result<(), NoMemory>
+fn put_block(out: &mut Text, view: UnitView<'_>, block: BlockId)
     requires block { IsBlockOf view.module.now view.unit.0 block }
-    ensures { OnOk result (out.new.items ≡ out.old.items ++ text_of (block_lines (block_text (naming view.entry.module.now view.entry.unit.0) (table_at view.entry.module.now view.entry.unit.0) block))) }
+    ensures { Writes out.old out.new (text_of (block_lines (block_text (naming view.entry.module.now view.entry.unit.0) (table_at view.entry.module.now view.entry.unit.0) block))) }
 {
-    put_label_line(out, view, block)?;
-    put_lines(out, view, view.insts(block))
+    put_label_line(out, view, block);
+    put_lines(out, view, view.insts(block));
 }
 
 /// Writes the lines of blocks.
-fn put_blocks(out: &mut Vec<u8>, view: UnitView<'_>, blocks: &[BlockId]) -> Result<(), NoMemory>
+fn put_blocks(out: &mut Text, view: UnitView<'_>, blocks: &[BlockId])
     requires blocks { Each (IsBlockOf view.module.now view.unit.0) blocks.now }
-    ensures { OnOk result (out.new.items ≡ out.old.items ++ text_of (blocks_lines (map (block_text (naming view.entry.module.now view.entry.unit.0) (table_at view.entry.module.now view.entry.unit.0)) blocks.now))) }
+    ensures { Writes out.old out.new (text_of (blocks_lines (map (block_text (naming view.entry.module.now view.entry.unit.0) (table_at view.entry.module.now view.entry.unit.0)) blocks.now))) }
 {
     for block in blocks {
-        put_block(out, view, *block)?;
+        put_block(out, view, *block);
     }
-    Ok(())
 }
 
 /// Writes `func @n (V1 %a1, V2 %a2) R {`.
-fn put_func_header(out: &mut Vec<u8>, view: UnitView<'_>) -> Result<(), NoMemory>
-    ensures { let u = unit_text_at view.entry.module.now view.entry.unit.0 in OnOk result (out.new.items ≡ out.old.items ++ render (header kind.Func u.name u.args u.result)) }
+fn put_func_header(out: &mut Text, view: UnitView<'_>)
+    ensures { let u = unit_text_at view.entry.module.now view.entry.unit.0 in Writes out.old out.new (render (header kind.Func u.name u.args u.result)) }
 {
-    put_unit_name(out, b"func ", view.name())?;
-    put_signature(out, view)
+    put_unit_name(out, b"func ", view.name());
+    put_signature(out, view);
 }
 
 /// Writes a word, and then `@n (S1 %a1) -> (S2 %a2) {`.
-fn put_ports_header(out: &mut Vec<u8>, word: &[u8], view: UnitView<'_>) -> Result<(), NoMemory>
-    ensures { let u = unit_text_at view.entry.module.now view.entry.unit.0 in OnOk result (out.new.items ≡ out.old.items ++ (word.now ++ render (unit_name_pieces u.name ␣ ports u.args))) }
+fn put_ports_header(out: &mut Text, word: &[u8], view: UnitView<'_>)
+    ensures { let u = unit_text_at view.entry.module.now view.entry.unit.0 in Writes out.old out.new (word.now ++ render (unit_name_pieces u.name ␣ ports u.args)) }
 {
-    put_unit_name(out, word, view.name())?;
-    put_ports(out, view)
+    put_unit_name(out, word, view.name());
+    put_ports(out, view);
 }
 
 /// Writes the first line of a unit, without its end.
-fn put_header(out: &mut Vec<u8>, view: UnitView<'_>) -> Result<(), NoMemory>
-    ensures { let u = unit_text_at view.entry.module.now view.entry.unit.0 in OnOk result (out.new.items ≡ out.old.items ++ render (header u.kind u.name u.args u.result)) }
+fn put_header(out: &mut Text, view: UnitView<'_>)
+    ensures { let u = unit_text_at view.entry.module.now view.entry.unit.0 in Writes out.old out.new (render (header u.kind u.name u.args u.result)) }
 {
     match view.kind() {
         None | Some(UnitKind::Func) => put_func_header(out, view),
@@ -126,35 +121,35 @@ fn put_header(out: &mut Vec<u8>, view: UnitView<'_>) -> Result<(), NoMemory>
 }
 
 /// Writes the lines of a unit.
-fn put_unit(out: &mut Vec<u8>, view: UnitView<'_>) -> Result<(), NoMemory>
-    ensures { OnOk result (out.new.items ≡ out.old.items ++ text_of (item_lines (unit_text (unit_text_at view.entry.module.now view.entry.unit.0)))) }
+fn put_unit(out: &mut Text, view: UnitView<'_>)
+    ensures { Writes out.old out.new (text_of (item_lines (unit_text (unit_text_at view.entry.module.now view.entry.unit.0)))) }
 {
-    put_header(out, view)?;
-    put(out, b"\n")?;
-    put_blocks(out, view, view.blocks())?;
-    put(out, b"}\n")
+    put_header(out, view);
+    out.put(b"\n");
+    put_blocks(out, view, view.blocks());
+    out.put(b"}\n");
 }
 
 /// Writes a text, and then types and a closing parenthesis.
-fn put_listed(out: &mut Vec<u8>, before: &[u8], types: &[Ty]) -> Result<(), NoMemory>
-    ensures { OnOk result (out.new.items ≡ out.old.items ++ (before.now ++ (render (spec.types types.now) ++ 41 ∷ []))) }
+fn put_listed(out: &mut Text, before: &[u8], types: &[Ty])
+    ensures { Writes out.old out.new (before.now ++ (render (spec.types types.now) ++ 41 ∷ [])) }
 {
-    put(out, before)?;
-    put_types(out, types)?;
-    put(out, b")")
+    out.put(before);
+    put_types(out, types);
+    out.put(b")");
 }
 
 /// Writes `declare @n (V1, V2)`.
-fn put_declared(out: &mut Vec<u8>, name: &UnitName, params: &[Ty]) -> Result<(), NoMemory>
-    ensures { OnOk result (out.new.items ≡ out.old.items ++ render (keyword "declare" ␣ unit_name_pieces name.now ␣ in_parens (spec.types params.now))) }
+fn put_declared(out: &mut Text, name: &UnitName, params: &[Ty])
+    ensures { Writes out.old out.new (render (keyword "declare" ␣ unit_name_pieces name.now ␣ in_parens (spec.types params.now))) }
 {
-    put_unit_name(out, b"declare ", name)?;
-    put_listed(out, b" (", params)
+    put_unit_name(out, b"declare ", name);
+    put_listed(out, b" (", params);
 }
 
 /// Writes a declaration, without the end of its line.
-fn put_declaration(out: &mut Vec<u8>, declare: &Declare) -> Result<(), NoMemory>
-    ensures { OnOk result (out.new.items ≡ out.old.items ++ render (declaration declare.now)) }
+fn put_declaration(out: &mut Text, declare: &Declare)
+    ensures { Writes out.old out.new (render (declaration declare.now)) }
 {
     match declare {
         Declare::Func {
@@ -162,41 +157,40 @@ fn put_declaration(out: &mut Vec<u8>, declare: &Declare) -> Result<(), NoMemory>
             params,
             result,
         } => {
-            put_declared(out, name, params.as_slice())?;
-            put(out, b" ")?;
-            put_type(out, result)
+            put_declared(out, name, params.as_slice());
+            out.put(b" ");
+            put_type(out, result);
         }
         Declare::Unit {
             name,
             inputs,
             outputs,
         } => {
-            put_declared(out, name, inputs.as_slice())?;
-            put_listed(out, b" -> (", outputs.as_slice())
+            put_declared(out, name, inputs.as_slice());
+            put_listed(out, b" -> (", outputs.as_slice());
         }
     }
 }
 
 /// Writes the lines of an item.
-fn put_item(out: &mut Vec<u8>, m: &Module, item: &Item) -> Result<(), NoMemory>
+fn put_item(out: &mut Text, m: &Module, item: &Item)
     requires { IsItemOf m.now item.now }
-    ensures { OnOk result (out.new.items ≡ out.old.items ++ text_of (item_lines (item_text_at m.now item.now))) }
+    ensures { Writes out.old out.new (text_of (item_lines (item_text_at m.now item.now))) }
 {
     match item {
         Item::Unit(unit) => put_unit(out, m.unit(*unit)),
         Item::Declare(declare) => {
-            put_declaration(out, declare)?;
-            put(out, b"\n")
+            put_declaration(out, declare);
+            out.put(b"\n");
         }
     }
 }
 
 /// Writes the canonical text of a module.
-pub fn put_items(out: &mut Vec<u8>, m: &Module) -> Result<(), NoMemory>
-    ensures { OnOk result (out.new.items ≡ out.old.items ++ canon (contents m.now)) }
+pub fn put_items(out: &mut Text, m: &Module)
+    ensures { Writes out.old out.new (canon (contents m.now)) }
 {
     for item in m.items() {
-        put_item(out, m, item)?;
+        put_item(out, m, item);
     }
-    Ok(())
 }

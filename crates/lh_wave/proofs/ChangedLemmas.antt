@@ -1,10 +1,12 @@
 -- Numbers of signals, gone through one after the other, and the values of those that have changed.
-use Rattle.std.proofs.Common.{◌≡◌, ℕ, zero, suc, ◌+◌, ◌-◌, ◌<◌, ◌≤◌, ◌⊎◌, inl, inr, true, false, not, List, [], ◌∷◌, ◌++◌, length, get_or, set, drop, map, refl, ap, sym, ◌∙◌, append_assoc, subst, cond, Option, Some, None, arith}
+use Rattle.std.proofs.Common.{◌≡◌, ℕ, zero, suc, ◌+◌, ◌-◌, ◌<◌, ◌≤◌, ◌⊎◌, inl, inr, true, false, not, List, [], ◌∷◌, ◌++◌, length, get_or, set, drop, map, refl, ap, sym, ◌∙◌, subst, cond, Option, Some, None, arith}
 use Rattle.std.specs.Prelude.{Contains}
 use Rattle.std.specs.List.Sorted.{IsNonDecreasing}
 use Rattle.std.proofs.Math.ListN.{length-set}
 use Rattle.std.proofs.lemmas.Bool.{cases_eq}
-use Rattle.std.proofs.lemmas.List.{append-nil, drop-set-lt, drop_more, get_or_default, get_or-set_same, get_or-set_other, get_or-map, map-set, set-get_or, length-map, same_lists}
+use Rattle.std.proofs.lemmas.List.{drop-set-lt, drop_more, get_or_default, get_or-set_same, get_or-set_other, get_or-map, map-set, set-get_or, length-map, same_lists}
+use Rattle.lh_text.specs.Writing.{Written, Writes, Leaves}
+use Rattle.lh_text.proofs.Parts.{all-left, less-left, none-left}
 use Rattle.lh_types.specs.Values.{Datum}
 use Rattle.lh_types.specs.ValueOf.{datum_of}
 use Rattle.lh_types.specs.SameValue.{same_datum}
@@ -157,20 +159,26 @@ pub moving_many : (ks : List ℕ) (i : ℕ) (ns first : List (Option Val)) (ws s
 moving_many ks i ns first ws start m e = sym (length_present ns ws m.level) ∙ ap length m.values ∙ length_present first start e
 
 -- The same while the lines of those that differ are put: those of the signals below `low` are.
-pub record Putting (ks : List ℕ) (i : ℕ) (whole to : List ℕ) (ns : List (Option Val)) (ws : List Val) (now : List Datum) : Type 0 where
+pub record Putting (ks : List ℕ) (i : ℕ) (start to : Written) (whole : List ℕ) (ns : List (Option Val)) (ws : List Val) (now : List Datum) : Type 0 where
   pub moving : Moving ks i ns ws now
   pub low : ℕ
   pub below : (k : ℕ) → k < low → HasNone ns k
   pub within : low ≤ length ws
-  pub text : to ++ differing_lines low (drop low (map datum_of ws)) (drop low now) ≡ whole
+  pub text : Leaves start to (differing_lines low (drop low (map datum_of ws)) (drop low now)) whole
 
-pub putting_start : (ks : List ℕ) (to : List ℕ) (ns : List (Option Val)) (ws : List Val) → ((k : ℕ) → Contains ks k ⊎ HasNone ns k) → length ns ≡ length ws
-    → Putting ks 0 (to ++ differing_lines 0 (map datum_of ws) (present_values ns ws)) to ns ws (present_values ns ws)
-putting_start ks to ns ws h e = record { moving = moving_start ks ns ws h e; low = 0; below = λ k l. absurd (omega arith); within = omega arith; text = refl }
+pub putting_start : (ks : List ℕ) (to : Written) (ns : List (Option Val)) (ws : List Val) → ((k : ℕ) → Contains ks k ⊎ HasNone ns k) → length ns ≡ length ws
+    → Putting ks 0 to to (differing_lines 0 (map datum_of ws) (present_values ns ws)) ns ws (present_values ns ws)
+putting_start ks to ns ws h e = record {
+  moving = moving_start ks ns ws h e;
+  low = 0;
+  below = λ k l. absurd (omega arith);
+  within = omega arith;
+  text = all-left to (differing_lines 0 (map datum_of ws) (present_values ns ws)) (differing_lines 0 (map datum_of ws) (present_values ns ws)) refl;
+}
 
-pub putting_over : (ks : List ℕ) (i : ℕ) (whole to : List ℕ) (ns : List (Option Val)) (ws : List Val) (now : List Datum) (o : Option Val) → Putting ks i whole to ns ws now
-    → get_or ns (get_or ks i 0) None ≡ None → o ≡ None → Putting ks (i + 1) whole to (set ns (get_or ks i 0) o) ws now
-putting_over ks i whole to ns ws now o p h e = record {
+pub putting_over : (ks : List ℕ) (i : ℕ) (start to : Written) (whole : List ℕ) (ns : List (Option Val)) (ws : List Val) (now : List Datum) (o : Option Val) → Putting ks i start to whole ns ws now
+    → get_or ns (get_or ks i 0) None ≡ None → o ≡ None → Putting ks (i + 1) start to whole (set ns (get_or ks i 0) o) ws now
+putting_over ks i start to whole ns ws now o p h e = record {
   moving = moving_over ks i ns ws now o p.moving h e;
   low = p.low;
   below = subst (λ l. (j : ℕ) → j < p.low → HasNone l j) (sym (as_it_was ns (get_or ks i 0) o h e)) p.below;
@@ -182,10 +190,10 @@ putting_over ks i whole to ns ws now o p h e = record {
 abbrev pub line_if_differs : ℕ → Datum → Datum → List ℕ
 line_if_differs k w v = cond (same_datum w v) [] (value_line k v)
 
-pub putting_on : (ks : List ℕ) (i : ℕ) (whole to after : List ℕ) (ns : List (Option Val)) (ws : List Val) (now : List Datum) (o : Option Val) (w v : Val) → Putting ks i whole to ns ws now → IsNonDecreasing ks
-    → get_or ks i 0 < length ws → get_or ns (get_or ks i 0) None ≡ Some v → o ≡ None → w ≡ get_or ws (get_or ks i 0) w → after ≡ to ++ line_if_differs (get_or ks i 0) (datum_of w) (datum_of v)
-    → Putting ks (i + 1) whole after (set ns (get_or ks i 0) o) (set ws (get_or ks i 0) v) now
-putting_on ks i whole to after ns ws now o w v p up l h none is g =
+pub putting_on : (ks : List ℕ) (i : ℕ) (start to after : Written) (whole : List ℕ) (ns : List (Option Val)) (ws : List Val) (now : List Datum) (o : Option Val) (w v : Val) → Putting ks i start to whole ns ws now → IsNonDecreasing ks
+    → get_or ks i 0 < length ws → get_or ns (get_or ks i 0) None ≡ Some v → o ≡ None → w ≡ get_or ws (get_or ks i 0) w → Writes to after (line_if_differs (get_or ks i 0) (datum_of w) (datum_of v))
+    → Putting ks (i + 1) start after whole (set ns (get_or ks i 0) o) (set ws (get_or ks i 0) v) now
+putting_on ks i start to after whole ns ws now o w v p up l h none is g =
     let k = get_or ks i 0 in
     let old = map datum_of ws in
     let inside : k < length ns = omega (arith, p.moving.level) in
@@ -214,18 +222,22 @@ putting_on ks i whole to after ns ws now o w v p up l h none is g =
       low = k + 1;
       below = subst (λ x. (j : ℕ) → j < k + 1 → HasNone (set ns k x) j) (sym none) cleared;
       within = omega (arith, length-set ws k v);
-      text = ap (λ ds. after ++ differing_lines (k + 1) ds (drop (k + 1) now)) (ap (drop (k + 1)) (map-set datum_of ws k v) ∙ drop-set-lt (k + 1) old k (datum_of v) (omega arith))
-          ∙ ap (λ t. t ++ rest) g ∙ append_assoc to line rest ∙ ap (λ t. to ++ t) lines ∙ p.text;
+      text = less-left start to after line (differing_lines (k + 1) (drop (k + 1) (map datum_of (set ws k v))) (drop (k + 1) now))
+          (differing_lines p.low (drop p.low old) (drop p.low now)) whole
+          (sym lines ∙ ap (λ ds. line ++ differing_lines (k + 1) ds (drop (k + 1) now))
+          (sym (ap (drop (k + 1)) (map-set datum_of ws k v) ∙ drop-set-lt (k + 1) old k (datum_of v) (omega arith)))) g p.text;
     }
 
 no_lines : (k : ℕ) (vs : List Datum) → differing_lines k vs vs ≡ []
 no_lines k [] = refl
 no_lines k (v ∷ vs) = ap (λ b. cond b [] (value_line k v) ++ differing_lines (k + 1) vs vs) (same_datum-refl v) ∙ no_lines (k + 1) vs
 
-pub putting_end : (ks : List ℕ) (i : ℕ) (whole to : List ℕ) (ns : List (Option Val)) (ws : List Val) (now : List Datum) → Putting ks i whole to ns ws now → length ks ≤ i → to ≡ whole
-putting_end ks i whole to ns ws now p past =
+pub putting_end : (ks : List ℕ) (i : ℕ) (start to : Written) (whole : List ℕ) (ns : List (Option Val)) (ws : List Val) (now : List Datum) → Putting ks i start to whole ns ws now → length ks ≤ i
+    → Writes start to whole
+putting_end ks i start to whole ns ws now p past =
     let same : drop p.low (map datum_of ws) ≡ drop p.low now = ap (drop p.low) (moving_end ks i ns ws now p.moving past) in
-    sym (append-nil to) ∙ ap (λ l. to ++ l) (sym (ap (λ ds. differing_lines p.low ds (drop p.low now)) same ∙ no_lines p.low (drop p.low now))) ∙ p.text
+    none-left start to (differing_lines p.low (drop p.low (map datum_of ws)) (drop p.low now)) whole
+    (ap (λ ds. differing_lines p.low ds (drop p.low now)) same ∙ no_lines p.low (drop p.low now)) p.text
 
 pub none_other : (n : Option Val) (w : Val) → n ≡ None → false ≡ not (same_datum (datum_of w) (present_value n w))
 none_other n w e = ap not (sym (same_datum-refl (datum_of w))) ∙ ap (λ x. not (same_datum (datum_of w) (present_value x w))) (sym e)

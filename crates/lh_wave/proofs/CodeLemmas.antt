@@ -1,9 +1,11 @@
 -- Identifier codes, digit by digit.
-use Rattle.std.proofs.Common.{◌≡◌, ℕ, zero, suc, ◌+◌, ◌<◌, ◌≤◌, ◌/◌, ◌%◌, List, [], ◌∷◌, ◌++◌, map, refl, ap, sym, ◌∙◌, append_assoc, arith}
-use Rattle.std.specs.Prelude.{reverse, Result, Ok, Err, OnOk}
+use Rattle.std.proofs.Common.{◌≡◌, ℕ, zero, suc, ◌+◌, ◌<◌, ◌≤◌, ◌/◌, ◌%◌, [], ◌∷◌, ◌++◌, map, refl, ap, sym, ◌∙◌, arith}
+use Rattle.std.specs.Prelude.{reverse}
 use Rattle.std.proofs.lemmas.List.{reverse-append}
 use Rattle.std.specs.Int.Digits.{digits_of}
 use Rattle.std.proofs.lemmas.Int.Digits.{digits_of_step}
+use Rattle.lh_text.specs.Writing.{Written, Writes, Leaves}
+use Rattle.lh_text.proofs.Parts.{less-left, none-left}
 use Rattle.lh_wave.specs.WaveText.{digits_94, identifier_code}
 
 digits_some : (n : ℕ) → 0 < n → digits_94 n ≡ digits_of 94 n
@@ -29,12 +31,13 @@ code_last (suc m) h =
     let ds : digits_of 94 (suc m) ≡ suc m ∷ [] = digits_of_step 94 (suc m) two pos ∙ ap (λ q. digits_of 94 q ++ suc m % 94 ∷ []) none ∙ ap (λ r. r ∷ []) all in
     ap (λ l. map (λ digit. 33 + digit) (reverse l)) ds
 
-pub code_more : (to start : List ℕ) (n : ℕ) → 94 ≤ n → to ++ identifier_code n ≡ start → (to ++ (33 + n % 94) ∷ []) ++ identifier_code (n / 94) ≡ start
-code_more to start n h e = append_assoc to ((33 + n % 94) ∷ []) (identifier_code (n / 94)) ∙ ap (λ l. to ++ l) (sym (code_step n h)) ∙ e
+-- of the code of a signal, the code of what is left of its number is left
+abbrev pub Coding : (start to : Written) → (signal rest : ℕ) → Type 0
+Coding start to signal rest = Leaves start to (identifier_code rest) (identifier_code signal)
 
-pub code_end : (to start next : List ℕ) (n : ℕ) → n < 94 → to ++ identifier_code n ≡ start → next ≡ to ++ (33 + n) ∷ [] → next ≡ start
-code_end to start next n h e g = g ∙ ap (λ l. to ++ l) (sym (code_last n h)) ∙ e
+pub code_more : (start to next : Written) (signal n : ℕ) → 94 ≤ n → Writes to next ((33 + n % 94) ∷ []) → Coding start to signal n → Coding start next signal (n / 94)
+code_more start to next signal n h g w = less-left start to next ((33 + n % 94) ∷ []) (identifier_code (n / 94)) (identifier_code n) (identifier_code signal) (code_step n h) g w
 
-pub code_end_on : {T E : Type 0} (r : Result T E) (to start next : List ℕ) (n : ℕ) → n < 94 → to ++ identifier_code n ≡ start → OnOk r (next ≡ to ++ (33 + n) ∷ []) → OnOk r (next ≡ start)
-code_end_on (Ok x) to start next n h e p = code_end to start next n h e p
-code_end_on (Err x) to start next n h e p = tt
+pub code_end : (start to next : Written) (signal n : ℕ) → n < 94 → Writes to next ((33 + n) ∷ []) → Coding start to signal n → Writes start next (identifier_code signal)
+code_end start to next signal n h g w =
+    none-left start next [] (identifier_code signal) refl (less-left start to next ((33 + n) ∷ []) [] (identifier_code n) (identifier_code signal) (code_last n h) g w)

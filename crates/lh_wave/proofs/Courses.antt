@@ -1,10 +1,12 @@
 -- A run from one of its points to a later one, and where it broke off.
-use Rattle.std.proofs.Common.{◌≡◌, ℕ, ◌+◌, ◌≤◌, Bool, ◌||◌, List, [], ◌∷◌, ◌++◌, length, take, drop, refl, ap, sym, ◌∙◌, append_assoc, subst, Option, Some, None, arith}
+use Rattle.std.proofs.Common.{◌≡◌, ℕ, ◌+◌, ◌≤◌, Bool, true, ◌||◌, List, [], ◌∷◌, ◌++◌, length, take, drop, refl, ap, sym, ◌∙◌, append_assoc, subst, Option, Some, None, arith}
+use Rattle.std.specs.Prelude.{Result, Ok, Err, OnOk, IfErr}
 use Rattle.std.specs.List.{list_any}
 use Rattle.std.proofs.lemmas.List.{append-nil, length-append, take-append-drop, take-append-le}
 use Rattle.std.proofs.Math.Seq.{take-append-add, take-append_seam}
 use Rattle.std.proofs.lemmas.List.Folds.{list_any-append}
 use Rattle.std.proofs.Math.Bool.{or_assoc, or-false}
+use Rattle.lh_text.specs.Writing.{Written, Writes, Leaves}
 use Rattle.lh_types.specs.declared.frame.Outcome.{Outcome}
 use Rattle.lh_types.specs.declared.frame.Frame as frames
 use Rattle.lh_types.specs.Values.{Datum}
@@ -15,6 +17,7 @@ use Rattle.lh_unit.specs.Frames.{pictures, picture_by}
 use Rattle.lh_watch.specs.Members.{Member}
 use Rattle.lh_watch.specs.Builtin.{has_failed}
 use Rattle.lh_watch.specs.Shown.{shown, reports_of, IsPartlyShown}
+use Rattle.lh_wave.proofs.Joined.{first_left}
 use Rattle.lh_wave.specs.declared.scribe.Scribe.{Scribe}
 use Rattle.lh_wave.specs.declared.teller.Teller.{Teller}
 use Rattle.lh_wave.specs.declared.run.WaveFault.{WaveFault}
@@ -22,7 +25,7 @@ use Rattle.lh_wave.specs.declared.run.WaveFault.TheVariants.{WriteFault, OutOfMe
 use Rattle.lh_wave.specs.declared.ending.End.{End}
 use Rattle.lh_wave.specs.ShownRun.{ShownRun}
 use Rattle.lh_wave.specs.BrokenOff.{HaveSeen, no_more, in_part, one_more, AppendsPrefix, BreaksOff}
-use Rattle.lh_wave.specs.Going.{Going, Went, BrokeOff, IsNext, IsPut, IsPassedOn, IsTold, going, shows_one, text_left, text_ahead, pictures_ahead}
+use Rattle.lh_wave.specs.Going.{Going, Went, BrokeOff, IsNext, IsPut, IsPassedOn, IsTold, StopsShort, going, shows_one, text_left, text_ahead, pictures_ahead}
 
 -- two pieces that were appended are one
 pub told_both : (a b c : Option (List ℕ)) (x y : List ℕ) → Appends a b x → Appends b c y → Appends a c (x ++ y)
@@ -79,20 +82,48 @@ pub all_of : (e : WaveFault) (a b : Option (List ℕ)) (p t : List ℕ) → e �
 all_of e a b p t o h = behind_piece e a b b p t h (none_of e b t o)
 
 -- what was put behind what waited is told, and a piece of it is passed on
-pub told_on : (old new : Scribe) (before : Option (List Datum)) (f : Frame) (was now rest : List ℕ) (a b : Option (List ℕ)) → IsPut old new before f was now → IsPassedOn now rest a b
-    → IsTold old new before f was rest a b
-told_on old new before f was now rest a b p o = record {
+pub told_on : (old new : Scribe) (before : Option (List Datum)) (f : Frame) (was now : Written) (rest : List ℕ) (a b : Option (List ℕ)) → IsPut old new before f was now → now.is_whole ≡ true
+    → IsPassedOn now.items rest a b → IsTold old new before f was.items rest a b
+told_on old new before f was now rest a b p w o = record {
   piece = o.piece;
   behind = p.behind;
-  text = λ more left end. sym (p.text more left end) ∙ ap (λ l. l ++ text_left new (Some f.values) more left end) o.text ∙ append_assoc o.piece rest (text_left new (Some f.values) more left end);
+  text = λ more left end. sym ((p.text more left end).left w).1 ∙ ap (λ l. l ++ text_left new (Some f.values) more left end) o.text
+      ∙ append_assoc o.piece rest (text_left new (Some f.values) more left end);
   told = o.told;
 }
 
-pub told_broken : (e : WaveFault) (old new : Scribe) (before : Option (List Datum)) (f : Frame) (was now : List ℕ) (a b : Option (List ℕ)) (more : List Frame) (left : List Member) (end : End) → e ≡ WriteFault
-    → IsPut old new before f was now → AppendsProperPrefix a b now → BreaksOff e a b (was ++ text_left old before (f ∷ more) left end)
-told_broken e old new before f was now a b more left end w p h =
-    subst (λ (x : WaveFault). BreaksOff x a b (was ++ text_left old before (f ∷ more) left end)) (sym w)
-    (subst (AppendsProperPrefix a b) (p.text more left end) (in_front_of a b now (text_left new (Some f.values) more left end) h))
+-- what waited, of a text of which the rest is left, was not written
+pub stopped_short : (e : WaveFault) (start waits : Written) (rest whole : List ℕ) (a b : Option (List ℕ)) → Leaves start waits rest whole → StopsShort e waits a b → BreaksOff e a b (start.items ++ whole)
+stopped_short WriteFault start waits rest whole a b l h = subst (AppendsProperPrefix a b) (l.left h.0).1 (in_front_of a b waits.items rest h.1)
+stopped_short OutOfMemory start waits rest whole a b l h = subst (λ (o : Option (List ℕ)). BreaksOff OutOfMemory a o (start.items ++ whole)) (sym h) (none_of OutOfMemory a (start.items ++ whole) refl)
+
+-- the same by what passing it on came to
+pub told_by : {T : Type 0} (r : Result T WaveFault) (old new : Scribe) (shows : Picture) (was now : Written) (rest : List ℕ) (a b : Option (List ℕ))
+    → ((before : Option (List Datum)) (v : Frame) → IsNext old before v shows → IsPut old new before v was now)
+    → OnOk r (now.is_whole ≡ true) → OnOk r (IsPassedOn now.items rest a b)
+    → OnOk r ((before : Option (List Datum)) (v : Frame) → IsNext old before v shows → IsTold old new before v was.items rest a b)
+told_by (Ok x) old new shows was now rest a b p w o = λ before v n. told_on old new before v was now rest a b (p before v n) w o
+told_by (Err x) old new shows was now rest a b p w o = tt
+
+pub told_short : {T : Type 0} (r : Result T WaveFault) (old new : Scribe) (shows : Picture) (was now : Written) (a b : Option (List ℕ))
+    → ((before : Option (List Datum)) (v : Frame) → IsNext old before v shows → IsPut old new before v was now) → IfErr r (λ e. StopsShort e now a b)
+    → IfErr r (λ e. (before : Option (List Datum)) (v : Frame) (more : List Frame) (left : List Member) (end : End) → IsNext old before v shows
+    → BreaksOff e a b (was.items ++ text_left old before (v ∷ more) left end))
+told_short (Ok x) old new shows was now a b p h = tt
+told_short (Err e) old new shows was now a b p h = λ before v more left end n.
+    stopped_short e was now (text_left new (Some v.values) more left end) (text_left old before (v ∷ more) left end) a b ((p before v n).text more left end) h
+
+-- the last text was put behind what waited, and all was written, or was not
+pub ended_by : {T : Type 0} (r : Result T WaveFault) (was now : Written) (text : Option (List Datum) → List ℕ) (a b : Option (List ℕ)) → ((before : Option (List Datum)) → Writes was now (text before))
+    → OnOk r (now.is_whole ≡ true) → OnOk r (Appends a b now.items) → OnOk r ((before : Option (List Datum)) → Appends a b (was.items ++ text before))
+ended_by (Ok x) was now text a b p w t = λ before. subst (Appends a b) (p before w).1 t
+ended_by (Err x) was now text a b p w t = tt
+
+pub ended_short : {T : Type 0} (r : Result T WaveFault) (was now : Written) (text : Option (List Datum) → List ℕ) (a b : Option (List ℕ)) → ((before : Option (List Datum)) → Writes was now (text before))
+    → IfErr r (λ e. StopsShort e now a b) → IfErr r (λ e. (before : Option (List Datum)) → BreaksOff e a b (was.items ++ text before))
+ended_short (Ok x) was now text a b p h = tt
+ended_short (Err e) was now text a b p h = λ before.
+    stopped_short e was now [] (text before) a b (first_left was now (text before) [] (text before) (sym (append-nil (text before))) (p before)) h
 
 pub went_on : (a b c : Going) → Went a b → Went b c → Went a c
 went_on a b c g h = record {

@@ -1,5 +1,7 @@
 -- The head of a trace while its lines are written, and where that broke off.
-use Rattle.std.proofs.Common.{◌≡◌, ℕ, ◌+◌, ◌<◌, ◌≤◌, List, [], ◌++◌, length, get_or, ap, sym, ◌∙◌, append_assoc, subst, Option}
+use Rattle.std.proofs.Common.{◌≡◌, ℕ, ◌+◌, ◌<◌, ◌≤◌, List, [], ◌++◌, length, get_or, refl, ap, sym, ◌∙◌, append_assoc, subst, Option}
+use Rattle.std.specs.Prelude.{true, Result, Ok, Err, OnOk, IfErr}
+use Rattle.lh_text.specs.Writing.{Written, Writes}
 use Rattle.lh_io.specs.Streams.{Appends, AppendsProperPrefix}
 use Rattle.lh_unit.specs.Arena.{Arena}
 use Rattle.lh_unit.specs.Pieces.{render}
@@ -12,7 +14,7 @@ use Rattle.lh_wave.specs.declared.run.WaveFault.{WaveFault}
 use Rattle.lh_wave.specs.declared.run.WaveFault.TheVariants.{WriteFault, OutOfMemory}
 use Rattle.lh_wave.specs.HeadText.{signal_line, signal_lines, trace_head, signals_in}
 use Rattle.lh_wave.specs.BrokenOff.{BreaksOff}
-use Rattle.lh_wave.specs.Going.{IsPassedOn}
+use Rattle.lh_wave.specs.Going.{IsPassedOn, StopsShort}
 use Rattle.lh_wave.proofs.Courses.{told_both, told_none, behind_piece, in_front_of, all_of}
 use Rattle.lh_wave.proofs.HeadLines.{SignalsWriting, shown_past, signals_start, signals_next, signals_end}
 
@@ -34,14 +36,14 @@ head_start a d was waits e = record {
 }
 
 -- the line of a signal was put behind what waits
-pub head_put : (a : Arena) (d : Design) (was written : Option (List ℕ)) (xs : List Signal) (waits next path name : List ℕ) (k : ℕ) (s : Signal) → xs ≡ d.signals.items
-    → HeadGoing a d was written waits k → k < length xs → s ≡ get_or xs k s → path ≡ path_at (shown_in (design_text a d)) s.instance → name ≡ s.name
-    → next ≡ waits ++ signal_line k (render (type_pieces s.ty)) path name → HeadGoing a d was written next (k + 1)
-head_put a d was written xs waits next path name k s whole h l is p n e = record {
+pub head_put : (a : Arena) (d : Design) (was written : Option (List ℕ)) (xs : List Signal) (waits next : Written) (path name : List ℕ) (k : ℕ) (s : Signal) → xs ≡ d.signals.items
+    → HeadGoing a d was written waits.items k → k < length xs → s ≡ get_or xs k s → path ≡ path_at (shown_in (design_text a d)) s.instance → name ≡ s.name
+    → Writes waits next (signal_line k (render (type_pieces s.ty)) path name) → next.is_whole ≡ true → HeadGoing a d was written next.items (k + 1)
+head_put a d was written xs waits next path name k s whole h l is p n g w = record {
   piece = h.piece;
   told = h.told;
-  text = signals_next a d xs (h.piece ++ waits) (h.piece ++ next) path name k s whole h.text l is p n
-      (ap (λ t. h.piece ++ t) e ∙ sym (append_assoc h.piece waits (signal_line k (render (type_pieces s.ty)) path name)));
+  text = signals_next a d xs (h.piece ++ waits.items) (h.piece ++ next.items) path name k s whole h.text l is p n
+      (ap (λ t. h.piece ++ t) (g w).1 ∙ sym (append_assoc h.piece waits.items (signal_line k (render (type_pieces s.ty)) path name)));
 }
 
 -- and what waited was passed on
@@ -66,18 +68,28 @@ head_short a d was written waits k e h o =
     (all_of e was written h.piece (waits ++ signal_lines (shown_in (design_text a d)) k (shown_past d k)) o h.told)
 
 -- a write of what waited failed
-pub head_failed : (a : Arena) (d : Design) (was written then : Option (List ℕ)) (waits text : List ℕ) (k : ℕ) (e : WaveFault) → HeadGoing a d was written waits k → text ≡ waits
-    → AppendsProperPrefix written then text → e ≡ WriteFault → BreaksOff e was then (head_text a d)
-head_failed a d was written then waits text k e h s f o =
+head_failed : (a : Arena) (d : Design) (was written then : Option (List ℕ)) (waits : List ℕ) (k : ℕ) → HeadGoing a d was written waits k → AppendsProperPrefix written then waits
+    → BreaksOff WriteFault was then (head_text a d)
+head_failed a d was written then waits k h part =
     let left : List ℕ = signal_lines (shown_in (design_text a d)) k (shown_past d k) in
-    let part : AppendsProperPrefix written then waits = subst (AppendsProperPrefix written then) s f in
-    let behind : BreaksOff WriteFault was then (h.piece ++ (waits ++ left)) =
-    behind_piece WriteFault was written then h.piece (waits ++ left) h.told (in_front_of written then waits left part) in
-    subst (λ (x : WaveFault). BreaksOff x was then (head_text a d)) (sym o) (subst (BreaksOff WriteFault was then) (in_parts a d was written waits k h) behind)
+    subst (BreaksOff WriteFault was then) (in_parts a d was written waits k h)
+    (behind_piece WriteFault was written then h.piece (waits ++ left) h.told (in_front_of written then waits left part))
+
+-- more was put behind what waited, and it was not written
+pub head_stopped : (e : WaveFault) (a : Arena) (d : Design) (was written then : Option (List ℕ)) (before : List ℕ) (waits : Written) (j k : ℕ) → HeadGoing a d was written before j
+    → (waits.is_whole ≡ true → HeadGoing a d was written waits.items k) → StopsShort e waits written then → BreaksOff e was then (head_text a d)
+head_stopped WriteFault a d was written then before waits j k h put s = head_failed a d was written then waits.items k (put s.0) s.1
+head_stopped OutOfMemory a d was written then before waits j k h put s =
+    subst (λ (o : Option (List ℕ)). BreaksOff OutOfMemory was o (head_text a d)) (sym s) (head_short a d was written before j OutOfMemory h refl)
+
+pub head_short_by : {T : Type 0} (r : Result T WaveFault) (a : Arena) (d : Design) (was written then : Option (List ℕ)) (waits : Written) (k : ℕ) → HeadGoing a d was written waits.items k
+    → IfErr r (λ e. StopsShort e waits written then) → IfErr r (λ e. BreaksOff e was then (head_text a d))
+head_short_by (Ok x) a d was written then waits k h s = tt
+head_short_by (Err e) a d was written then waits k h s = head_stopped e a d was written then waits.items waits k k h (λ w. h) s
 
 -- all that waited behind the last signal was written
-pub head_told : (a : Arena) (d : Design) (was written then : Option (List ℕ)) (xs : List Signal) (waits text : List ℕ) (k : ℕ) → xs ≡ d.signals.items → HeadGoing a d was written waits k
-    → length xs ≤ k → text ≡ waits → Appends written then text → Appends was then (head_text a d)
-head_told a d was written then xs waits text k whole h past s t =
-    let rest : Appends written then waits = subst (Appends written then) s t in
-    subst (Appends was then) (signals_end a d xs (h.piece ++ waits) k whole h.text past) (told_both was written then h.piece waits h.told rest)
+pub head_told : {T E : Type 0} (r : Result T E) (a : Arena) (d : Design) (was written then : Option (List ℕ)) (xs : List Signal) (waits : List ℕ) (k : ℕ) → xs ≡ d.signals.items
+    → HeadGoing a d was written waits k → length xs ≤ k → OnOk r (Appends written then waits) → OnOk r (Appends was then (head_text a d))
+head_told (Ok x) a d was written then xs waits k whole h past t =
+    subst (Appends was then) (signals_end a d xs (h.piece ++ waits) k whole h.text past) (told_both was written then h.piece waits h.told t)
+head_told (Err x) a d was written then xs waits k whole h past t = tt

@@ -1,9 +1,11 @@
 -- What a waveform has still to write, after a frame more.
-use Rattle.std.proofs.Common.{◌≡◌, ℕ, ◌≤◌, Bool, true, List, [], ◌∷◌, ◌++◌, length, set, map, ap, sym, ◌∙◌, Option, Some, arith}
+use Rattle.std.proofs.Common.{◌≡◌, ℕ, ◌≤◌, Bool, true, List, [], ◌∷◌, length, set, map, ap, sym, ◌∙◌, Option, Some, subst, arith}
 use Rattle.std.specs.Prelude.{Result, Ok, Err, OnOk}
 use Rattle.std.proofs.lemmas.List.{set_past}
 use Rattle.std.specs.declared.vec.Vec.{Vec}
 use Rattle.std.specs.Global.{Global}
+use Rattle.lh_text.specs.Writing.{Written, Writes, Leaves}
+use Rattle.lh_text.proofs.Parts.{all-left}
 use Rattle.lh_types.specs.Values.{Datum}
 use Rattle.lh_types.specs.ValueOf.{datum_of}
 use Rattle.lh_types.specs.Pictures.{showing_of}
@@ -50,23 +52,24 @@ left_is n fs dumped written e d g ms =
     ∙ ap (λ (b : Bool). left_by b (map datum_of n.written.items) (record { fs = fs; values = values_now n }) ms) d
     ∙ ap (λ (v : Vec Val Global). left_by dumped (map datum_of v.items) (record { fs = fs; values = values_now n }) ms) g
 
-pub same_time_left : {T E : Type 0} (r : Result T E) (w n : Waveform) (at : ℕ) (to : List ℕ) (shown all : List Change) → at ≡ w.fs → shown ≡ all
+pub same_time_left : {T E : Type 0} (r : Result T E) (w n : Waveform) (at : ℕ) (to : Written) (shown all : List Change) → at ≡ w.fs → shown ≡ all
     → OnOk r (n.fs ≡ w.fs) → OnOk r (n.dumped ≡ w.dumped) → OnOk r (n.written ≡ w.written) → OnOk r (values_now n ≡ changed_values (values_now w) (map showing_of shown))
-    → OnOk r ((ms : List WaveMoment) → to ++ left_text n ms ≡ to ++ left_text w (record { fs = at; values = changed_values (values_now w) (map showing_of all) } ∷ ms))
+    → OnOk r ((ms : List WaveMoment) → Leaves to to (left_text n ms) (left_text w (record { fs = at; values = changed_values (values_now w) (map showing_of all) } ∷ ms)))
 same_time_left (Ok x) w n at to shown all e s f d g v = λ ms.
-    ap (λ l. to ++ l) (left_is n w.fs w.dumped w.written f d g ms)
-    ∙ same_time w.dumped (map datum_of w.written.items) w.fs at (values_now w) (values_now n) (changed_values (values_now w) (map showing_of all)) to ms e (v
-    ∙ ap (λ l. changed_values (values_now w) (map showing_of l)) s)
+    all-left to (left_text n ms) (left_text w (record { fs = at; values = changed_values (values_now w) (map showing_of all) } ∷ ms))
+    (left_is n w.fs w.dumped w.written f d g ms
+    ∙ same_time w.dumped (map datum_of w.written.items) w.fs at (values_now w) (values_now n) (changed_values (values_now w) (map showing_of all)) ms e (v
+    ∙ ap (λ l. changed_values (values_now w) (map showing_of l)) s))
 same_time_left (Err x) w n at to shown all e s f d g v = tt
 
-pub later_time_left : {T E : Type 0} (r : Result T E) (w m n : Waveform) (at : ℕ) (old_to to : List ℕ) (shown all : List Change) → (at ≡ w.fs → ⊥) → m.dumped ≡ true
+pub later_time_left : {T E : Type 0} (r : Result T E) (w m n : Waveform) (at : ℕ) (start to : Written) (shown all : List Change) → (at ≡ w.fs → ⊥) → m.dumped ≡ true
     → map datum_of m.written.items ≡ values_now w
-    → values_now m ≡ values_now w → to ≡ old_to ++ left_text w [] → shown ≡ all
+    → values_now m ≡ values_now w → Writes start to (left_text w []) → shown ≡ all
     → OnOk r (n.fs ≡ at) → OnOk r (n.dumped ≡ m.dumped) → OnOk r (n.written ≡ m.written) → OnOk r (values_now n ≡ changed_values (values_now m) (map showing_of shown))
-    → OnOk r ((ms : List WaveMoment) → to ++ left_text n ms ≡ old_to ++ left_text w (record { fs = at; values = changed_values (values_now w) (map showing_of all) } ∷ ms))
-later_time_left (Ok x) w m n at old_to to shown all other d g v t s f d' g' v' = λ ms.
-    ap (λ l. to ++ l) (left_is n at true m.written f (d' ∙ d) g' ms)
-    ∙ ap (λ (vs : List Datum). to ++ left_by true vs (record { fs = at; values = values_now n }) ms) g
-    ∙ later_time w.dumped (map datum_of w.written.items) w.fs at (values_now w) (values_now n) (changed_values (values_now w) (map showing_of all)) old_to to ms (other_number w.fs at other)
-    (v' ∙ ap (λ l. changed_values l (map showing_of shown)) v ∙ ap (λ l. changed_values (values_now w) (map showing_of l)) s) t
-later_time_left (Err x) w m n at old_to to shown all other d g v t s f d' g' v' = tt
+    → OnOk r ((ms : List WaveMoment) → Leaves start to (left_text n ms) (left_text w (record { fs = at; values = changed_values (values_now w) (map showing_of all) } ∷ ms)))
+later_time_left (Ok x) w m n at start to shown all other d g v t s f d' g' v' = λ ms.
+    subst (λ (rest : List ℕ). Leaves start to rest (left_text w (record { fs = at; values = changed_values (values_now w) (map showing_of all) } ∷ ms)))
+    (sym (left_is n at true m.written f (d' ∙ d) g' ms ∙ ap (λ (vs : List Datum). left_by true vs (record { fs = at; values = values_now n }) ms) g))
+    (later_time w.dumped (map datum_of w.written.items) w.fs at (values_now w) (values_now n) (changed_values (values_now w) (map showing_of all)) start to ms (other_number w.fs at other)
+    (v' ∙ ap (λ l. changed_values l (map showing_of shown)) v ∙ ap (λ l. changed_values (values_now w) (map showing_of l)) s) t)
+later_time_left (Err x) w m n at start to shown all other d g v t s f d' g' v' = tt

@@ -1,6 +1,6 @@
 -- Numbers in lists by their owners.
-use Rattle.std.proofs.Common.{◌≡◌, ℕ, zero, suc, ◌+◌, ◌<◌, ◌≤◌, Bool, true, false, List, [], ◌∷◌, ◌++◌, length, map, take, get_or, refl, ap, sym, ◌∙◌, append_assoc, subst, if◌then◌else◌, Option, Some, None, vec_len, arith}
-use Rattle.std.specs.Prelude.{slice_get, option_map, nat_eq, ◌-◌, codes, Result, Ok, Err, OnOk}
+use Rattle.std.proofs.Common.{◌≡◌, ℕ, zero, suc, ◌+◌, ◌<◌, ◌≤◌, Bool, true, false, List, [], ◌∷◌, ◌++◌, length, map, take, get_or, refl, ap, sym, ◌∙◌, subst, if◌then◌else◌, Option, Some, None, vec_len, arith}
+use Rattle.std.specs.Prelude.{slice_get, option_map, nat_eq, ◌-◌, codes, Result, Ok, Err, IfOk}
 use Rattle.std.specs.Option.{option_map_or}
 use Rattle.std.specs.List.{flat_map, join_with_byte}
 use Rattle.std.proofs.lemmas.Option.{slice_get-map, slice_get-get_or}
@@ -20,8 +20,9 @@ use Rattle.lh_design.specs.Texts.{design_text, instance_text, signal_text}
 use Rattle.lh_wave.specs.HeadText.{is_parent, children_of, variables_of, variable_line, signals_in, scope_line, upscope_line, scope_text, waveform_head}
 use Rattle.lh_wave.specs.Owned.{parents, owners, owned_by, numbers_of, with_number, AreOwned, variable_at}
 use Rattle.lh_elab.specs.Answer.{IsDesignOf}
-use Rattle.lh_wave.proofs.Joined.{four}
-use Rattle.lh_wave.proofs.FrameLemmas.{Writing, Writing-next}
+use Rattle.lh_text.specs.Writing.{Written, Writes}
+use Rattle.lh_text.proofs.Parts.{two-written}
+use Rattle.lh_wave.proofs.FrameLemmas.{Writing, Writing-next_at}
 
 -- a number in front of a list stays there
 in_front : (k n o : ℕ) (x : Option ℕ) (list : List ℕ) → k ∷ with_number x n o list ≡ with_number x n o (k ∷ list)
@@ -162,62 +163,55 @@ length_shown a n [] = refl
 length_shown a n (x ∷ is) = ap suc (length_shown a (n + 1) is)
 
 -- the whole scope of an instance
-pub scope_whole : {T E : Type 0} (r : Result T E) (a : Arena) (d : Design) (children signals : Vec (Vec ℕ Global) Global) (steps i : ℕ) (start one two three now label numbers kids : List ℕ)
-    → (steps ≡ 0 → ⊥)
+pub scope_whole : (a : Arena) (d : Design) (children signals : Vec (Vec ℕ Global) Global) (steps i : ℕ) (start one two three now : Written) (numbers kids : List ℕ) → (steps ≡ 0 → ⊥)
     → AreOwned children (length d.instances.items) (parents d) → AreOwned signals (length d.instances.items) (owners d) → i < length d.instances.items → numbers ≡ numbers_of signals i
     → kids ≡ numbers_of children i
-    → label ≡ label_at (shown_in (design_text a d)) i → one ≡ start ++ scope_line label → two ≡ one ++ flat_map (variable_at (signals_in (design_text a d))) numbers
-    → three ≡ two ++ flat_map (scope_text (steps - 1) (shown_in (design_text a d)) (signals_in (design_text a d))) kids → OnOk r (now ≡ three ++ upscope_line)
-    → OnOk r (now ≡ start ++ scope_text steps (shown_in (design_text a d)) (signals_in (design_text a d)) i)
-scope_whole (Err x) a d children signals steps i start one two three now label numbers kids z oc os h en ek el e1 e2 e3 e = tt
-scope_whole (Ok x) a d children signals steps i start one two three now label numbers kids z oc os h en ek el e1 e2 e3 e =
+    → Writes start one (scope_line (label_at (shown_in (design_text a d)) i)) → Writes one two (flat_map (variable_at (signals_in (design_text a d))) numbers)
+    → Writes two three (flat_map (scope_text (steps - 1) (shown_in (design_text a d)) (signals_in (design_text a d))) kids) → Writes three now upscope_line
+    → Writes start now (scope_text steps (shown_in (design_text a d)) (signals_in (design_text a d)) i)
+scope_whole a d children signals steps i start one two three now numbers kids z oc os h en ek e1 e2 e3 e =
     let all = shown_in (design_text a d) in
     let ss = signals_in (design_text a d) in
     let n : steps ≡ suc (steps - 1) = not_zero steps z in
     let lines : List ℕ = variables_of i 0 ss in
     let below : List ℕ = flat_map (scope_text (steps - 1) all ss) (children_of i 0 all) in
-    let first : one ≡ start ++ scope_line (label_at all i) = e1 ∙ ap (λ l. start ++ scope_line l) el in
-    let second : two ≡ one ++ lines = e2 ∙ ap (λ ns. one ++ flat_map (variable_at ss) ns) en ∙ ap (λ l. one ++ l) (variables_in a d signals i os h) in
-    let third : three ≡ two ++ below = e3 ∙ ap (λ ns. two ++ flat_map (scope_text (steps - 1) all ss) ns) (ek ∙ children_in a d children i oc h) in
-    four start one two three now (scope_line (label_at all i)) lines below upscope_line first second third e ∙ ap (λ m. start ++ scope_text m all ss i) (sym n)
+    let label : List ℕ = scope_line (label_at all i) in
+    let second : Writes one two lines = subst (Writes one two) (ap (flat_map (variable_at ss)) en ∙ variables_in a d signals i os h) e2 in
+    let third : Writes two three below = subst (Writes two three) (ap (flat_map (scope_text (steps - 1) all ss)) (ek ∙ children_in a d children i oc h)) e3 in
+    subst (Writes start now) (ap (λ m. scope_text m all ss i) (sym n))
+    (two-written start three now ((label ++ lines) ++ below) upscope_line (two-written start two three (label ++ lines) below (two-written start one two label lines e1 second) third) e)
   where
     not_zero : (m : ℕ) → (m ≡ 0 → ⊥) → m ≡ suc (m - 1)
     not_zero zero f = absurd (f refl)
     not_zero (suc m) f = omega arith
 
 -- the whole head
-pub head_whole : (a : Arena) (d : Design) (steps : ℕ) (start one two now : List ℕ) → steps ≡ length d.instances.items → start ≡ [] → one ≡ start ++ codes "$timescale 1 fs $end\n"
-    → two ≡ one ++ scope_text steps (shown_in (design_text a d)) (signals_in (design_text a d)) 0 → now ≡ two ++ codes "$enddefinitions $end\n"
-    → now ≡ waveform_head (shown_in (design_text a d)) (signals_in (design_text a d))
-head_whole a d steps start one two now n z e1 e2 e3 =
+pub head_whole : {E : Type 0} (r : Result (Vec ℕ Global) E) (a : Arena) (d : Design) (steps : ℕ) (start one two now : Written) → steps ≡ length d.instances.items → start.items ≡ []
+    → Writes start one (codes "$timescale 1 fs $end\n") → Writes one two (scope_text steps (shown_in (design_text a d)) (signals_in (design_text a d)) 0)
+    → Writes two now (codes "$enddefinitions $end\n") → IfOk r (λ text. now.is_whole ≡ true) → IfOk r (λ text. text.items ≡ now.items)
+    → IfOk r (λ text. text.items ≡ waveform_head (shown_in (design_text a d)) (signals_in (design_text a d)))
+head_whole (Err x) a d steps start one two now n z e1 e2 e3 w t = tt
+head_whole (Ok x) a d steps start one two now n z e1 e2 e3 w t =
     let all = shown_in (design_text a d) in
     let ss = signals_in (design_text a d) in
     let count : steps ≡ length all = n ∙ sym (length_shown a 0 d.instances.items) in
-    e3 ∙ ap (λ l. l ++ codes "$enddefinitions $end\n") (e2 ∙ ap (λ l. l ++ scope_text steps all ss 0) (e1 ∙ ap (λ l. l ++ codes "$timescale 1 fs $end\n") z))
-    ∙ append_assoc (codes "$timescale 1 fs $end\n") (scope_text steps all ss 0) (codes "$enddefinitions $end\n")
-    ∙ ap (λ k. codes "$timescale 1 fs $end\n" ++ (scope_text k all ss 0 ++ codes "$enddefinitions $end\n")) count
-
--- the item at a place does not hang on what stands for those that are not there
-get_or-any : (xs : List ℕ) (i d e : ℕ) → i < length xs → get_or xs i d ≡ get_or xs i e
-get_or-any [] i d e h = absurd (omega arith)
-get_or-any (x ∷ xs) zero d e h = refl
-get_or-any (x ∷ xs) (suc i) d e h = get_or-any xs i d e (omega arith)
-
--- the text of one more number
-pub numbers_next : (text : ℕ → List ℕ) (start to next : List ℕ) (xs : List ℕ) (i : ℕ) → Writing text start to xs i → i < length xs → next ≡ to ++ text (get_or xs i 0)
-    → Writing text start next xs (i + 1)
-numbers_next text start to next xs i w h g = Writing-next text start to next xs i (get_or xs i 0) w h (get_or-any xs i 0 (get_or xs i 0) h) g
+    let scopes : List ℕ = scope_text steps all ss 0 in
+    let written = two-written start two now (codes "$timescale 1 fs $end\n" ++ scopes) (codes "$enddefinitions $end\n") (two-written start one two (codes "$timescale 1 fs $end\n") scopes e1 e2) e3 w in
+    t ∙ written.1 ∙ ap (λ l. l ++ ((codes "$timescale 1 fs $end\n" ++ scopes) ++ codes "$enddefinitions $end\n")) z
+    ∙ ap (λ k. (codes "$timescale 1 fs $end\n" ++ scope_text k all ss 0) ++ codes "$enddefinitions $end\n") count
 
 -- the line of one more signal
-pub variable_next : (a : Arena) (d : Design) (ss : List Signal) (xs : List ℕ) (start to next name : List ℕ) (i : ℕ) (s : Signal) → Writing (variable_at (signals_in (design_text a d))) start to xs i
+pub variable_next : (a : Arena) (d : Design) (ss : List Signal) (xs : List ℕ) (start to next : Written) (name : List ℕ) (i : ℕ) (s : Signal)
+    → Writing (variable_at (signals_in (design_text a d))) start to xs i
     → i < length xs
-    → Each (λ (k : ℕ). k < length d.signals.items) xs → ss ≡ d.signals.items → s ≡ get_or ss (get_or xs i 0) s → name ≡ s.name → next ≡ to ++ variable_line (bit_count s.ty) (get_or xs i 0) name
+    → Each (λ (k : ℕ). k < length d.signals.items) xs → ss ≡ d.signals.items → s ≡ get_or ss (get_or xs i 0) s → name ≡ s.name
+    → Writes to next (variable_line (bit_count s.ty) (get_or xs i 0) name)
     → Writing (variable_at (signals_in (design_text a d))) start next xs (i + 1)
 variable_next a d ss xs start to next name i s w h below whole is n g =
     let known : get_or xs i 0 < length d.signals.items = each_at (λ (k : ℕ). k < length d.signals.items) xs i below h in
     let here : s ≡ get_or d.signals.items (get_or xs i 0) s = is ∙ ap (λ (l : List Signal). get_or l (get_or xs i 0) s) whole in
-    numbers_next (variable_at (signals_in (design_text a d))) start to next xs i w h
-    (g ∙ ap (λ l. to ++ variable_line (bit_count s.ty) (get_or xs i 0) l) n ∙ ap (λ l. to ++ l) (sym (variable_here a d (get_or xs i 0) s known here)))
+    Writing-next_at (variable_at (signals_in (design_text a d))) start to next xs i 0 w h
+    (subst (Writes to next) (ap (variable_line (bit_count s.ty) (get_or xs i 0)) n ∙ sym (variable_here a d (get_or xs i 0) s known here)) g)
 
 pub is_data_in : (a : Arena) (d : Design) (ss : List Signal) (xs : List ℕ) (i : ℕ) (s : Signal) → IsDesignOf a d → Each (λ (k : ℕ). k < length d.signals.items) xs → i < length xs
     → ss ≡ d.signals.items

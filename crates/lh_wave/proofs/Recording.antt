@@ -1,9 +1,12 @@
 -- Values of the program written one behind the other, and the text that is left.
-use Rattle.std.proofs.Common.{◌≡◌, ℕ, zero, suc, ◌+◌, ◌-◌, ◌<◌, ◌≤◌, Bool, true, false, not, List, [], ◌∷◌, ◌++◌, length, get_or, set, drop, take, map, refl, ap, sym, ◌∙◌, append_assoc, cond, eq-eqb, arith}
+use Rattle.std.proofs.Common.{◌≡◌, ℕ, zero, suc, ◌+◌, ◌<◌, ◌≤◌, Bool, true, false, not, List, [], ◌∷◌, ◌++◌, length, get_or, set, drop, take, map, refl, ap, sym, ◌∙◌, cond, eq-eqb, subst, arith}
 use Rattle.std.specs.Prelude.{nat_eq, ◌||◌, Result, Ok, Err, OnOk}
 use Rattle.std.proofs.lemmas.Bool.Decides.{nat_tests}
 use Rattle.std.proofs.lemmas.List.{append-nil, drop_all, drop_more, take_more, map-append, length-map, get_or-map}
 use Rattle.std.proofs.Math.Bool.{or-true}
+use Rattle.lh_text.specs.Writing.{Written, Writes, Leaves}
+use Rattle.lh_text.proofs.Parts.{less-left, none-left, two-written}
+use Rattle.lh_wave.proofs.Joined.{first_left}
 use Rattle.lh_types.specs.Values.{Datum, int_value}
 use Rattle.lh_types.specs.ValueOf.{datum_of}
 use Rattle.lh_types.specs.SameValue.{same_datum}
@@ -25,17 +28,17 @@ values_end : (vs : List Val) (i : ℕ) → length vs ≤ i → drop i (map datum
 values_end vs i h = let l : length (map datum_of vs) ≤ i = omega (arith, length-map vs datum_of) in drop_all i (map datum_of vs) l
 
 -- the lines of all signals, written from the first on
-abbrev pub AllWriting : (start to : List ℕ) → List Val → ℕ → Type 0
-AllWriting start to vs i = to ++ all_lines i (drop i (map datum_of vs)) ≡ start ++ all_lines 0 (map datum_of vs)
+abbrev pub AllWriting : (start to : Written) → List Val → ℕ → Type 0
+AllWriting start to vs i = Leaves start to (all_lines i (drop i (map datum_of vs))) (all_lines 0 (map datum_of vs))
 
-pub AllWriting-next : (start to next : List ℕ) (vs : List Val) (i : ℕ) (v : Val) → AllWriting start to vs i → i < length vs → v ≡ get_or vs i v → next ≡ to ++ value_line i (datum_of v)
+pub AllWriting-next : (start to next : Written) (vs : List Val) (i : ℕ) (v : Val) → AllWriting start to vs i → i < length vs → v ≡ get_or vs i v → Writes to next (value_line i (datum_of v))
     → AllWriting start next vs (i + 1)
 AllWriting-next start to next vs i v w h e g =
-    ap (λ l. l ++ all_lines (i + 1) (drop (i + 1) (map datum_of vs))) g ∙ append_assoc to (value_line i (datum_of v)) (all_lines (i + 1) (drop (i + 1) (map datum_of vs)))
-    ∙ ap (λ ds. to ++ all_lines i ds) (sym (values_drop vs i v h e)) ∙ w
+    less-left start to next (value_line i (datum_of v)) (all_lines (i + 1) (drop (i + 1) (map datum_of vs))) (all_lines i (drop i (map datum_of vs))) (all_lines 0 (map datum_of vs))
+    (ap (all_lines i) (values_drop vs i v h e)) g w
 
-pub AllWriting-end : (start to : List ℕ) (vs : List Val) (i : ℕ) → AllWriting start to vs i → length vs ≤ i → to ≡ start ++ all_lines 0 (map datum_of vs)
-AllWriting-end start to vs i w h = sym (append-nil to) ∙ ap (λ ds. to ++ all_lines i ds) (sym (values_end vs i h)) ∙ w
+pub AllWriting-end : (start to : Written) (vs : List Val) (i : ℕ) → AllWriting start to vs i → length vs ≤ i → Writes start to (all_lines 0 (map datum_of vs))
+AllWriting-end start to vs i w h = none-left start to (all_lines i (drop i (map datum_of vs))) (all_lines 0 (map datum_of vs)) (ap (all_lines i) (values_end vs i h)) w
 
 -- the values of some changes, and of one more
 pub values_more : (vs more : List Val) (cs : List Change) (i : ℕ) (c : Change) (v : Val) → map datum_of vs ≡ map (λ x. datum_of x.value) (take i cs) → i < length cs → c ≡ get_or cs i c → v ≡ c.value
@@ -91,12 +94,12 @@ abbrev pub left_by : (dumped : Bool) → (written : List Datum) → WaveMoment �
 left_by dumped written m ms = cond dumped (changes_text written (lasts_from m ms)) (dump_text (lasts_from m ms))
 
 -- a frame of the same time takes the place of the one before
-pub same_time : (dumped : Bool) (written : List Datum) (fs at : ℕ) (now next changed : List Datum) (to : List ℕ) (ms : List WaveMoment) → at ≡ fs → next ≡ changed
-    → to ++ left_by dumped written (record { fs = fs; values = next }) ms ≡ to ++ left_by dumped written (record { fs = fs; values = now }) (record { fs = at; values = changed } ∷ ms)
-same_time dumped written fs at now next changed to ms e g =
-    ap (λ n. to ++ left_by dumped written (record { fs = fs; values = n }) ms) g
-    ∙ ap (λ f. to ++ left_by dumped written (record { fs = f; values = changed }) ms) (sym e)
-    ∙ ap (λ b. to ++ cond dumped (changes_text written
+pub same_time : (dumped : Bool) (written : List Datum) (fs at : ℕ) (now next changed : List Datum) (ms : List WaveMoment) → at ≡ fs → next ≡ changed
+    → left_by dumped written (record { fs = fs; values = next }) ms ≡ left_by dumped written (record { fs = fs; values = now }) (record { fs = at; values = changed } ∷ ms)
+same_time dumped written fs at now next changed ms e g =
+    ap (λ n. left_by dumped written (record { fs = fs; values = n }) ms) g
+    ∙ ap (λ f. left_by dumped written (record { fs = f; values = changed }) ms) (sym e)
+    ∙ ap (λ b. cond dumped (changes_text written
     (cond b (lasts_from (record { fs = at; values = changed }) ms) (record { fs = fs; values = now } ∷ lasts_from (record { fs = at; values = changed }) ms)))
     (dump_text (cond b (lasts_from (record { fs = at; values = changed }) ms) (record { fs = fs; values = now } ∷ lasts_from (record { fs = at; values = changed }) ms))))
     (sym (eq-eqb fs at (sym e)))
@@ -107,15 +110,17 @@ left_over true written m more = ap (λ l. l ++ changes_text m.values more) (sym 
 left_over false written m more = ap (λ l. l ++ changes_text m.values more) (sym (append-nil (dump_at m)))
 
 -- at a later time what was left is written
-pub later_time : (dumped : Bool) (written : List Datum) (fs at : ℕ) (now next changed : List Datum) (old_to to : List ℕ) (ms : List WaveMoment) → nat_eq fs at ≡ false → next ≡ changed
-    → to ≡ old_to ++ left_by dumped written (record { fs = fs; values = now }) []
-    → to ++ left_by true now (record { fs = at; values = next }) ms ≡ old_to ++ left_by dumped written (record { fs = fs; values = now }) (record { fs = at; values = changed } ∷ ms)
-later_time dumped written fs at now next changed old_to to ms e g t =
+pub later_time : (dumped : Bool) (written : List Datum) (fs at : ℕ) (now next changed : List Datum) (start to : Written) (ms : List WaveMoment) → nat_eq fs at ≡ false → next ≡ changed
+    → Writes start to (left_by dumped written (record { fs = fs; values = now }) [])
+    → Leaves start to (left_by true now (record { fs = at; values = next }) ms) (left_by dumped written (record { fs = fs; values = now }) (record { fs = at; values = changed } ∷ ms))
+later_time dumped written fs at now next changed start to ms e g t =
     let m : WaveMoment = record { fs = fs; values = now } in
     let n : WaveMoment = record { fs = at; values = changed } in
-    ap (λ vs. to ++ left_by true now (record { fs = at; values = vs }) ms) g ∙ ap (λ l. l ++ changes_text now (lasts_from n ms)) t
-    ∙ append_assoc old_to (left_by dumped written m []) (changes_text now (lasts_from n ms)) ∙ ap (λ l. old_to ++ l) (sym (left_over dumped written m (lasts_from n ms)))
-    ∙ ap (λ b. old_to ++ cond dumped (changes_text written (cond b (lasts_from n ms) (m ∷ lasts_from n ms))) (dump_text (cond b (lasts_from n ms) (m ∷ lasts_from n ms)))) (sym e)
+    first_left start to (left_by dumped written m []) (left_by true now (record { fs = at; values = next }) ms) (left_by dumped written m (n ∷ ms))
+    (ap (λ b. cond dumped (changes_text written (cond b (lasts_from n ms) (m ∷ lasts_from n ms))) (dump_text (cond b (lasts_from n ms) (m ∷ lasts_from n ms)))) e
+    ∙ left_over dumped written m (lasts_from n ms)
+    ∙ ap (λ vs. left_by dumped written m [] ++ left_by true now (record { fs = at; values = vs }) ms) (sym g))
+    t
 
 pub shown_values : (cs : List Change) → map (λ c. datum_of c.value) cs ≡ map (λ s. s.value) (map showing_of cs)
 shown_values [] = refl
@@ -133,10 +138,8 @@ pub values_on : {T E : Type 0} (r : Result T E) (now now' next : List Datum) (sh
 values_on (Ok x) now now' next shown all n e g = g ∙ ap (λ l. changed_values l (map showing_of shown)) n ∙ ap (λ l. changed_values now (map showing_of l)) e
 values_on (Err x) now now' next shown all n e g = tt
 
-pub left_first : {T E : Type 0} (r : Result T E) (dumped : Bool) (written : List Datum) (m : WaveMoment) (to next : List ℕ) → dumped ≡ false → OnOk r (next ≡ to ++ dump_at m)
-    → OnOk r (next ≡ to ++ left_by dumped written m [])
-left_first (Ok x) dumped written m to next d g = g ∙ ap (λ l. to ++ l) (sym (append-nil (dump_at m))) ∙ ap (λ b. to ++ left_by b written m []) (sym d)
-left_first (Err x) dumped written m to next d g = tt
+pub left_first : (dumped : Bool) (written : List Datum) (m : WaveMoment) (to next : Written) → dumped ≡ false → Writes to next (dump_at m) → Writes to next (left_by dumped written m [])
+left_first dumped written m to next d g = subst (Writes to next) (sym (append-nil (dump_at m)) ∙ ap (λ b. left_by b written m []) (sym d)) g
 
 -- no value differs, so there is no line
 none_differ : (k : ℕ) (old now : List Datum) → any_differs old now ≡ false → differing_lines k old now ≡ []
@@ -154,9 +157,9 @@ changed_lines false written m e =
     none_differ 0 written m.values (sym e) ∙ ap (λ t. cond t (time_line m.fs ++ differing_lines 0 written m.values) []) e
 
 -- a later time is written, with its lines
-pub left_changed : {T E : Type 0} (r : Result T E) (dumped b : Bool) (written : List Datum) (m : WaveMoment) (to timed next : List ℕ) → dumped ≡ true → b ≡ any_differs written m.values
-    → timed ≡ to ++ cond b (time_line m.fs) [] → OnOk r (next ≡ timed ++ differing_lines 0 written m.values) → OnOk r (next ≡ to ++ left_by dumped written m [])
+pub left_changed : {T E : Type 0} (r : Result T E) (dumped b : Bool) (written : List Datum) (m : WaveMoment) (to timed next : Written) → dumped ≡ true → b ≡ any_differs written m.values
+    → Writes to timed (cond b (time_line m.fs) []) → OnOk r (Writes timed next (differing_lines 0 written m.values)) → OnOk r (Writes to next (left_by dumped written m []))
 left_changed (Ok x) dumped b written m to timed next d e t g =
-    g ∙ ap (λ l. l ++ differing_lines 0 written m.values) t ∙ append_assoc to (cond b (time_line m.fs) []) (differing_lines 0 written m.values)
-    ∙ ap (λ l. to ++ l) (changed_lines b written m e ∙ sym (append-nil (changes_at written m)) ∙ ap (λ f. left_by f written m []) (sym d))
+    subst (Writes to next) (changed_lines b written m e ∙ sym (append-nil (changes_at written m)) ∙ ap (λ f. left_by f written m []) (sym d))
+    (two-written to timed next (cond b (time_line m.fs) []) (differing_lines 0 written m.values) t g)
 left_changed (Err x) dumped b written m to timed next d e t g = tt

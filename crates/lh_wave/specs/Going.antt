@@ -1,9 +1,10 @@
 -- A run while its frames come.
-use Rattle.std.specs.Prelude.{◌≡◌, ◌||◌, ℕ, List, ◌∷◌, ◌++◌, Bool, Option, Some, None, map}
+use Rattle.std.specs.Prelude.{◌≡◌, ◌||◌, ℕ, List, ◌∷◌, ◌++◌, Bool, true, Option, Some, None, map}
 use Rattle.std.specs.List.{flat_map, list_any}
+use Rattle.lh_text.specs.Writing.{Written, Leaves}
 use Rattle.lh_types.specs.Values.{Datum}
 use Rattle.lh_types.specs.Pictures.{Picture}
-use Rattle.lh_io.specs.Streams.{Appends}
+use Rattle.lh_io.specs.Streams.{Appends, AppendsProperPrefix}
 use Rattle.lh_unit.specs.Arena.{Arena, contents}
 use Rattle.lh_unit.specs.World.{World}
 use Rattle.lh_unit.specs.Trace.{Frame, Run, max_instructions, run_from}
@@ -21,6 +22,7 @@ use Rattle.lh_wave.specs.declared.ending.End.{End}
 use Rattle.lh_wave.specs.declared.run.WaveMode.{WaveMode}
 use Rattle.lh_wave.specs.declared.run.WaveMode.TheVariants as mode
 use Rattle.lh_wave.specs.declared.run.WaveFault.{WaveFault}
+use Rattle.lh_wave.specs.declared.run.WaveFault.TheVariants.{WriteFault, OutOfMemory}
 use Rattle.lh_wave.specs.TraceText.{frame_text}
 use Rattle.lh_wave.specs.WaveText.{waveform_text}
 use Rattle.lh_wave.specs.Recorded.{IsKept, values_now, left_text, changed_values}
@@ -112,10 +114,9 @@ going t before ms rest written reports =
     record { scribe = t.scribe; waits = t.text.items; before = before; members = ms; rest = rest; written = written; reports = reports; failed = t.failed }
 
 -- the text of a frame was put behind a text
-pub record IsPut (old new : Scribe) (before : Option (List Datum)) (f : Frame) (was now : List ℕ) : Type 0 where
+pub record IsPut (old new : Scribe) (before : Option (List Datum)) (f : Frame) (was now : Written) : Type 0 where
   pub behind : IsBehind new (Some f.values)
-  pub text : (more : List Frame) (left : List Member) (end : End) →
-      now ++ text_left new (Some f.values) more left end ≡ was ++ text_left old before (f ∷ more) left end
+  pub text : (more : List Frame) (left : List Member) (end : End) → Leaves was now (text_left new (Some f.values) more left end) (text_left old before (f ∷ more) left end)
 
 -- the text of a frame was put behind what waited, and a piece in front was written
 pub record IsTold (old new : Scribe) (before : Option (List Datum)) (f : Frame) (waited waits : List ℕ) (was_written written : Option (List ℕ)) : Type 0 where
@@ -130,6 +131,11 @@ pub record IsPassedOn (waited waits : List ℕ) (was_written written : Option (L
   pub piece : List ℕ
   pub text : waited ≡ piece ++ waits
   pub told : Appends was_written written piece
+
+-- Of what waited nothing was written, because it is not whole, or a write failed and only a piece in front was written.
+abbrev pub StopsShort : WaveFault → (waits : Written) → (was_written written : Option (List ℕ)) → Type 0
+StopsShort WriteFault waits was_written written = waits.is_whole ≡ true × AppendsProperPrefix was_written written waits.items
+StopsShort OutOfMemory waits was_written written = written ≡ was_written
 
 -- A frame is the next one that a scribe is to write, and it shows this.
 pub record IsNext (s : Scribe) (before : Option (List Datum)) (f : Frame) (shows : Picture) : Type 0 where

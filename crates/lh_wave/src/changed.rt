@@ -1,12 +1,14 @@
 //! The values of the signals that have changed since they were written.
-ghost use Rattle.std.specs.Prelude.{◌≡◌, ◌<◌, ◌⊎◌, ◌++◌, [], ℕ, None, Some, IfOk, OnOk, length, map, not, slice_set, All, Contains, if◌then◌else◌};
+ghost use Rattle.std.specs.Prelude.{◌≡◌, ◌<◌, ◌⊎◌, [], ℕ, None, Some, IfOk, OnOk, length, map, not, slice_set, All, Contains, if◌then◌else◌};
 ghost use Rattle.std.specs.List.Sorted.{IsNonDecreasing};
+ghost use Rattle.lh_text.specs.Writing.{Writes};
 ghost use Rattle.lh_types.specs.ValueOf.{datum_of};
 ghost use Rattle.lh_types.specs.SameValue.{same_datum};
 ghost use Rattle.lh_wave.specs.WaveText.{value_line, differing_lines, any_differs};
 ghost use Rattle.lh_wave.specs.Changed.{IsNoted, HasNone, with_number, present_value, present_values};
 
 use crate::wire::put_wire;
+use lh_text::Text;
 use lh_types::ty::NoMemory;
 use lh_types::val::Val;
 use std::alloc::Global;
@@ -68,15 +70,15 @@ impl Changed {
 
     /// Puts the lines of the signals, in order, whose new values differ from those that were written last, and writes all over these.
     /// The numbers of each frame come in order, so that a sort that keeps such runs is fast.
-    pub fn put_over(&mut self, to: &mut Vec<u8>, written: &mut Vec<Val>) -> Result<(), NoMemory>
+    pub fn put_over(&mut self, to: &mut Text, written: &mut Vec<Val>) -> Result<(), NoMemory>
         requires { IsNoted self.old (length written.old.items) }
         ensures noted { OnOk result (IsNoted self.new (length written.new.items)) }
         ensures none { OnOk result ((k : ℕ) → HasNone self.new.values.items k) }
-        ensures text { OnOk result (to.new.items ≡ to.old.items ++ differing_lines 0 (map datum_of written.old.items) (present_values self.old.values.items written.old.items)) }
+        ensures text { OnOk result (Writes to.old to.new (differing_lines 0 (map datum_of written.old.items) (present_values self.old.values.items written.old.items))) }
         ensures written { OnOk result (map datum_of written.new.items ≡ present_values self.old.values.items written.old.items) }
     {
         sort_numbers(&mut self.numbers)?;
-        put_new(to, written, &mut self.values, &self.numbers)?;
+        put_new(to, written, &mut self.values, &self.numbers);
         self.numbers.clear();
         Ok(())
     }
@@ -125,40 +127,32 @@ fn sort_numbers(numbers: &mut Vec<usize>) -> Result<(), NoMemory>
 
 // Puts the lines of the signals of these numbers whose new values differ from those that were written last, and writes them over
 // these. A number that stands twice is passed over the second time.
-fn put_new(
-    to: &mut Vec<u8>,
-    written: &mut Vec<Val>,
-    values: &mut Vec<Option<Val>>,
-    numbers: &[usize],
-) -> Result<(), NoMemory>
+fn put_new(to: &mut Text, written: &mut Vec<Val>, values: &mut Vec<Option<Val>>, numbers: &[usize])
     requires level { length values.old.items ≡ length written.old.items }
     requires within { All (λ (k : ℕ). k < length written.old.items) numbers.now }
     requires listed { (k : ℕ) → Contains numbers.now k ⊎ HasNone values.old.items k }
     requires rising { IsNonDecreasing numbers.now }
-    ensures level { OnOk result (length values.new.items ≡ length written.new.items) }
-    ensures none { OnOk result ((k : ℕ) → HasNone values.new.items k) }
-    ensures text { OnOk result (to.new.items ≡ to.old.items ++ differing_lines 0 (map datum_of written.old.items) (present_values values.old.items written.old.items)) }
-    ensures written { OnOk result (map datum_of written.new.items ≡ present_values values.old.items written.old.items) }
+    ensures level { length values.new.items ≡ length written.new.items }
+    ensures none { (k : ℕ) → HasNone values.new.items k }
+    ensures text { Writes to.old to.new (differing_lines 0 (map datum_of written.old.items) (present_values values.old.items written.old.items)) }
+    ensures written { map datum_of written.new.items ≡ present_values values.old.items written.old.items }
 {
     for &k in numbers {
         let Some(value) = values[k].take() else {
             continue;
         };
-        put_if_differs(to, k as u64, &written[k], &value)?;
+        put_if_differs(to, k as u64, &written[k], &value);
         written[k] = value;
     }
-    Ok(())
 }
 
 // Puts the line of a signal, if its value differs from the one that was written last.
-fn put_if_differs(to: &mut Vec<u8>, signal: u64, written: &Val, now: &Val) -> Result<(), NoMemory>
-    ensures { OnOk result (to.new.items ≡ to.old.items
-        ++ (if same_datum (datum_of written.now) (datum_of now.now) then [] else value_line signal (datum_of now.now))) }
+fn put_if_differs(to: &mut Text, signal: u64, written: &Val, now: &Val)
+    ensures { Writes to.old to.new (if same_datum (datum_of written.now) (datum_of now.now) then [] else value_line signal (datum_of now.now)) }
 {
-    if *written == *now {
-        return Ok(());
+    if *written != *now {
+        put_wire(to, signal, now);
     }
-    put_wire(to, signal, now)
 }
 
 // Writes the new values of the signals of these numbers over those that were written last.

@@ -1,9 +1,9 @@
 //! How a run ends, and the last line of its trace.
-ghost use Rattle.std.specs.Prelude.{◌≡◌, ◌++◌, OnOk, map, codes, decimal};
+ghost use Rattle.std.specs.Prelude.{◌≡◌, ◌++◌, map, codes, decimal};
+ghost use Rattle.lh_text.specs.Writing.{Writes};
 ghost use Rattle.lh_wave.specs.EndText.{title_at, end_line};
 
-use lh_types::text::{put, put_number};
-use lh_types::ty::NoMemory;
+use lh_text::Text;
 use lh_watch::watcher::Watcher;
 
 /// Why no further frame is shown.
@@ -26,33 +26,32 @@ pub struct Ending {
     pub failed: bool,
 }
 
-/// Puts the last line of a trace at the end of a text; a stop is told by the title of the watcher at its place. After `NoMemory`
-/// nothing is said of the text.
-pub fn put_end<W: Watcher>(to: &mut Vec<u8>, end: End, ws: &[W]) -> Result<(), NoMemory>
-    ensures { OnOk result (to.new.items ≡ to.old.items ++ end_line (map W.member ws.now) end) }
+/// Puts the last line of a trace at the end of a text; a stop is told by the title of the watcher at its place.
+pub fn put_end<W: Watcher>(to: &mut Text, end: End, ws: &[W])
+    ensures { Writes to.old to.new (end_line (map W.member ws.now) end) }
 {
     match end {
-        End::Quiet => put(to, b"end quiet\n"),
-        End::Steps => put(to, b"end steps\n"),
+        End::Quiet => to.put(b"end quiet\n"),
+        End::Steps => to.put(b"end steps\n"),
         End::Runaway(instance) => put_runaway(to, instance),
         End::Stop(place) => put_stop(to, title(ws, place)),
     }
 }
 
-fn put_runaway(to: &mut Vec<u8>, instance: u32) -> Result<(), NoMemory>
-    ensures { OnOk result (to.new.items ≡ to.old.items ++ (codes "end runaway " ++ decimal instance ++ codes "\n")) }
+fn put_runaway(to: &mut Text, instance: u32)
+    ensures { Writes to.old to.new (codes "end runaway " ++ decimal instance ++ codes "\n") }
 {
-    put(to, b"end runaway ")?;
-    put_number(to, instance as u64)?;
-    put(to, b"\n")
+    to.put(b"end runaway ");
+    to.put_number(instance as u64);
+    to.put(b"\n");
 }
 
-fn put_stop(to: &mut Vec<u8>, title: &[u8]) -> Result<(), NoMemory>
-    ensures { OnOk result (to.new.items ≡ to.old.items ++ (codes "end stop " ++ title.now ++ codes "\n")) }
+fn put_stop(to: &mut Text, title: &[u8])
+    ensures { Writes to.old to.new (codes "end stop " ++ title.now ++ codes "\n") }
 {
-    put(to, b"end stop ")?;
-    put(to, title)?;
-    put(to, b"\n")
+    to.put(b"end stop ");
+    to.put(title);
+    to.put(b"\n");
 }
 
 /// The title of the watcher at a place; nothing where there is none.

@@ -1,25 +1,25 @@
 //! The heads of the texts of a run.
-ghost use Rattle.std.specs.Prelude.{◌≡◌, ◌≤◌, ◌<◌, ◌++◌, ℕ, IfOk, IfErr, OnOk, IsErrOf, length};
+ghost use Rattle.std.specs.Prelude.{◌≡◌, ◌≤◌, ◌<◌, ℕ, IfOk, IfErr, OnOk, IsErrOf, length};
 ghost use Rattle.std.specs.List.{flat_map};
+ghost use Rattle.lh_text.specs.Writing.{Writes};
 ghost use Rattle.lh_io.specs.Streams.{Rose, Appends};
 ghost use Rattle.lh_unit.specs.Within.{Each};
-ghost use Rattle.lh_unit.specs.Paths.{shown_in, path_at};
+ghost use Rattle.lh_unit.specs.Paths.{shown_in, label_at, path_at};
 ghost use Rattle.lh_design.specs.Texts.{design_text};
 ghost use Rattle.lh_elab.specs.Answer.{IsDesignOf};
 ghost use Rattle.lh_wave.specs.BrokenOff.{BreaksOff};
 ghost use Rattle.lh_wave.specs.HeadText as head;
-ghost use Rattle.lh_wave.specs.HeadText.{signals_in, waveform_head, scope_text};
+ghost use Rattle.lh_wave.specs.HeadText.{signals_in, waveform_head, scope_line, scope_text};
 ghost use Rattle.lh_wave.specs.Owned.{parents, owners, AreOwned, variable_at};
 
 use crate::lines::{END_OF_HEAD, TIMESCALE, UPSCOPE, put_scope, put_signal, put_variable};
 use crate::owned::{children_by_parent, numbers_at, signals_by_instance};
 use crate::run::WaveFault;
-use crate::waiting::pass_on;
+use crate::waiting::{pass_on, write_out};
 use lh_design::{Design, Signal};
 use lh_elab::{label_of, path_of};
 use lh_io::stream::Sink;
-use lh_io::whole::write_all;
-use lh_types::text::put;
+use lh_text::Text;
 use lh_types::ty::NoMemory;
 use lh_unit::module::Module;
 use std::alloc::Global;
@@ -40,7 +40,7 @@ pub fn write_trace_head<K: Sink>(
     ensures rose { IsErrOf result WaveFault.WriteFault → Rose (K.faults out.old) (K.faults out.new) }
     ensures never_fall { K.faults out.old ≤ K.faults out.new }
 {
-    let mut waits = Vec::new(alloc);
+    let mut waits = Text::new(alloc);
     let mut path = Path::of(alloc, d, m, 0)?;
     for (k, signal) in d.signals().iter().enumerate() {
         path.go_to(alloc, d, m, signal.instance)?;
@@ -50,11 +50,10 @@ pub fn write_trace_head<K: Sink>(
             &signal.ty,
             &path.text,
             signal.name.as_bytes(),
-        )?;
+        );
         pass_on(&mut waits, out)?;
     }
-    write_all(out, &waits)?;
-    Ok(())
+    write_out(&waits, out)
 }
 
 /// The path of an instance, kept from one signal to the next: the signals of an instance mostly stand in a row.
@@ -136,43 +135,53 @@ impl Scopes<'_> {
         requires signals { AreOwned self.now.signals (length self.now.design.now.instances.items) (owners self.now.design.now) }
         ensures { let d = design_text self.now.«module».now self.now.design.now in IfOk result (λ text. text.items ≡ waveform_head (shown_in d) (signals_in d)) }
     {
-        let mut to = Vec::new(self.alloc);
-        put(&mut to, TIMESCALE)?;
-        self.put(&mut to, self.design.instances().len(), 0)?;
-        put(&mut to, END_OF_HEAD)?;
-        Ok(to)
+        let mut to = Text::new(self.alloc);
+        to.put(TIMESCALE);
+        self.put(&mut to, self.design.instances().len(), 0);
+        to.put(END_OF_HEAD);
+        to.finish()
     }
 
     /// Puts the scope of an instance with its signals and then its children, at most `steps` of them within one another.
-    fn put(&self, to: &mut Vec<u8>, steps: usize, instance: usize) -> Result<(), NoMemory>
+    fn put(&self, to: &mut Text, steps: usize, instance: usize)
         requires design { IsDesignOf self.now.«module».now self.now.design.now }
         requires children { AreOwned self.now.children (length self.now.design.now.instances.items) (parents self.now.design.now) }
         requires signals { AreOwned self.now.signals (length self.now.design.now.instances.items) (owners self.now.design.now) }
         requires known { 0 < steps → instance < length self.now.design.now.instances.items }
-        ensures { let d = design_text self.now.«module».now self.now.design.now in OnOk result (to.new.items ≡ to.old.items ++ scope_text steps (shown_in d) (signals_in d) instance) }
+        ensures { let d = design_text self.now.«module».now self.now.design.now in Writes to.old to.new (scope_text steps (shown_in d) (signals_in d) instance) }
     {
         if steps == 0 {
-            return Ok(());
+            return;
         }
-        let label = label_of(self.alloc, self.module, self.design, instance as u32)?;
-        put_scope(to, &label)?;
-        self.put_variables(to, numbers_at(&self.signals, instance))?;
+        self.begin(to, instance);
+        self.put_variables(to, numbers_at(&self.signals, instance));
         for &child in numbers_at(&self.children, instance) {
-            self.put(to, steps - 1, child)?;
+            self.put(to, steps - 1, child);
         }
-        put(to, UPSCOPE)
+        to.put(UPSCOPE);
+    }
+
+    /// Puts the line that begins the scope of an instance.
+    fn begin(&self, to: &mut Text, instance: usize)
+        requires design { IsDesignOf self.now.«module».now self.now.design.now }
+        requires known { instance < length self.now.design.now.instances.items }
+        ensures { Writes to.old to.new (scope_line (label_at (shown_in (design_text self.now.«module».now self.now.design.now)) instance)) }
+    {
+        match label_of(self.alloc, self.module, self.design, instance as u32) {
+            Ok(label) => put_scope(to, &label),
+            Err(NoMemory) => to.abandon(),
+        }
     }
 
     /// Puts the lines of the signals of these numbers.
-    fn put_variables(&self, to: &mut Vec<u8>, numbers: &[usize]) -> Result<(), NoMemory>
+    fn put_variables(&self, to: &mut Text, numbers: &[usize])
         requires design { IsDesignOf self.now.«module».now self.now.design.now }
         requires known { Each (λ (k : ℕ). k < length self.now.design.now.signals.items) numbers.now }
-        ensures { OnOk result (to.new.items ≡ to.old.items ++ flat_map (variable_at (signals_in (design_text self.now.«module».now self.now.design.now))) numbers.now) }
+        ensures { Writes to.old to.new (flat_map (variable_at (signals_in (design_text self.now.«module».now self.now.design.now))) numbers.now) }
     {
         for &k in numbers {
             let signal = &self.design.signals()[k];
-            put_variable(to, k as u64, &signal.ty, signal.name.as_bytes())?;
+            put_variable(to, k as u64, &signal.ty, signal.name.as_bytes());
         }
-        Ok(())
     }
 }

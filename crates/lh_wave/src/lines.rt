@@ -1,5 +1,5 @@
 //! The lines of the heads of a trace and of a waveform.
-ghost use Rattle.std.specs.Prelude.{◌≡◌, ◌++◌, OnOk};
+ghost use Rattle.lh_text.specs.Writing.{Writes};
 ghost use Rattle.lh_types.specs.Types.{IsData, bit_count};
 ghost use Rattle.lh_unit.specs.Pieces.{render};
 ghost use Rattle.lh_unit.specs.CanonTypes.{type_pieces};
@@ -7,8 +7,8 @@ ghost use Rattle.lh_wave.specs.HeadText.{signal_line, scope_line, variable_line}
 
 use crate::code::put_code;
 use lh_print::types::put_type;
-use lh_types::text::{put, put_number};
-use lh_types::ty::{NoMemory, Ty, bits};
+use lh_text::Text;
+use lh_types::ty::{Ty, bits};
 
 /// The first line of a waveform: what its times count.
 pub(crate) const TIMESCALE: &[u8] = b"$timescale 1 fs $end\n";
@@ -19,54 +19,40 @@ pub(crate) const UPSCOPE: &[u8] = b"$upscope $end\n";
 /// The line that ends the head of a waveform.
 pub(crate) const END_OF_HEAD: &[u8] = b"$enddefinitions $end\n";
 
-/// Puts the line of a signal of a trace at the end of a text: its number, its type, the path of its instance and its name. After
-/// `NoMemory` nothing is said of the text.
-pub(crate) fn put_signal(
-    to: &mut Vec<u8>,
-    signal: u64,
-    ty: &Ty,
-    path: &[u8],
-    name: &[u8],
-) -> Result<(), NoMemory>
-    ensures { OnOk result (to.new.items ≡ to.old.items ++ signal_line signal (render (type_pieces ty.now)) path.now name.now) }
+/// Puts the line of a signal of a trace at the end of a text: its number, its type, the path of its instance and its name.
+pub(crate) fn put_signal(to: &mut Text, signal: u64, ty: &Ty, path: &[u8], name: &[u8])
+    ensures { Writes to.old to.new (signal_line signal (render (type_pieces ty.now)) path.now name.now) }
 {
-    put(to, b"sig ")?;
-    put_number(to, signal)?;
-    put(to, b" ")?;
-    put_type(to, ty)?;
-    put(to, b" ")?;
-    put(to, path)?;
-    put(to, b".")?;
-    put(to, name)?;
-    put(to, b"\n")
+    to.put(b"sig ");
+    to.put_number(signal);
+    to.put(b" ");
+    put_type(to, ty);
+    to.put(b" ");
+    to.put(path);
+    to.put(b".");
+    to.put(name);
+    to.put(b"\n");
 }
 
-/// Puts the line that begins the scope of an instance of this label at the end of a text. After `NoMemory` nothing is said of the
-/// text.
-pub(crate) fn put_scope(to: &mut Vec<u8>, label: &[u8]) -> Result<(), NoMemory>
-    ensures { OnOk result (to.new.items ≡ to.old.items ++ scope_line label.now) }
+/// Puts the line that begins the scope of an instance of this label at the end of a text.
+pub(crate) fn put_scope(to: &mut Text, label: &[u8])
+    ensures { Writes to.old to.new (scope_line label.now) }
 {
-    put(to, b"$scope module ")?;
-    put(to, label)?;
-    put(to, b" $end\n")
+    to.put(b"$scope module ");
+    to.put(label);
+    to.put(b" $end\n");
 }
 
-/// Puts the line of a signal of a waveform at the end of a text: how many bits it has, its code and its name. After `NoMemory`
-/// nothing is said of the text.
-pub(crate) fn put_variable(
-    to: &mut Vec<u8>,
-    signal: u64,
-    ty: &Ty,
-    name: &[u8],
-) -> Result<(), NoMemory>
+/// Puts the line of a signal of a waveform at the end of a text: how many bits it has, its code and its name.
+pub(crate) fn put_variable(to: &mut Text, signal: u64, ty: &Ty, name: &[u8])
     requires { IsData ty.now }
-    ensures { OnOk result (to.new.items ≡ to.old.items ++ variable_line (bit_count ty.now) signal name.now) }
+    ensures { Writes to.old to.new (variable_line (bit_count ty.now) signal name.now) }
 {
-    put(to, b"$var wire ")?;
-    put_number(to, bits(ty).into())?;
-    put(to, b" ")?;
-    put_code(to, signal)?;
-    put(to, b" ")?;
-    put(to, name)?;
-    put(to, b" $end\n")
+    to.put(b"$var wire ");
+    to.put_number(bits(ty).into());
+    to.put(b" ");
+    put_code(to, signal);
+    to.put(b" ");
+    to.put(name);
+    to.put(b" $end\n");
 }

@@ -1,5 +1,6 @@
 //! The text of a run behind its head, as its frames come.
-ghost use Rattle.std.specs.Prelude.{◌≡◌, ◌++◌, [], List, Option, None, OnOk, map};
+ghost use Rattle.std.specs.Prelude.{◌≡◌, [], List, Option, None, OnOk, map};
+ghost use Rattle.lh_text.specs.Writing.{Writes};
 ghost use Rattle.lh_types.specs.Values.{Datum};
 ghost use Rattle.lh_types.specs.Pictures.{picture};
 ghost use Rattle.lh_unit.specs.Trace as trace;
@@ -9,6 +10,7 @@ use crate::ending::{End, put_end};
 use crate::run::WaveMode;
 use crate::trace::put_frame;
 use crate::waveform::Waveform;
+use lh_text::Text;
 use lh_types::frame::Frame;
 use lh_types::ty::NoMemory;
 use lh_watch::watcher::Watcher;
@@ -36,14 +38,17 @@ impl Scribe {
 
     /// Takes a frame, and puts what can be written then at the end of `to`. After `NoMemory` nothing is said of the scribe and the
     /// text.
-    pub fn take(&mut self, alloc: Global, f: &Frame, to: &mut Vec<u8>) -> Result<(), NoMemory>
+    pub fn take(&mut self, alloc: Global, f: &Frame, to: &mut Text) -> Result<(), NoMemory>
         requires { KeepsSignals self.old }
         ensures steady { OnOk result (KeepsSignals self.new) }
         ensures put { OnOk result ((before : Option (List Datum)) (v : trace.Frame) → IsNext self.old before v (picture f.now) →
-            IsPut self.old self.new before v to.old.items to.new.items) }
+            IsPut self.old self.new before v to.old to.new) }
     {
         match self {
-            Scribe::Trace => put_frame(to, f),
+            Scribe::Trace => {
+                put_frame(to, f);
+                Ok(())
+            }
             Scribe::Vcd(Some(waveform)) => waveform.take(f, to),
             Scribe::Vcd(None) => {
                 *self = Scribe::Vcd(Some(Waveform::begin(alloc, f)?));
@@ -53,12 +58,15 @@ impl Scribe {
     }
 
     /// Puts what is left to be written where the run has ended so. After `NoMemory` nothing is said of the scribe and the text.
-    pub fn end<W: Watcher>(&mut self, end: End, ws: &[W], to: &mut Vec<u8>) -> Result<(), NoMemory>
+    pub fn end<W: Watcher>(&mut self, end: End, ws: &[W], to: &mut Text) -> Result<(), NoMemory>
         requires { KeepsSignals self.old }
-        ensures { OnOk result ((before : Option (List Datum)) → to.new.items ≡ to.old.items ++ text_left self.old before [] (map W.member ws.now) end) }
+        ensures { OnOk result ((before : Option (List Datum)) → Writes to.old to.new (text_left self.old before [] (map W.member ws.now) end)) }
     {
         match self {
-            Scribe::Trace => put_end(to, end, ws),
+            Scribe::Trace => {
+                put_end(to, end, ws);
+                Ok(())
+            }
             Scribe::Vcd(Some(waveform)) => waveform.write(to),
             Scribe::Vcd(None) => Ok(()),
         }

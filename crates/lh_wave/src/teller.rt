@@ -17,11 +17,11 @@ ghost use Rattle.lh_wave.specs.Going.{scribe_in, text_left, KeepsSignals, IsBehi
 use crate::ending::End;
 use crate::run::{WaveFault, WaveMode};
 use crate::scribe::Scribe;
-use crate::waiting::pass_on;
+use crate::waiting::{pass_on, write_out};
 use lh_io::count::Count;
 use lh_io::stream::Sink;
-use lh_io::whole::write_all;
 use lh_kernel::{Sim, SimStep};
+use lh_text::Text;
 use lh_types::frame::{Frame, Outcome};
 use lh_types::tally::Tally;
 use lh_watch::builtin::any_failed;
@@ -35,7 +35,7 @@ pub(crate) struct Teller {
     alloc: Global,
     scribe: Scribe,
     // What waits to be written.
-    text: Vec<u8>,
+    text: Text,
     failed: bool,
 }
 
@@ -50,7 +50,7 @@ impl Teller {
         Teller {
             alloc,
             scribe: Scribe::new(mode),
-            text: Vec::new(alloc),
+            text: Text::new(alloc),
             failed: false,
         }
     }
@@ -171,8 +171,7 @@ impl Teller {
         ensures never_fall { K.faults out.old ≤ K.faults out.new }
     {
         self.scribe.take(self.alloc, f, &mut self.text)?;
-        pass_on(&mut self.text, out)?;
-        Ok(())
+        pass_on(&mut self.text, out)
     }
 
     /// Writes what waits, and what is left to be written where the run has ended so.
@@ -190,9 +189,7 @@ impl Teller {
         ensures never_fall { K.faults out.old ≤ K.faults out.new }
     {
         self.scribe.end(end, ws, &mut self.text)?;
-        write_all(out, &self.text)?;
-        self.text.clear();
-        Ok(())
+        write_out(&self.text, out)
     }
 }
 

@@ -1,13 +1,14 @@
 //! The text of a frame of a trace.
-ghost use Rattle.std.specs.Prelude.{◌≡◌, ◌++◌, OnOk, IfOk, map, codes, if◌then◌else◌};
+ghost use Rattle.std.specs.Prelude.{◌≡◌, ◌++◌, IfOk, map, codes, if◌then◌else◌};
 ghost use Rattle.std.specs.List.{flat_map};
+ghost use Rattle.lh_text.specs.Writing.{Writes};
 ghost use Rattle.lh_types.specs.Pictures.{showing_of, picture};
 ghost use Rattle.lh_wave.specs.TraceText.{instant_line, change_line, outcome_line, frame_text};
 
 use crate::value::{put_moment, put_value};
+use lh_text::Text;
 use lh_time::Instant;
 use lh_types::frame::{Change, Frame, Outcome};
-use lh_types::text::{put, put_number};
 use lh_types::ty::NoMemory;
 use std::alloc::Global;
 
@@ -16,61 +17,59 @@ use std::alloc::Global;
 pub fn trace_frame(alloc: Global, f: &Frame) -> Result<Vec<u8>, NoMemory>
     ensures { IfOk result (λ text. text.items ≡ frame_text (picture f.now)) }
 {
-    let mut to = Vec::new(alloc);
-    put_frame(&mut to, f)?;
-    Ok(to)
+    let mut to = Text::new(alloc);
+    put_frame(&mut to, f);
+    to.finish()
 }
 
-/// Puts the text of a frame at the end of a text. After `NoMemory` nothing is said of the text.
-pub fn put_frame(to: &mut Vec<u8>, f: &Frame) -> Result<(), NoMemory>
-    ensures { OnOk result (to.new.items ≡ to.old.items ++ frame_text (picture f.now)) }
+/// Puts the text of a frame at the end of a text.
+pub fn put_frame(to: &mut Text, f: &Frame)
+    ensures { Writes to.old to.new (frame_text (picture f.now)) }
 {
-    put_instant(to, f.at)?;
-    put_changes(to, f.changes.as_slice())?;
-    put_outcomes(to, f.outcomes.as_slice())
+    put_instant(to, f.at);
+    put_changes(to, f.changes.as_slice());
+    put_outcomes(to, f.outcomes.as_slice());
 }
 
-fn put_instant(to: &mut Vec<u8>, at: Instant) -> Result<(), NoMemory>
-    ensures { OnOk result (to.new.items ≡ to.old.items ++ instant_line at) }
+fn put_instant(to: &mut Text, at: Instant)
+    ensures { Writes to.old to.new (instant_line at) }
 {
-    put(to, b"@ ")?;
-    put_moment(to, at.fs, at.delta, at.eps)?;
-    put(to, b"\n")
+    to.put(b"@ ");
+    put_moment(to, at.fs, at.delta, at.eps);
+    to.put(b"\n");
 }
 
-fn put_changes(to: &mut Vec<u8>, changes: &[Change]) -> Result<(), NoMemory>
-    ensures { OnOk result (to.new.items ≡ to.old.items ++ flat_map change_line (map showing_of changes.now)) }
+fn put_changes(to: &mut Text, changes: &[Change])
+    ensures { Writes to.old to.new (flat_map change_line (map showing_of changes.now)) }
 {
     for c in changes {
-        put_change(to, c)?;
+        put_change(to, c);
     }
-    Ok(())
 }
 
-fn put_change(to: &mut Vec<u8>, c: &Change) -> Result<(), NoMemory>
-    ensures { OnOk result (to.new.items ≡ to.old.items ++ change_line (showing_of c.now)) }
+fn put_change(to: &mut Text, c: &Change)
+    ensures { Writes to.old to.new (change_line (showing_of c.now)) }
 {
-    put_number(to, c.signal.into())?;
-    put(to, b" = ")?;
-    put_value(to, &c.value)?;
-    put(to, b"\n")
+    to.put_number(c.signal.into());
+    to.put(b" = ");
+    put_value(to, &c.value);
+    to.put(b"\n");
 }
 
-fn put_outcomes(to: &mut Vec<u8>, outcomes: &[Outcome]) -> Result<(), NoMemory>
-    ensures { OnOk result (to.new.items ≡ to.old.items ++ flat_map outcome_line outcomes.now) }
+fn put_outcomes(to: &mut Text, outcomes: &[Outcome])
+    ensures { Writes to.old to.new (flat_map outcome_line outcomes.now) }
 {
     for o in outcomes {
-        put_outcome(to, *o)?;
+        put_outcome(to, *o);
     }
-    Ok(())
 }
 
-fn put_outcome(to: &mut Vec<u8>, o: Outcome) -> Result<(), NoMemory>
-    ensures { OnOk result (to.new.items ≡ to.old.items ++ outcome_line o) }
+fn put_outcome(to: &mut Text, o: Outcome)
+    ensures { Writes to.old to.new (outcome_line o) }
 {
-    put(to, b"assert ")?;
-    put_number(to, o.instance.into())?;
-    put(to, came_to(o.passed))
+    to.put(b"assert ");
+    to.put_number(o.instance.into());
+    to.put(came_to(o.passed));
 }
 
 fn came_to(passed: bool) -> &'static [u8]

@@ -1,25 +1,41 @@
 //! Text that waits to be written to a sink.
-ghost use Rattle.std.specs.Prelude.{◌≤◌, OnOk, OnErr};
-ghost use Rattle.lh_io.specs.Streams.{Rose, AppendsProperPrefix};
-ghost use Rattle.lh_wave.specs.Going.{IsPassedOn};
+ghost use Rattle.std.specs.Prelude.{◌≡◌, ◌≤◌, true, IfErr, OnOk, IsErrOf};
+ghost use Rattle.lh_io.specs.Streams.{Rose, Appends};
+ghost use Rattle.lh_wave.specs.Going.{IsPassedOn, StopsShort};
 
-use lh_io::stream::{Failed, Sink};
+use crate::run::WaveFault;
+use lh_io::stream::Sink;
 use lh_io::whole::write_all;
+use lh_text::Text;
 
 /// From how much text on what waits is written, in whole lines: a write costs as much as a short frame.
 const PIECE: usize = 16384;
 
-/// Writes what waits, where it is long.
-pub(crate) fn pass_on<K: Sink>(text: &mut Vec<u8>, out: &mut K) -> Result<(), Failed>
+/// Writes what waits, where it is long. What waits is whole then.
+pub(crate) fn pass_on<K: Sink>(text: &mut Text, out: &mut K) -> Result<(), WaveFault>
+    ensures whole { OnOk result (text.old.is_whole ≡ true) }
     ensures told { OnOk result (IsPassedOn text.old.items text.new.items (K.written out.old) (K.written out.new)) }
-    ensures failed { OnErr result (AppendsProperPrefix (K.written out.old) (K.written out.new) text.old.items) }
-    ensures rose { OnErr result (Rose (K.faults out.old) (K.faults out.new)) }
+    ensures err { IfErr result (λ e. StopsShort e text.old (K.written out.old) (K.written out.new)) }
+    ensures rose { IsErrOf result WaveFault.WriteFault → Rose (K.faults out.old) (K.faults out.new) }
     ensures never_fall { K.faults out.old ≤ K.faults out.new }
 {
-    if text.len() < PIECE {
+    let bytes = text.as_bytes()?;
+    if bytes.len() < PIECE {
         return Ok(());
     }
-    write_all(out, text)?;
+    write_all(out, bytes)?;
     text.clear();
+    Ok(())
+}
+
+/// Writes all that waits.
+pub(crate) fn write_out<K: Sink>(text: &Text, out: &mut K) -> Result<(), WaveFault>
+    ensures whole { OnOk result (text.now.is_whole ≡ true) }
+    ensures told { OnOk result (Appends (K.written out.old) (K.written out.new) text.now.items) }
+    ensures err { IfErr result (λ e. StopsShort e text.now (K.written out.old) (K.written out.new)) }
+    ensures rose { IsErrOf result WaveFault.WriteFault → Rose (K.faults out.old) (K.faults out.new) }
+    ensures never_fall { K.faults out.old ≤ K.faults out.new }
+{
+    write_all(out, text.as_bytes()?)?;
     Ok(())
 }

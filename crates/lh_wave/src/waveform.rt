@@ -1,5 +1,6 @@
 //! The waveform of a run, as its frames come.
-ghost use Rattle.std.specs.Prelude.{◌≡◌, ◌∷◌, [], ◌++◌, List, OnOk, IfOk, true, map, slice_set, if◌then◌else◌};
+ghost use Rattle.std.specs.Prelude.{◌≡◌, ◌∷◌, [], List, OnOk, IfOk, true, map, slice_set, if◌then◌else◌};
+ghost use Rattle.lh_text.specs.Writing.{Writes, Leaves};
 ghost use Rattle.lh_types.specs.ValueOf.{datum_of};
 ghost use Rattle.lh_types.specs.Pictures.{showing_of, picture};
 ghost use Rattle.lh_wave.specs.WaveText.{WaveMoment, all_lines, dump_at, time_line, waveform_text};
@@ -7,8 +8,8 @@ ghost use Rattle.lh_wave.specs.Recorded.{IsKept, values_now, moment_now, first_m
 
 use crate::changed::Changed;
 use crate::wire::{put_time, put_wire};
+use lh_text::Text;
 use lh_types::frame::{Change, Frame};
-use lh_types::text::put;
 use lh_types::ty::NoMemory;
 use lh_types::val::Val;
 use std::alloc::Global;
@@ -45,12 +46,12 @@ impl Waveform {
 
     /// Takes a later frame; a change of a signal that is not there changes nothing. Where the frame is of a later physical time, the text of the time before is put at the
     /// end of `to`. After `NoMemory` nothing is said of the waveform and the text.
-    pub fn take(&mut self, f: &Frame, to: &mut Vec<u8>) -> Result<(), NoMemory>
+    pub fn take(&mut self, f: &Frame, to: &mut Text) -> Result<(), NoMemory>
         requires { IsKept self.old }
         ensures kept { OnOk result (IsKept self.new) }
         ensures values { OnOk result (values_now self.new ≡ changed_values (values_now self.old) (picture f.now).changes) }
         ensures left { OnOk result ((ms : List WaveMoment) →
-            to.new.items ++ left_text self.new ms ≡ to.old.items ++ left_text self.old (next_moment (values_now self.old) (picture f.now) ∷ ms)) }
+            Leaves to.old to.new (left_text self.new ms) (left_text self.old (next_moment (values_now self.old) (picture f.now) ∷ ms))) }
     {
         if f.at.fs == self.fs {
             return self.change_values(f.changes.as_slice());
@@ -62,21 +63,21 @@ impl Waveform {
 
     /// Puts what is still to be written at the end of `to`: the text of the last time. After `NoMemory`
     /// nothing is said of the waveform and the text.
-    pub fn write(&mut self, to: &mut Vec<u8>) -> Result<(), NoMemory>
+    pub fn write(&mut self, to: &mut Text) -> Result<(), NoMemory>
         requires { IsKept self.old }
         ensures kept { OnOk result (IsKept self.new) }
-        ensures text { OnOk result (to.new.items ≡ to.old.items ++ left_text self.old []) }
+        ensures text { OnOk result (Writes to.old to.new (left_text self.old [])) }
         ensures written { OnOk result (map datum_of self.new.written.items ≡ values_now self.old) }
         ensures dumped { OnOk result (self.new.dumped ≡ true) }
         ensures same { OnOk result (moment_now self.new ≡ moment_now self.old) }
     {
         if !self.dumped {
             self.changed.move_over(&mut self.written);
-            put_dump(to, self.fs, &self.written)?;
+            put_dump(to, self.fs, &self.written);
             self.dumped = true;
             return Ok(());
         }
-        put_time_if(to, self.fs, self.changed.differs(&self.written))?;
+        put_time_if(to, self.fs, self.changed.differs(&self.written));
         self.changed.put_over(to, &mut self.written)
     }
 
@@ -125,31 +126,29 @@ fn values_of(alloc: Global, changes: &[Change]) -> Result<Vec<Val>, NoMemory>
 }
 
 // Puts the values of the first time.
-fn put_dump(to: &mut Vec<u8>, fs: u64, now: &[Val]) -> Result<(), NoMemory>
-    ensures { OnOk result (to.new.items ≡ to.old.items ++ dump_at (record { fs = fs; values = map datum_of now.now })) }
+fn put_dump(to: &mut Text, fs: u64, now: &[Val])
+    ensures { Writes to.old to.new (dump_at (record { fs = fs; values = map datum_of now.now })) }
 {
-    put_time(to, fs)?;
-    put(to, b"$dumpvars\n")?;
-    put_all(to, now)?;
-    put(to, b"$end\n")
+    put_time(to, fs);
+    to.put(b"$dumpvars\n");
+    put_all(to, now);
+    to.put(b"$end\n");
 }
 
 // Puts the lines of all signals.
-fn put_all(to: &mut Vec<u8>, now: &[Val]) -> Result<(), NoMemory>
-    ensures { OnOk result (to.new.items ≡ to.old.items ++ all_lines 0 (map datum_of now.now)) }
+fn put_all(to: &mut Text, now: &[Val])
+    ensures { Writes to.old to.new (all_lines 0 (map datum_of now.now)) }
 {
     for (k, v) in now.iter().enumerate() {
-        put_wire(to, k as u64, v)?;
+        put_wire(to, k as u64, v);
     }
-    Ok(())
 }
 
 // Puts a time, if some signal has changed at it.
-fn put_time_if(to: &mut Vec<u8>, fs: u64, changed: bool) -> Result<(), NoMemory>
-    ensures { OnOk result (to.new.items ≡ to.old.items ++ (if changed then time_line fs else [])) }
+fn put_time_if(to: &mut Text, fs: u64, changed: bool)
+    ensures { Writes to.old to.new (if changed then time_line fs else []) }
 {
-    if !changed {
-        return Ok(());
+    if changed {
+        put_time(to, fs);
     }
-    put_time(to, fs)
 }

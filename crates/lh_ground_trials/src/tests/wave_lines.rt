@@ -1,6 +1,6 @@
 //! What no run writes: codes of signals past the first ones, and a value that is a time.
+use lh_text::Text;
 use lh_time::Delay;
-use lh_types::text::put;
 use lh_types::ty::NoMemory;
 use lh_types::val::Val;
 use lh_wave::code::put_code;
@@ -9,12 +9,12 @@ use std::alloc::Global;
 
 /// The codes of these signals, each with a space behind it.
 fn codes(alloc: Global, signals: &[u64]) -> Result<Vec<u8>, NoMemory> {
-    let mut to = Vec::new(alloc);
+    let mut to = Text::new(alloc);
     for signal in signals {
-        put_code(&mut to, *signal)?;
-        put(&mut to, b" ")?;
+        put_code(&mut to, *signal);
+        to.put(b" ");
     }
-    Ok(to)
+    to.finish()
 }
 
 #[test]
@@ -31,9 +31,9 @@ fn time(alloc: Global) -> Result<Vec<u8>, NoMemory> {
         delta: 2,
         eps: 3,
     });
-    let mut to = Vec::new(alloc);
-    put_value(&mut to, &time)?;
-    Ok(to)
+    let mut to = Text::new(alloc);
+    put_value(&mut to, &time);
+    to.finish()
 }
 
 #[test]

@@ -1,11 +1,12 @@
-use Rattle.std.proofs.Common.{◌++◌, map, refl, ap, get_or, sym, ◌∙◌}
-use Rattle.std.proofs.lemmas.List.{append-nil, drop_more, at_drop_all}
+use Rattle.std.proofs.Common.{map, refl, ap, get_or}
+use Rattle.std.proofs.lemmas.List.{drop_more, at_drop_all}
 use Rattle.lh_unit.specs.Arena.{naming, sizes}
 use Rattle.lh_unit.specs.Naming.{edge_text}
 use Rattle.lh_unit.specs.Within.{EdgeWithin}
 use Rattle.lh_unit.specs.Canon.{edge}
 use Rattle.lh_unit.specs.declared.inst.PhiEdge.{PhiEdge}
 use Rattle.lh_unit.proofs.Lists.{Each-at}
+use Rattle.lh_text.proofs.Parts.{all-left, none-left}
 use Rattle.lh_print.proofs.Joined.{in_row, in_row-first, row_step}
 use Rattle.lh_print.proofs.operands.put_edges.Goals as goal
 
@@ -14,7 +15,7 @@ abbrev none : PhiEdge
 none = record { value = record { 0 = 0 }; block = record { 0 = 0 } }
 
 pub loop-e-init : goal.loop-e-init
-loop-e-init c = ap (λ l. c.args.out.now.items ++ l) (in_row-first (map edge (map (edge_text (naming c.args.view.module.now c.args.view.unit.0)) c.args.edges.now)))
+loop-e-init c = all-left _ _ _ (in_row-first (map edge (map (edge_text (naming c.args.view.module.now c.args.view.unit.0)) c.args.edges.now)))
 
 pub put_edge-requires : goal.put_edge-requires
 put_edge-requires c = record {
@@ -24,10 +25,8 @@ put_edge-requires c = record {
 pub loop-e-preserved : goal.loop-e-preserved
 loop-e-preserved c =
     let f = naming c.args.view.module.now c.args.view.unit.0 in
-    row_step _ _ _ c.loop-e.before.now _ (edge (edge_text f (get_or c.args.edges.now c.loop-e.e-index none))) _ _
-    (ap (λ l. map edge (map (edge_text f) l)) (drop_more c.args.edges.now c.loop-e.e-index none c.loop-e-test.true)) refl c.in_ok-put_edge.ensures c.loop-e.invariant
+    row_step _ _ _ _ c.loop-e.before.now _ (edge (edge_text f (get_or c.args.edges.now c.loop-e.e-index none))) _ _
+    (ap (λ l. map edge (map (edge_text f) l)) (drop_more c.args.edges.now c.loop-e.e-index none c.loop-e-test.true)) refl c.put_edge.ensures c.loop-e.invariant
 
 pub returns : goal.returns
-returns c = sym (append-nil c.loop-e.out.items)
-    ∙ sym (at_drop_all (λ l. c.loop-e.out.items ++ in_row c.loop-e.before.now (map edge (map (edge_text (naming c.args.view.module.now c.args.view.unit.0)) l)))
-    c.args.edges.now c.loop-e.e-index c.loop-e-test.false) ∙ c.loop-e.invariant
+returns c = none-left _ _ _ _ (at_drop_all (λ l. in_row c.loop-e.before.now (map edge (map (edge_text (naming c.args.view.module.now c.args.view.unit.0)) l))) c.args.edges.now c.loop-e.e-index c.loop-e-test.false) c.loop-e.invariant

@@ -9,9 +9,9 @@ use Rattle.lh_print.proofs.Joined.{behind_step}
 use Rattle.lh_print.proofs.operands.put_operands_behind.Goals as goal
 
 pub loop-typed-preserved : goal.loop-typed-preserved
-loop-typed-preserved c = behind_step _ _ _ (operand (operand_text (naming c.args.view.module.now c.args.view.unit.0) c.typed-item.result)) _ _
+loop-typed-preserved c = behind_step _ _ _ _ (operand (operand_text (naming c.args.view.module.now c.args.view.unit.0) c.typed-item.result)) _ _
     (ap (λ l. behind_commas (map operand (map (operand_text (naming c.args.view.module.now c.args.view.unit.0)) l)))
-    (drop-item c.args.args.now c.loop-typed.typed-index c.typed-item.result c.loop-typed-test.true c.typed-item.is)) c.in_ok-put_operand.ensures c.loop-typed.invariant
+    (drop-item c.args.args.now c.loop-typed.typed-index c.typed-item.result c.loop-typed-test.true c.typed-item.is)) c.put_operand.ensures c.loop-typed.invariant
 
 pub put_operand-requires : goal.put_operand-requires
 put_operand-requires c = record {

@@ -1,5 +1,6 @@
-use Rattle.std.proofs.Common.{◌∷◌, ◌++◌, map, ap, sym, ◌∙◌, get_or}
+use Rattle.std.proofs.Common.{◌∷◌, map, ap, sym, subst, get_or}
 use Rattle.std.proofs.lemmas.List.{append-nil, drop_more}
+use Rattle.lh_text.specs.Writing.{Writes}
 use Rattle.lh_unit.specs.Arena.{naming, sizes}
 use Rattle.lh_unit.specs.Naming.{value_text}
 use Rattle.lh_unit.specs.Within.{ValueWithin}
@@ -17,6 +18,6 @@ pub loop-signal-preserved : goal.loop-signal-preserved
 loop-signal-preserved c =
     let f = naming c.args.view.module.now c.args.view.unit.0 in
     let name = value_text f (get_or c.args.signals.now c.loop-signal.signal-index (record { 0 = 0 })) in
-    behind_step _ _ _ (percent name) _ _
+    behind_step _ _ _ _ (percent name) _ _
     (ap (λ l. behind_commas (map percent (map (value_text f) l))) (drop_more c.args.signals.now c.loop-signal.signal-index (record { 0 = 0 }) c.loop-signal-test.true))
-    (c.in_ok-put_value.ensures ∙ ap (λ l. c.loop-signal.out.items ++ 44 ∷ 32 ∷ 37 ∷ l) (sym (append-nil name))) c.loop-signal.invariant
+    (subst (λ l. Writes c.loop-signal.out c.put_value.new.out (44 ∷ 32 ∷ 37 ∷ l)) (sym (append-nil name)) c.put_value.ensures) c.loop-signal.invariant

@@ -1,5 +1,5 @@
-use Rattle.std.proofs.Common.{◌++◌, None, map, ap, get_or, sym, ◌∙◌}
-use Rattle.std.proofs.lemmas.List.{append-nil, drop_more, at_drop_all}
+use Rattle.std.proofs.Common.{None, map, ap, get_or}
+use Rattle.std.proofs.lemmas.List.{drop_more, at_drop_all}
 use Rattle.lh_unit.specs.Arena.{naming, sizes}
 use Rattle.lh_unit.specs.Naming.{trigger_text}
 use Rattle.lh_unit.specs.Within.{TriggerWithin}
@@ -8,6 +8,7 @@ use Rattle.lh_unit.specs.Canon.{trigger}
 use Rattle.lh_unit.specs.declared.inst.Mode.TheVariants as mode
 use Rattle.lh_unit.specs.declared.inst.RegTrigger.{RegTrigger}
 use Rattle.lh_unit.proofs.Lists.{Each-at}
+use Rattle.lh_text.proofs.Parts.{none-left}
 use Rattle.lh_print.proofs.Joined.{behind_step}
 use Rattle.lh_print.proofs.operands.put_triggers_behind.Goals as goal
 
@@ -23,10 +24,8 @@ put_trigger-requires c = record {
 pub loop-t-preserved : goal.loop-t-preserved
 loop-t-preserved c =
     let f = naming c.args.view.module.now c.args.view.unit.0 in
-    behind_step _ _ _ (trigger (trigger_text f (get_or c.args.triggers.now c.loop-t.t-index none))) _ _
-    (ap (λ l. behind_commas (map trigger (map (trigger_text f) l))) (drop_more c.args.triggers.now c.loop-t.t-index none c.loop-t-test.true)) c.in_ok-put_trigger.ensures c.loop-t.invariant
+    behind_step _ _ _ _ (trigger (trigger_text f (get_or c.args.triggers.now c.loop-t.t-index none))) _ _
+    (ap (λ l. behind_commas (map trigger (map (trigger_text f) l))) (drop_more c.args.triggers.now c.loop-t.t-index none c.loop-t-test.true)) c.put_trigger.ensures c.loop-t.invariant
 
 pub returns : goal.returns
-returns c = sym (append-nil c.loop-t.out.items)
-    ∙ sym (at_drop_all (λ l. c.loop-t.out.items ++ render (behind_commas (map trigger (map (trigger_text (naming c.args.view.module.now c.args.view.unit.0)) l))))
-    c.args.triggers.now c.loop-t.t-index c.loop-t-test.false) ∙ c.loop-t.invariant
+returns c = none-left _ _ _ _ (at_drop_all (λ l. render (behind_commas (map trigger (map (trigger_text (naming c.args.view.module.now c.args.view.unit.0)) l)))) c.args.triggers.now c.loop-t.t-index c.loop-t-test.false) c.loop-t.invariant

@@ -1,4 +1,5 @@
-use Rattle.std.proofs.Common.{◌≡◌, ◌++◌, drop, map}
+use Rattle.std.proofs.Common.{drop, map}
+use Rattle.lh_text.specs.Writing.{Leaves}
 use Rattle.lh_unit.specs.Arena.{naming}
 use Rattle.lh_unit.specs.Naming.{trigger_text}
 use Rattle.lh_unit.specs.Pieces.{render, behind_commas}
@@ -6,5 +7,4 @@ use Rattle.lh_unit.specs.Canon.{trigger}
 use Rattle.lh_print.proofs.operands.put_triggers_behind.Given as goal
 
 abbrev pub invariant-loop-t : goal.invariant-loop-t
-invariant-loop-t l = l.out.items ++ render (behind_commas (map trigger (map (trigger_text (naming l.view.module.now l.view.unit.0)) (drop l.t-index l.triggers)))) ≡ l.initial.out.items
-    ++ render (behind_commas (map trigger (map (trigger_text (naming l.view.module.now l.view.unit.0)) l.triggers)))
+invariant-loop-t l = Leaves l.initial.out l.out (render (behind_commas (map trigger (map (trigger_text (naming l.view.module.now l.view.unit.0)) (drop l.t-index l.triggers))))) (render (behind_commas (map trigger (map (trigger_text (naming l.view.module.now l.view.unit.0)) l.triggers))))

@@ -1,15 +1,15 @@
-use Rattle.std.proofs.Common.{arith, ◌<◌, ◌++◌, map, refl, ap, sym, ◌∙◌}
-use Rattle.std.proofs.lemmas.List.{append-nil, at_drop_all}
+use Rattle.std.proofs.Common.{arith, ◌<◌, map, refl, ap}
+use Rattle.std.proofs.lemmas.List.{at_drop_all}
 use Rattle.lh_types.specs.Types.{row_of, node_count, node_count_row}
 use Rattle.lh_types.proofs.Rows.{node_count-get_or}
-use Rattle.lh_types.proofs.Lists.{append_twice}
 use Rattle.lh_unit.specs.CanonTypes.{type_pieces}
 use Rattle.lh_unit.proofs.Lists.{drop-item}
+use Rattle.lh_text.proofs.Parts.{all-left, none-left, two-written}
 use Rattle.lh_print.proofs.Joined.{in_row, in_row-types, row_step}
 use Rattle.lh_print.proofs.types.+put_type.Goals as goal
 
 pub put_types-loop-t-init : goal.put_types-loop-t-init
-put_types-loop-t-init t c = ap (λ l. c.args.out.now.items ++ l) (in_row-types c.args.types.now)
+put_types-loop-t-init t c = all-left _ _ _ (in_row-types c.args.types.now)
 
 pub put_types-put_type-requires : goal.put_types-put_type-requires
 put_types-put_type-requires t c = (
@@ -19,10 +19,9 @@ put_types-put_type-requires t c = (
 )
 
 pub put_types-loop-t-preserved : goal.put_types-loop-t-preserved
-put_types-loop-t-preserved t c = row_step _ _ _ c.loop-t.before.now _ (type_pieces c.t-item.result) _ _
+put_types-loop-t-preserved t c = row_step _ _ _ _ c.loop-t.before.now _ (type_pieces c.t-item.result) _ _
     (ap (λ l. map type_pieces l) (drop-item c.args.types.now c.loop-t.t-index c.t-item.result c.loop-t-test.true c.t-item.is)) refl
-    (append_twice _ _ _ _ _ c.in_ok-put.ensures c.in_ok-put_type.ensures) c.loop-t.invariant
+    (two-written _ _ _ _ _ c.put.ensures c.put_type.ensures) c.loop-t.invariant
 
 pub put_types-returns : goal.put_types-returns
-put_types-returns t c = sym (append-nil c.loop-t.out.items)
-    ∙ sym (at_drop_all (λ l. c.loop-t.out.items ++ in_row c.loop-t.before.now (map type_pieces l)) c.args.types.now c.loop-t.t-index c.loop-t-test.false) ∙ c.loop-t.invariant
+put_types-returns t c = none-left _ _ _ _ (at_drop_all (λ l. in_row c.loop-t.before.now (map type_pieces l)) c.args.types.now c.loop-t.t-index c.loop-t-test.false) c.loop-t.invariant

@@ -1,10 +1,11 @@
-use Rattle.std.proofs.Common.{◌≡◌, ◌<◌, ◌++◌, List, length, get_or, map, ap, sym, subst, ◌∙◌}
-use Rattle.std.proofs.lemmas.List.{append-nil, at_drop_all}
+use Rattle.std.proofs.Common.{◌≡◌, ◌<◌, List, length, get_or, map, ap, subst, ◌∙◌}
+use Rattle.std.proofs.lemmas.List.{at_drop_all}
 use Rattle.lh_unit.specs.Arena.{item_text_at}
 use Rattle.lh_unit.specs.Canon.{canon, canon_lines, item_lines}
 use Rattle.lh_unit.specs.declared.inst.Item.{Item}
 use Rattle.lh_unit.proofs.Lists.{drop-item}
 use Rattle.lh_unit.proofs.Placing.{item-placed}
+use Rattle.lh_text.proofs.Parts.{none-left}
 use Rattle.lh_print.proofs.Joined.{line_step}
 use Rattle.lh_print.proofs.units.put_items.Goals as goal
 
@@ -17,12 +18,11 @@ put_item-requires c =
 
 pub loop-item-preserved : goal.loop-item-preserved
 loop-item-preserved c = (
-  line_step _ _ _ (item_lines (item_text_at c.args.m.now c.item-item.result)) _ _
-      (ap (λ l. canon_lines (map (item_text_at c.args.m.now) l)) (drop-item _ c.loop-item.item-index c.item-item.result c.loop-item-test.true c.item-item.is)) c.in_ok-put_item.ensures
+  line_step _ _ _ _ (item_lines (item_text_at c.args.m.now c.item-item.result)) _ _
+      (ap (λ l. canon_lines (map (item_text_at c.args.m.now) l)) (drop-item _ c.loop-item.item-index c.item-item.result c.loop-item-test.true c.item-item.is)) c.put_item.ensures
       c.loop-item.invariant.0,
   c.loop-item.invariant.1,
 )
 
 pub returns : goal.returns
-returns c = sym (append-nil c.loop-item.out.items)
-    ∙ sym (at_drop_all (λ l. c.loop-item.out.items ++ canon (map (item_text_at c.args.m.now) l)) c.items-item-items.result.now c.loop-item.item-index c.loop-item-test.false) ∙ c.loop-item.invariant.0
+returns c = none-left _ _ _ _ (at_drop_all (λ l. canon (map (item_text_at c.args.m.now) l)) c.items-item-items.result.now c.loop-item.item-index c.loop-item-test.false) c.loop-item.invariant.0

@@ -1,8 +1,13 @@
-use Rattle.lh_wave.proofs.CodeLemmas.{code_more, code_end_on}
+use Rattle.std.proofs.Common.{refl}
+use Rattle.lh_text.proofs.Parts.{all-left}
+use Rattle.lh_wave.proofs.CodeLemmas.{code_more, code_end}
 use Rattle.lh_wave.proofs.code.put_code.Goals as goal
 
+pub loop-rest-init : goal.loop-rest-init
+loop-rest-init c = all-left _ _ _ refl
+
 pub loop-rest-preserved : goal.loop-rest-preserved
-loop-rest-preserved c = rw c.in_ok-put_digit.ensures (code_more _ _ c.loop-rest.rest c.loop-rest-test.true c.loop-rest.invariant)
+loop-rest-preserved c = code_more _ _ _ c.args.signal c.loop-rest.rest c.loop-rest-test.true c.put_digit.ensures c.loop-rest.invariant
 
 pub returns : goal.returns
-returns c = code_end_on c.put_digit-2.result _ _ _ c.loop-rest.rest c.loop-rest-test.false c.loop-rest.invariant c.put_digit-2.ensures
+returns c = code_end _ _ _ c.args.signal c.loop-rest.rest c.loop-rest-test.false c.put_digit-2.ensures c.loop-rest.invariant

@@ -1,5 +1,6 @@
-use Rattle.lh_wave.proofs.Joined.{three}
+use Rattle.std.specs.Prelude.{◌++◌, codes, decimal}
+use Rattle.lh_text.proofs.Parts.{two-written}
 use Rattle.lh_wave.proofs.ending.put_runaway.Goals as goal
 
 pub returns : goal.returns
-returns c = three c.put-2.result _ _ _ _ _ _ _ c.in_ok-put.ensures c.in_ok-put_number.ensures c.put-2.ensures
+returns c = two-written _ _ _ (codes "end runaway " ++ decimal c.args.instance) (codes "\n") (two-written _ _ _ (codes "end runaway ") (decimal c.args.instance) c.put.ensures c.put_number.ensures) c.put-2.ensures

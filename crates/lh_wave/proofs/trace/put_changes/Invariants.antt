@@ -4,4 +4,4 @@ use Rattle.lh_wave.proofs.FrameLemmas.{Writing}
 use Rattle.lh_wave.proofs.trace.put_changes.Given as goal
 
 abbrev pub invariant-loop-c : goal.invariant-loop-c
-invariant-loop-c l = Writing (λ c. change_line (showing_of c)) l.fn.to.items l.to.items l.changes l.c-index
+invariant-loop-c l = Writing (λ c. change_line (showing_of c)) l.fn.to l.to l.changes l.c-index

@@ -3,4 +3,4 @@ use Rattle.lh_wave.proofs.FrameLemmas.{Writing}
 use Rattle.lh_wave.proofs.trace.put_outcomes.Given as goal
 
 abbrev pub invariant-loop-o : goal.invariant-loop-o
-invariant-loop-o l = Writing outcome_line l.fn.to.items l.to.items l.outcomes l.o-index
+invariant-loop-o l = Writing outcome_line l.fn.to l.to l.outcomes l.o-index

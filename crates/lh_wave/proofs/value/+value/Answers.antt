@@ -1,4 +1,4 @@
-use Rattle.std.proofs.Common.{◌++◌, ap, ◌∙◌, arith}
+use Rattle.std.proofs.Common.{arith}
 use Rattle.lh_types.proofs.DatumRows.{part-datum_count}
 use Rattle.lh_wave.proofs.ValueWalks.{ValuesAt-next, ValuesAt-end}
 use Rattle.lh_wave.proofs.value.+value.Goals as goal
@@ -10,7 +10,7 @@ put_values-put_value-requires t c =
 
 pub put_values-loop-i-preserved : goal.put_values-loop-i-preserved
 put_values-loop-i-preserved t c =
-    ValuesAt-next _ _ _ _ _ _ _ _ c.loop-i.invariant c.loop-i-test.true c.v-item.is (c.in_ok-put.ensures ∙ ap (λ l. c.loop-i.to.items ++ l) c.comma_before.ensures) c.in_ok-put_value.ensures
+    ValuesAt-next _ _ _ _ _ _ _ _ _ c.loop-i.invariant c.loop-i-test.true c.v-item.is c.comma_before.ensures c.put.ensures c.put_value.ensures
 
 pub put_values-returns : goal.put_values-returns
 put_values-returns t c = ValuesAt-end _ _ _ _ _ c.loop-i.invariant c.loop-i-test.false

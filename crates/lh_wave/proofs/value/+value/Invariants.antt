@@ -14,4 +14,4 @@ abbrev pub decreases-put_values : goal.decreases-put_values
 decreases-put_values l = 2 * datum_count_row (data_row l.vs.now)
 
 abbrev pub invariant-put_values-loop-i : goal.invariant-put_values-loop-i
-invariant-put_values-loop-i l = ValuesAt l.fn.to.items l.to.items l.fn.vs l.v-items l.i
+invariant-put_values-loop-i l = ValuesAt l.fn.to l.to l.fn.vs l.v-items l.i

@@ -2,4 +2,4 @@ use Rattle.lh_wave.proofs.Recording.{AllWriting}
 use Rattle.lh_wave.proofs.waveform.put_all.Given as goal
 
 abbrev pub invariant-loop-k : goal.invariant-loop-k
-invariant-loop-k l = AllWriting l.fn.to.items l.to.items l.now l.k
+invariant-loop-k l = AllWriting l.fn.to l.to l.now l.k

@@ -10,4 +10,4 @@ abbrev pub decreases-put_row_bits : goal.decreases-put_row_bits
 decreases-put_row_bits l = datum_count_row (data_row l.vs.now)
 
 abbrev pub invariant-put_row_bits-loop-v : goal.invariant-put_row_bits-loop-v
-invariant-put_row_bits-loop-v l = BitsAt l.fn.to.items l.to.items l.fn.vs l.v-items l.v-index
+invariant-put_row_bits-loop-v l = BitsAt l.fn.to l.to l.fn.vs l.v-items l.v-index

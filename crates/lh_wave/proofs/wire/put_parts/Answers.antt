@@ -1,20 +1,16 @@
 use Rattle.std.proofs.Common.{◌≡◌, ◌-◌, length, arith}
 use Rattle.lh_types.specs.ValueOf.{datum_of}
 use Rattle.lh_types.specs.Bits.{value_bits}
-use Rattle.lh_wave.proofs.WireLemmas.{turned_behind, one_bit, more_bits}
+use Rattle.lh_wave.proofs.WireLemmas.{one_bit, more_bits}
 use Rattle.lh_wave.proofs.wire.put_parts.Goals as goal
 
-pub returns-then-len-start-eq1 : goal.returns-then-len-start-eq1
-returns-then-len-start-eq1 c =
-    let start : c.len-start.result ≡ length c.args.to.now.items = omega (arith, c.args.to.now.ok.0) in
-    let one : length c.reverse_from.new.to.items - c.len-start.result ≡ 1 = omega (arith, c.reverse_from.new.to.ok.0) in
-    let turned = turned_behind _ c.args.to.now.items _ _ (value_bits (datum_of c.args.v.now)) start c.in_ok-put_value_bits.ensures c.reverse_from.ensures in
-    one_bit _ _ _ (value_bits (datum_of c.args.v.now)) start turned one
+pub returns-then-saturating_sub-eq1 : goal.returns-then-saturating_sub-eq1
+returns-then-saturating_sub-eq1 c =
+    let count : c.saturating_sub.result ≡ length c.put_value_bits.new.to.items - length c.args.to.now.items = omega (arith, c.saturating_sub.ensures, c.len.ensures, c.len-start.ensures) in
+    one_bit c.saturating_sub.result c.args.to.now _ (value_bits (datum_of c.args.v.now)) count c.if-saturating_sub-eq1.true c.put_value_bits.ensures
 
 pub returns : goal.returns
 returns c =
-    let start : c.len-start.result ≡ length c.args.to.now.items = omega (arith, c.args.to.now.ok.0) in
-    let many : length c.reverse_from.new.to.items - c.len-start.result ≡ 1 → ⊥ =
-    λ q. c.if-len-start-eq1.false (let one : c.len.result - c.len-start.result ≡ 1 = omega (arith, q, c.reverse_from.new.to.ok.0) in one) in
-    let turned = turned_behind _ c.args.to.now.items _ _ (value_bits (datum_of c.args.v.now)) start c.in_ok-put_value_bits.ensures c.reverse_from.ensures in
-    more_bits c.mark_from.result _ _ _ _ (value_bits (datum_of c.args.v.now)) start turned many c.mark_from.ensures
+    let count : c.saturating_sub.result ≡ length c.put_value_bits.new.to.items - length c.args.to.now.items = omega (arith, c.saturating_sub.ensures, c.len.ensures, c.len-start.ensures) in
+    more_bits c.saturating_sub.result c.len-start.result c.args.to.now c.put_value_bits.new.to _ _ _ (value_bits (datum_of c.args.v.now)) count c.if-saturating_sub-eq1.false c.len-start.ensures
+    c.put_value_bits.ensures c.put.ensures c.reverse_from.ensures.items c.reverse_from.ensures.whole c.put-2.ensures

@@ -13,5 +13,5 @@ abbrev pub invariant-loop-child : goal.invariant-loop-child
 invariant-loop-child l = record {
   whole : l.child-items ≡ numbers_of l.fn.self.children l.instance;
   text : Writing (scope_text (l.steps - 1) (shown_in (design_text l.fn.self.«module».now l.fn.self.design.now)) (signals_in (design_text l.fn.self.«module».now l.fn.self.design.now)))
-      l.initial.to.items l.to.items l.child-items l.child-index;
+      l.initial.to l.to l.child-items l.child-index;
 }

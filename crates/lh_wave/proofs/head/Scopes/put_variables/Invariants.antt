@@ -5,4 +5,4 @@ use Rattle.lh_wave.proofs.FrameLemmas.{Writing}
 use Rattle.lh_wave.proofs.head.Scopes.put_variables.Given as goal
 
 abbrev pub invariant-loop-k : goal.invariant-loop-k
-invariant-loop-k l = Writing (variable_at (signals_in (design_text l.self.«module».now l.self.design.now))) l.fn.to.items l.to.items l.numbers l.k-index
+invariant-loop-k l = Writing (variable_at (signals_in (design_text l.self.«module».now l.self.design.now))) l.fn.to l.to l.numbers l.k-index
