@@ -3,7 +3,7 @@
 //! Whoever writes a text of many parts asks once, at its end, whether there was memory for all of it.
 #![tactic(auto)]
 
-ghost use Rattle.std.specs.Prelude.{◌≡◌, ◌∷◌, [], ◌++◌, true, false, decimal, length, take, drop, reverse, IfOk};
+ghost use Rattle.std.specs.Prelude.{◌≡◌, ◌∷◌, [], ◌++◌, true, false, decimal, length, take, drop, reverse, IfOk, OnErr};
 ghost use Rattle.lh_text.specs.Writing.{Writes};
 
 use lh_types::text;
@@ -98,6 +98,7 @@ impl Text {
     pub fn as_bytes(&self) -> Result<&[u8], NoMemory>
         ensures whole { IfOk result (λ _. self.now.is_whole ≡ true) }
         ensures bytes { IfOk result (λ b. b.now ≡ self.now.items) }
+        ensures short { OnErr result (self.now.is_whole ≡ false) }
     {
         if self.is_whole {
             Ok(&self.bytes)
@@ -125,6 +126,7 @@ impl Text {
     pub fn finish(self) -> Result<Vec<u8>, NoMemory>
         ensures whole { IfOk result (λ _. self.is_whole ≡ true) }
         ensures bytes { IfOk result (λ v. v.items ≡ self.items) }
+        ensures short { OnErr result (self.is_whole ≡ false) }
     {
         if self.is_whole {
             Ok(self.bytes)

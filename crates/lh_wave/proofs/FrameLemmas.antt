@@ -1,7 +1,8 @@
 -- Texts of a list's items, written one behind the other.
-use Rattle.std.proofs.Common.{◌≡◌, ℕ, ◌+◌, ◌<◌, ◌≤◌, List, [], ◌∷◌, ◌++◌, length, get_or, drop, map, refl, ap, sym, ◌∙◌, append_assoc, subst}
+use Rattle.std.proofs.Common.{◌≡◌, ℕ, ◌+◌, ◌<◌, ◌≤◌, List, [], ◌∷◌, ◌++◌, length, get_or, drop, map, ap, sym, ◌∙◌, append_assoc, subst}
 use Rattle.std.specs.List.{flat_map}
 use Rattle.std.proofs.lemmas.List.{append-nil, drop_all, drop_more}
+use Rattle.std.proofs.lemmas.List.Folds.{flat_map-map}
 use Rattle.lh_text.specs.Writing.{Written, Writes, Leaves}
 use Rattle.lh_text.proofs.Parts.{less-left, none-left}
 
@@ -29,13 +30,9 @@ Writing-next_at text start to next xs i d w h g =
 pub Writing-end : {X : Type 0} (text : X → List ℕ) (start to : Written) (xs : List X) (i : ℕ) → Writing text start to xs i → length xs ≤ i → Writes start to (flat_map text xs)
 Writing-end text start to xs i w h = none-left start to (flat_map text (drop i xs)) (flat_map text xs) (no_text text xs i h) w
 
-pub flat_map-map : {X Y : Type 0} (text : Y → List ℕ) (view : X → Y) (xs : List X) → flat_map (λ x. text (view x)) xs ≡ flat_map text (map view xs)
-flat_map-map text view [] = refl
-flat_map-map text view (x ∷ xs) = ap (λ l. text (view x) ++ l) (flat_map-map text view xs)
-
 pub Writing-end_map : {X Y : Type 0} (text : Y → List ℕ) (view : X → Y) (start to : Written) (xs : List X) (i : ℕ) → Writing (λ x. text (view x)) start to xs i → length xs ≤ i
     → Writes start to (flat_map text (map view xs))
-Writing-end_map text view start to xs i w h = subst (Writes start to) (flat_map-map text view xs) (Writing-end (λ x. text (view x)) start to xs i w h)
+Writing-end_map text view start to xs i w h = subst (Writes start to) (sym (flat_map-map text view xs)) (Writing-end (λ x. text (view x)) start to xs i w h)
 
 -- the same of a list of bytes: what is put, and what is left to be put, is all
 abbrev pub Reporting : {X : Type 0} → (X → List ℕ) → (start to : List ℕ) → List X → ℕ → Type 0
