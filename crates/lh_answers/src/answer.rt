@@ -83,6 +83,12 @@ pub fn shown<P: Program>(
     text: &[u8],
 ) -> Result<Vec<u8>, NoMemory> {
     let ran = program.run(alloc, words, text)?;
+    let answer = shown_by(alloc, &ran);
+    drop(ran);
+    answer
+}
+
+fn shown_by(alloc: Global, ran: &Ran) -> Result<Vec<u8>, NoMemory> {
     let mut answer = Vec::from_slice(alloc, ran.out.written())?;
     if ran.code != RUNAWAY {
         put(&mut answer, ran.log.written())?;
@@ -98,8 +104,14 @@ fn left<P: Program>(
     text: &[u8],
 ) -> Result<Vec<u8>, NoMemory> {
     let ran = program.run(alloc, words, text)?;
+    let answer = left_by(alloc, &ran);
+    drop(ran);
+    answer
+}
+
+fn left_by(alloc: Global, ran: &Ran) -> Result<Vec<u8>, NoMemory> {
     let mut answer = Vec::new(alloc);
-    put_left(&mut answer, &ran)?;
+    put_left(&mut answer, ran)?;
     Ok(answer)
 }
 
@@ -115,6 +127,13 @@ fn put_left(to: &mut Vec<u8>, ran: &Ran) -> Result<(), NoMemory> {
 /// Whether a file is well formed.
 fn verified<P: Program>(alloc: Global, program: &P, text: &[u8]) -> Result<Vec<u8>, NoMemory> {
     let ran = program.run(alloc, "check", text)?;
+    let answer = verdict_of(alloc, &ran);
+    drop(ran);
+    answer
+}
+
+/// What the program says of a file that it checks.
+fn verdict_of(alloc: Global, ran: &Ran) -> Result<Vec<u8>, NoMemory> {
     if ran.code == 0 {
         return said(alloc, b"well formed\n");
     }
@@ -137,7 +156,9 @@ fn without_name(alloc: Global, line: &str) -> Result<Vec<u8>, NoMemory> {
 /// Whether the program writes a text as it is.
 fn compared<P: Program>(alloc: Global, program: &P, text: &[u8]) -> Result<Vec<u8>, NoMemory> {
     let ran = program.run(alloc, "check", text)?;
-    said_alike(alloc, ran.out.written() == text)
+    let alike = ran.out.written() == text;
+    drop(ran);
+    said_alike(alloc, alike)
 }
 
 /// Whether the lowered file shows what the file shows, where that is something.
@@ -148,9 +169,36 @@ fn beside_lowered<P: Program>(
     text: &[u8],
 ) -> Result<Vec<u8>, NoMemory> {
     let lowered = program.run(alloc, "lower", text)?;
+    let alike = show_alike(alloc, program, words, text, lowered.out.written());
+    drop(lowered);
+    said_alike(alloc, alike?)
+}
+
+/// Whether two files show the same, where that is something.
+fn show_alike<P: Program>(
+    alloc: Global,
+    program: &P,
+    words: &str,
+    text: &[u8],
+    other: &[u8],
+) -> Result<bool, NoMemory> {
     let one = program.run(alloc, words, text)?;
-    let other = program.run(alloc, words, lowered.out.written())?;
-    said_alike(alloc, are_alike(&one, &other))
+    let alike = shows_this(alloc, program, words, other, &one);
+    drop(one);
+    alike
+}
+
+fn shows_this<P: Program>(
+    alloc: Global,
+    program: &P,
+    words: &str,
+    text: &[u8],
+    one: &Ran,
+) -> Result<bool, NoMemory> {
+    let other = program.run(alloc, words, text)?;
+    let alike = are_alike(one, &other);
+    drop(other);
+    Ok(alike)
 }
 
 fn are_alike(one: &Ran, other: &Ran) -> bool {
@@ -175,8 +223,23 @@ fn printed<P: Program>(alloc: Global, program: &P, text: &[u8]) -> Result<Vec<u8
 /// The canonical text of a text, if it reads.
 fn canonical(alloc: Global, text: &[u8]) -> Result<Option<Vec<u8>>, NoMemory> {
     match file_of(alloc, text) {
-        Some(module) => Ok(Some(print(alloc, &module)?)),
+        Some(module) => {
+            let text = print(alloc, &module);
+            drop(module);
+            Ok(Some(text?))
+        }
         None => Ok(None),
+    }
+}
+
+/// Whether a text reads.
+fn reads(alloc: Global, text: &[u8]) -> bool {
+    match file_of(alloc, text) {
+        Some(module) => {
+            drop(module);
+            true
+        }
+        None => false,
     }
 }
 
@@ -187,12 +250,19 @@ fn line_of<P: Program>(
     number: u32,
     text: &[u8],
 ) -> Result<Vec<u8>, NoMemory> {
-    if file_of(alloc, text).is_none() {
+    if !reads(alloc, text) {
         return shown(alloc, program, "check", text);
     }
     let printed = printed(alloc, program, text)?;
+    let line = line_in(alloc, number, &printed);
+    drop(printed);
+    line
+}
+
+/// A line of a text.
+fn line_in(alloc: Global, number: u32, text: &[u8]) -> Result<Vec<u8>, NoMemory> {
     let before = number.saturating_sub(1) as usize;
-    let line = str::from_utf8(&printed)
+    let line = str::from_utf8(text)
         .unwrap_or("")
         .lines()
         .nth(before)
@@ -205,11 +275,15 @@ fn cut(alloc: Global, text: &[u8]) -> Result<Vec<u8>, NoMemory> {
     let mut answer = Vec::new(alloc);
     for n in 0..text.len() + 1 {
         if let Some(front) = text.get(..n) {
-            if file_of(alloc, front).is_some() {
-                put_number(&mut answer, n as u64)?;
-                put(&mut answer, b"\n")?;
+            if reads(alloc, front) {
+                put_length(&mut answer, n as u64)?;
             }
         }
     }
     Ok(answer)
+}
+
+fn put_length(to: &mut Vec<u8>, length: u64) -> Result<(), NoMemory> {
+    put_number(to, length)?;
+    put(to, b"\n")
 }

@@ -69,7 +69,11 @@ pub fn of_top<P: Program>(
 ) -> Result<Vec<u8>, NoMemory> {
     let (top, words) = words.split_once(' ').unwrap_or((words, ""));
     match load(alloc, text) {
-        Some(file) => of_file(alloc, program, asked, top, words, &file, text),
+        Some(file) => {
+            let answer = of_file(alloc, program, asked, top, words, &file, text);
+            drop(file);
+            answer
+        }
         None => shown(alloc, program, "check", text),
     }
 }
@@ -102,6 +106,7 @@ fn counted(alloc: Global, design: Design) -> Result<Vec<u8>, NoMemory> {
     let instances = design.instances().len();
     let signals = design.signals().len();
     let bits = design.init().len();
+    drop(design);
     let text = format!(in alloc; "instances {instances}\nsignals {signals}\nbits {bits}\n")?;
     Ok(text.into_bytes())
 }

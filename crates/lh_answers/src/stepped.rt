@@ -31,7 +31,9 @@ fn put_simulated(
     requires { IsDesignOf m.now design }
 {
     let mut sim = Sim::new(alloc, m, design)?;
-    put_stepped(to, &mut sim, steps)
+    let told = put_stepped(to, &mut sim, steps);
+    drop(sim);
+    told
 }
 
 fn put_stepped(to: &mut Text, sim: &mut Sim<'_>, steps: u32) -> Result<(), NoMemory> {
@@ -56,7 +58,9 @@ fn put_step(to: &mut Text, sim: &mut Sim<'_>, count: &mut Count) -> Result<bool,
     }
     let step = sim.step(count)?;
     put_told(to, &step);
-    Ok(matches!(step, SimStep::Frame(_)))
+    let goes = matches!(step, SimStep::Frame(_));
+    drop(step);
+    Ok(goes)
 }
 
 /// What a step tells.
@@ -89,7 +93,9 @@ fn put_senses(to: &mut Text, sim: &Sim<'_>) {
 fn put_values(to: &mut Text, sim: &Sim<'_>) -> Result<(), NoMemory> {
     for signal in 0..signals_of(sim) {
         if (signal as usize) < sim.design().signals().len() {
-            put_value(to, &sim.value(signal)?);
+            let value = sim.value(signal)?;
+            put_value(to, &value);
+            drop(value);
             to.put(b" ");
         }
     }

@@ -27,15 +27,24 @@ pub fn watched(alloc: Global, m: &Module, design: Design, words: &str) -> Result
 {
     let (steps, words) = words.split_once(' ').unwrap_or((words, ""));
     let mut watchers = speakers(alloc, words)?;
+    let answer = watched_by(alloc, m, design, number(steps).max(1), &mut watchers);
+    drop(watchers);
+    answer
+}
+
+/// The same of these watchers.
+fn watched_by(
+    alloc: Global,
+    m: &Module,
+    design: Design,
+    steps: u32,
+    watchers: &mut Vec<Speaker>,
+) -> Result<Vec<u8>, NoMemory>
+    requires design { IsDesignOf m.now design }
+    requires steps { 0 < steps }
+{
     let mut answer = Text::new(alloc);
-    put_watched(
-        &mut answer,
-        alloc,
-        m,
-        design,
-        number(steps).max(1),
-        &mut watchers,
-    )?;
+    put_watched(&mut answer, alloc, m, design, steps, watchers)?;
     answer.finish()
 }
 
@@ -51,7 +60,9 @@ fn put_watched(
     requires steps { 0 < steps }
 {
     let mut sim = Sim::new(alloc, m, design)?;
-    put_run(to, alloc, m, &mut sim, steps, watchers)
+    let told = put_run(to, alloc, m, &mut sim, steps, watchers);
+    drop(sim);
+    told
 }
 
 /// The same of a simulation before its first frame.
@@ -69,7 +80,7 @@ fn put_run(
 {
     let mut out = sink(alloc)?;
     let mut reports = Vec::new(alloc);
-    match run_wave(
+    let told = match run_wave(
         alloc,
         sim,
         m,
@@ -81,7 +92,9 @@ fn put_run(
     ) {
         Ok(ending) => put_shown(to, alloc, out.written(), ending.end, watchers, &reports),
         Err(fault) => put_fault(to, alloc, fault, watchers),
-    }
+    };
+    drop(out);
+    told
 }
 
 fn put_shown(

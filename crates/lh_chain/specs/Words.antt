@@ -1,50 +1,25 @@
 -- Words by which the items of a file are told.
 use Rattle.std.specs.Prelude.{ℕ, List, [], ◌∷◌, Some, None, codes, true, false}
 use Prim.Native.String.{String}
-use Rattle.lh_types.specs.Types.{TypeTree, int_type, signal_type}
-use Rattle.lh_types.specs.Values.{int_value, time_value}
+use Rattle.lh_types.specs.Types.{TypeTree, signal_type}
 use Rattle.lh_types.specs.declared.op.Op.{Op}
 use Rattle.lh_names.specs.declared.name.UnitName.{UnitName}
 use Rattle.lh_unit.specs.declared.inst.UnitKind.TheVariants as kind
+pub use Rattle.lh_unit.specs.Worded.{bit, word, typed, plain, gives, does, number}
+use Rattle.lh_unit.specs.Worded.{global, time}
 use Rattle.lh_unit.specs.Contents.{OperandText, InstText, const_text, pure_text, sig_text, prb_text, drv_text, child_text, LineText, BlockText, ArgText, UnitText}
-
--- i1
-abbrev pub bit : TypeTree
-bit = int_type 1
-
--- i32
-abbrev pub word : TypeTree
-word = int_type 32
 
 -- @n
 abbrev pub unit_at : String → UnitName
-unit_at n = record { sigil = 64; name = codes n }
-
--- an operand with its type, and without
-abbrev pub typed : TypeTree → List ℕ → OperandText
-typed t n = record { value = n; ty = Some t }
-
-abbrev pub plain : List ℕ → OperandText
-plain n = record { value = n; ty = None }
+unit_at n = global (codes n)
 
 -- a signal that carries this type
 abbrev pub signal : TypeTree → List ℕ → OperandText
 signal t n = typed (signal_type t) n
 
--- a line that gives a value of this name, and one that gives none
-abbrev pub gives : List ℕ → InstText → LineText
-gives n i = record { result = Some n; inst = i }
-
-abbrev pub does : InstText → LineText
-does i = record { result = None; inst = i }
-
--- const iN k
-abbrev pub number : (bits k : ℕ) → InstText
-number bits k = const_text (int_value bits k)
-
 -- const time, of so many femtoseconds and delta steps
 abbrev pub delay : (fs delta : ℕ) → InstText
-delay fs delta = const_text (time_value (record { fs = fs; delta = delta; eps = 0 }))
+delay fs delta = const_text (time fs delta)
 
 -- a signal that begins with a value
 abbrev pub begins_with : TypeTree → String → InstText

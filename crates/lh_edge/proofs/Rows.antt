@@ -1,13 +1,13 @@
 -- Conditions of flip-flops and their triggers, computed.
 use Rattle.std.proofs.Common.{◌≡◌, ℕ, Bool, true, false, [], ◌∷◌, refl}
 use Rattle.lh_types.specs.Types.{int_type}
-use Rattle.lh_types.specs.declared.op.Op.TheVariants.{Not, And, Or, Neq}
+use Rattle.lh_types.specs.declared.op.Op.TheVariants.{Or, Neq}
 use Rattle.lh_types.specs.Apply.{apply}
 use Rattle.lh_types.specs.ApplyInt.{integer_row, row_width}
 use Rattle.lh_types.specs.Types.{array_type}
 use Rattle.lh_term.specs.declared.part.Part.{Part}
 use Rattle.lh_term.specs.Tree.{Tree, past_of, now_of}
-use Rattle.lh_term.specs.Make.{bit_of, make_operation}
+use Rattle.lh_term.specs.Make.{bit_of, make_operation, negation, both}
 use Rattle.lh_edge.specs.Atoms.{edge_part, atoms_of}
 use Rattle.lh_edge.specs.Shown.{is_edge_shown, has_too_many_atoms}
 use Rattle.lh_edge.specs.Triggers.{TriggerTree, gate_of, triggers_of}
@@ -21,12 +21,6 @@ before k = past_of (argument k)
 
 abbrev after : ℕ → Tree
 after k = now_of (argument k)
-
-abbrev not_ : Tree → Tree
-not_ x = make_operation Not (x ∷ [])
-
-abbrev both : Tree → Tree → Tree
-both x y = make_operation And (x ∷ y ∷ [])
 
 abbrev either : Tree → Tree → Tree
 either x y = make_operation Or (x ∷ y ∷ [])
@@ -61,17 +55,17 @@ both_triggers = refl
 -- ---- a reset that does not wait for the clock
 
 abbrev falls : ℕ → Tree
-falls k = both (changed k) (not_ (after k))
+falls k = both (changed k) (negation (after k))
 
 abbrev event : Tree
 event = either (rises 0) (falls 1)
 
-reset_edge : is_edge_shown (argument 0 ∷ argument 1 ∷ []) (both event (not_ (after 1))) ≡ true
+reset_edge : is_edge_shown (argument 0 ∷ argument 1 ∷ []) (both event (negation (after 1))) ≡ true
 unfolding is_edge_shown edge_part atoms_of
 reset_edge = refl
 
 -- at the clock it is reset where the reset is 0, and at the reset's fall in any case
-reset_triggers : triggers_of (argument 0 ∷ argument 1 ∷ []) (both event (not_ (after 1))) ≡ trigger true 0 (not_ (after 1)) ∷ trigger false 1 (bit_of true) ∷ []
+reset_triggers : triggers_of (argument 0 ∷ argument 1 ∷ []) (both event (negation (after 1))) ≡ trigger true 0 (negation (after 1)) ∷ trigger false 1 (bit_of true) ∷ []
 unfolding triggers_of edge_part atoms_of gate_of apply integer_row row_width
 reset_triggers = refl
 
@@ -91,7 +85,7 @@ unfolding is_edge_shown edge_part atoms_of
 gated_by_the_past = refl
 
 -- the edge part has only what contains a value before, and that is true where nothing changes
-now_stands_alone : is_edge_shown (argument 0 ∷ []) (both (not_ (before 0)) (after 0)) ≡ false
+now_stands_alone : is_edge_shown (argument 0 ∷ []) (both (negation (before 0)) (after 0)) ≡ false
 unfolding is_edge_shown edge_part atoms_of
 now_stands_alone = refl
 
@@ -114,7 +108,7 @@ compared_as_an_array = refl
 -- ---- an edge part that is 0 is edge-shown, without triggers
 
 abbrev never : Tree
-never = both (both (before 0) (after 1)) (not_ (before 0))
+never = both (both (before 0) (after 1)) (negation (before 0))
 
 never_part : edge_part never ≡ bit_of false
 unfolding edge_part

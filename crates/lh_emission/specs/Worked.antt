@@ -1,12 +1,12 @@
 -- The entities of small processes, from their rows.
 use Rattle.std.specs.Prelude.{◌≡◌, ℕ, List, [], ◌∷◌, Some, None, codes, true, false}
-use Rattle.lh_types.specs.Types.{TypeTree, int_type, array_type, tuple_type, signal_type, no_types, more_types}
-use Rattle.lh_types.specs.Values.{Datum, int_value, time_value, array_value, no_values, more_values}
+use Rattle.lh_types.specs.Types.{TypeTree, array_type, tuple_type, signal_type, no_types, more_types}
+use Rattle.lh_types.specs.Values.{int_value, array_value, no_values, more_values}
 use Rattle.lh_types.specs.declared.op.Op.TheVariants as op
-use Rattle.lh_names.specs.declared.name.UnitName.{UnitName}
 use Rattle.lh_unit.specs.declared.inst.UnitKind.TheVariants as kind
 use Rattle.lh_unit.specs.declared.inst.Mode.TheVariants.{Rise, Fall}
-use Rattle.lh_unit.specs.Contents.{OperandText, InstText, const_text, pure_text, drv_text, prb_text, reg_text, LineText, ArgText, UnitText}
+pub use Rattle.lh_unit.specs.Worded.{bit, byte, word, global, typed, plain, gives, does, time}
+use Rattle.lh_unit.specs.Contents.{const_text, pure_text, drv_text, prb_text, reg_text, ArgText, UnitText}
 use Rattle.lh_term.specs.Tree.{Tree, constant, now_of, operation_on, choice_of}
 use Rattle.lh_term.specs.declared.part.Part.{Part}
 use Rattle.lh_term.specs.Parts.{whole_argument}
@@ -15,30 +15,6 @@ use Rattle.lh_emission.specs.Emitted.{PartStep}
 use Rattle.lh_emission.specs.Entities.{emits, comb_emission, edge_emission, once_emission, entity_with}
 
 -- ---- words for short
-
-abbrev pub global : List ℕ → UnitName
-global n = record { sigil = 64; name = n }
-
-abbrev pub line : List ℕ → InstText → LineText
-line n i = record { result = Some n; inst = i }
-
-abbrev pub alone : InstText → LineText
-alone i = record { result = None; inst = i }
-
-abbrev pub typed : TypeTree → List ℕ → OperandText
-typed t n = record { value = n; ty = Some t }
-
-abbrev pub name : List ℕ → OperandText
-name n = record { value = n; ty = None }
-
-abbrev pub bit : TypeTree
-bit = int_type 1
-
-abbrev pub byte : TypeTree
-byte = int_type 8
-
-abbrev pub word : TypeTree
-word = int_type 32
 
 abbrev pub of : TypeTree → TypeTree
 of t = signal_type t
@@ -54,9 +30,6 @@ process n args = record { kind = kind.Proc; name = global n; args = args; result
 
 abbrev pub no_steps : Part → List PartStep
 no_steps p = []
-
-abbrev pub time : ℕ → ℕ → Datum
-time fs delta = time_value (record { fs = fs; delta = delta; eps = 0 })
 
 abbrev pub one_delta : Tree
 one_delta = constant (time 0 1)
@@ -77,10 +50,10 @@ FlipFlopEmits =
     edge_emission flip_flop no_steps
     (record { part = whole_argument 2 word; value = now_of (whole_argument 1 word); delay = one_delta; triggers = record { rise = true; part = whole_argument 0 bit; gate = one } ∷ [] } ∷ [])
     ≡ emits (entity_with flip_flop (
-    line (codes "v0") (prb_text (typed (of word) (codes "d")))
-    ∷ line (codes "v1") (prb_text (typed (of bit) (codes "clk")))
-    ∷ line (codes "v2") (const_text (time 0 1))
-    ∷ alone (reg_text (typed (of word) (codes "q")) (record { value = codes "v0"; mode = Rise; trigger = codes "v1"; gate = None; after = Some (codes "v2") } ∷ []))
+    gives (codes "v0") (prb_text (typed (of word) (codes "d")))
+    ∷ gives (codes "v1") (prb_text (typed (of bit) (codes "clk")))
+    ∷ gives (codes "v2") (const_text (time 0 1))
+    ∷ does (reg_text (typed (of word) (codes "q")) (record { value = codes "v0"; mode = Rise; trigger = codes "v1"; gate = None; after = Some (codes "v2") } ∷ []))
     ∷ []))
 
 abbrev pub sum : UnitText
@@ -99,14 +72,14 @@ SumEmits =
       delay = one_delta;
     } ∷ [])
     ≡ emits (entity_with sum (
-    line (codes "v0") (prb_text (typed (of word) (codes "q")))
-    ∷ line (codes "v1") (prb_text (typed (of word) (codes "x")))
-    ∷ line (codes "v2") (prb_text (typed (of bit) (codes "en")))
-    ∷ line (codes "v3") (pure_text op.Add (typed word (codes "v0") ∷ name (codes "v1") ∷ []))
-    ∷ line (codes "v4") (pure_text op.Array (typed word (codes "v0") ∷ name (codes "v3") ∷ []))
-    ∷ line (codes "v5") (pure_text op.Mux (typed word (codes "v4") ∷ name (codes "v2") ∷ []))
-    ∷ line (codes "v6") (const_text (time 0 1))
-    ∷ alone (drv_text (typed (of word) (codes "d")) (codes "v5") (codes "v6") None)
+    gives (codes "v0") (prb_text (typed (of word) (codes "q")))
+    ∷ gives (codes "v1") (prb_text (typed (of word) (codes "x")))
+    ∷ gives (codes "v2") (prb_text (typed (of bit) (codes "en")))
+    ∷ gives (codes "v3") (pure_text op.Add (typed word (codes "v0") ∷ plain (codes "v1") ∷ []))
+    ∷ gives (codes "v4") (pure_text op.Array (typed word (codes "v0") ∷ plain (codes "v3") ∷ []))
+    ∷ gives (codes "v5") (pure_text op.Mux (typed word (codes "v4") ∷ plain (codes "v2") ∷ []))
+    ∷ gives (codes "v6") (const_text (time 0 1))
+    ∷ does (drv_text (typed (of word) (codes "d")) (codes "v5") (codes "v6") None)
     ∷ []))
 
 -- ---- a flip-flop with asynchronous reset: two registers, and the second takes its delay and its edge from the first
@@ -135,17 +108,17 @@ ResetFlipFlopEmits =
     ∷ record { part = whole_argument 3 byte; value = now_of (whole_argument 2 byte); delay = one_delta; triggers = record { rise = true; part = clk_part; gate = now_of rst_part } ∷ [] }
     ∷ [])
     ≡ emits (entity_with reset_flip_flop (
-    line (codes "v0") (const_text (int_value 8 0))
-    ∷ line (codes "v1") (prb_text (typed (of bit) (codes "clk")))
-    ∷ line (codes "v2") (prb_text (typed (of bit) (codes "rst")))
-    ∷ line (codes "v3") (pure_text op.Not (typed bit (codes "v2") ∷ []))
-    ∷ line (codes "v4") (const_text (time 0 1))
-    ∷ alone (reg_text (typed (of byte) (codes "q")) (
+    gives (codes "v0") (const_text (int_value 8 0))
+    ∷ gives (codes "v1") (prb_text (typed (of bit) (codes "clk")))
+    ∷ gives (codes "v2") (prb_text (typed (of bit) (codes "rst")))
+    ∷ gives (codes "v3") (pure_text op.Not (typed bit (codes "v2") ∷ []))
+    ∷ gives (codes "v4") (const_text (time 0 1))
+    ∷ does (reg_text (typed (of byte) (codes "q")) (
     record { value = codes "v0"; mode = Rise; trigger = codes "v1"; gate = Some (codes "v3"); after = Some (codes "v4") }
     ∷ record { value = codes "v0"; mode = Fall; trigger = codes "v2"; gate = None; after = Some (codes "v4") }
     ∷ []))
-    ∷ line (codes "v5") (prb_text (typed (of byte) (codes "d")))
-    ∷ alone (reg_text (typed (of byte) (codes "q")) (
+    ∷ gives (codes "v5") (prb_text (typed (of byte) (codes "d")))
+    ∷ does (reg_text (typed (of byte) (codes "q")) (
     record { value = codes "v5"; mode = Rise; trigger = codes "v1"; gate = Some (codes "v2"); after = Some (codes "v4") }
     ∷ []))
     ∷ []))
@@ -162,19 +135,19 @@ abbrev pub ConstantEmits : Type 0
 ConstantEmits =
     comb_emission constant_process no_steps [] five
     ≡ emits (entity_with constant_process (
-    line (codes "v0") (const_text (int_value 8 5))
-    ∷ line (codes "v1") (const_text (time 1000000 0))
-    ∷ alone (drv_text (typed (of byte) (codes "q")) (codes "v0") (codes "v1") None)
+    gives (codes "v0") (const_text (int_value 8 5))
+    ∷ gives (codes "v1") (const_text (time 1000000 0))
+    ∷ does (drv_text (typed (of byte) (codes "q")) (codes "v0") (codes "v1") None)
     ∷ []))
 
 abbrev pub ConstantWaits : Type 0
 ConstantWaits =
     comb_emission constant_process no_steps (whole_argument 0 bit ∷ []) five
     ≡ emits (entity_with constant_process (
-    line (codes "v0") (prb_text (typed (of bit) (codes "e")))
-    ∷ line (codes "v1") (const_text (int_value 8 5))
-    ∷ line (codes "v2") (const_text (time 1000000 0))
-    ∷ alone (drv_text (typed (of byte) (codes "q")) (codes "v1") (codes "v2") None)
+    gives (codes "v0") (prb_text (typed (of bit) (codes "e")))
+    ∷ gives (codes "v1") (const_text (int_value 8 5))
+    ∷ gives (codes "v2") (const_text (time 1000000 0))
+    ∷ does (drv_text (typed (of byte) (codes "q")) (codes "v1") (codes "v2") None)
     ∷ []))
 
 -- ---- three drives that share a delay; one has a condition
@@ -189,14 +162,14 @@ abbrev pub ThreeDrivesEmit : Type 0
 ThreeDrivesEmit =
     comb_emission three_drives no_steps (whole_argument 0 bit ∷ []) (drive_to 1 1 one ∷ drive_to 2 2 one ∷ drive_to 1 3 (now_of (whole_argument 0 bit)) ∷ [])
     ≡ emits (entity_with three_drives (
-    line (codes "v0") (prb_text (typed (of bit) (codes "c")))
-    ∷ line (codes "v1") (const_text (int_value 8 1))
-    ∷ line (codes "v2") (const_text (time 0 1))
-    ∷ alone (drv_text (typed (of byte) (codes "d")) (codes "v1") (codes "v2") None)
-    ∷ line (codes "v3") (const_text (int_value 8 2))
-    ∷ alone (drv_text (typed (of byte) (codes "e")) (codes "v3") (codes "v2") None)
-    ∷ line (codes "v4") (const_text (int_value 8 3))
-    ∷ alone (drv_text (typed (of byte) (codes "d")) (codes "v4") (codes "v2") (Some (codes "v0")))
+    gives (codes "v0") (prb_text (typed (of bit) (codes "c")))
+    ∷ gives (codes "v1") (const_text (int_value 8 1))
+    ∷ gives (codes "v2") (const_text (time 0 1))
+    ∷ does (drv_text (typed (of byte) (codes "d")) (codes "v1") (codes "v2") None)
+    ∷ gives (codes "v3") (const_text (int_value 8 2))
+    ∷ does (drv_text (typed (of byte) (codes "e")) (codes "v3") (codes "v2") None)
+    ∷ gives (codes "v4") (const_text (int_value 8 3))
+    ∷ does (drv_text (typed (of byte) (codes "d")) (codes "v4") (codes "v2") (Some (codes "v0")))
     ∷ []))
 
 -- ---- a process that drives once
@@ -208,9 +181,9 @@ abbrev pub SetsEmits : Type 0
 SetsEmits =
     once_emission sets no_steps (record { cond = one; part = whole_argument 0 byte; value = number 8 1; delay = constant (time 1000000 0) } ∷ [])
     ≡ emits (entity_with sets (
-    line (codes "v0") (const_text (int_value 8 1))
-    ∷ line (codes "v1") (const_text (time 1000000 0))
-    ∷ alone (drv_text (typed (of byte) (codes "s")) (codes "v0") (codes "v1") None)
+    gives (codes "v0") (const_text (int_value 8 1))
+    ∷ gives (codes "v1") (const_text (time 1000000 0))
+    ∷ does (drv_text (typed (of byte) (codes "s")) (codes "v0") (codes "v1") None)
     ∷ []))
 
 -- ---- a part that is driven: its two steps, past the name of an argument; and a constant array, part by part
@@ -229,12 +202,12 @@ SteppedEmits =
     once_emission stepped (λ p. record { op = op.Extf 0; to = field } ∷ record { op = op.Exts 1 2; to = middle } ∷ [])
     (record { cond = one; part = middle; value = constant (array_value (more_values (int_value 8 7) (more_values (int_value 8 7) no_values))); delay = one_delta } ∷ [])
     ≡ emits (entity_with stepped (
-    line (codes "v0") (const_text (int_value 8 7))
-    ∷ line (codes "v2") (pure_text op.Array (typed byte (codes "v0") ∷ name (codes "v0") ∷ []))
-    ∷ line (codes "v3") (const_text (time 0 1))
-    ∷ line (codes "v4") (pure_text (op.Extf 0) (typed (of (array_type 4 byte)) (codes "q") ∷ []))
-    ∷ line (codes "v5") (pure_text (op.Exts 1 2) (typed (of (array_type 2 byte)) (codes "v4") ∷ []))
-    ∷ alone (drv_text (typed (of (array_type 2 byte)) (codes "v5")) (codes "v2") (codes "v3") None)
+    gives (codes "v0") (const_text (int_value 8 7))
+    ∷ gives (codes "v2") (pure_text op.Array (typed byte (codes "v0") ∷ plain (codes "v0") ∷ []))
+    ∷ gives (codes "v3") (const_text (time 0 1))
+    ∷ gives (codes "v4") (pure_text (op.Extf 0) (typed (of (array_type 4 byte)) (codes "q") ∷ []))
+    ∷ gives (codes "v5") (pure_text (op.Exts 1 2) (typed (of (array_type 2 byte)) (codes "v4") ∷ []))
+    ∷ does (drv_text (typed (of (array_type 2 byte)) (codes "v5")) (codes "v2") (codes "v3") None)
     ∷ []))
 
 -- each of these

@@ -57,8 +57,9 @@ fn step_inst(alloc: Global, from: ValueId, step: &RouteStep) -> Result<Inst, NoM
     requires { IsData step.now.ty }
     ensures { IfOk result (λ inst. inst ≡ Inst.Pure step.now.op (with_type (signal_type step.now.ty) from ∷ [])) }
 {
+    let operand = signal(alloc, from, &step.ty)?;
     let mut args = TypedList::new(alloc);
-    args.push(signal(alloc, from, &step.ty)?)?;
+    args.push(operand)?;
     let args = OperandList::from_list(args);
     Ok(Inst::Pure { op: step.op, args })
 }

@@ -18,7 +18,7 @@ use Rattle.lh_flat.specs.declared.rename.Renaming.{Renaming}
 use Rattle.lh_flat.specs.declared.build.Text.{Text}
 use Rattle.lh_flat.specs.Renames.{no_span, sizes_in}
 use Rattle.lh_flat.specs.Fits.{IdsFit}
-use Rattle.lh_flat.specs.Building.{line_of, insts_room, block_room, unit_room, call_room, span_at, spans_with, spans_of, new_ids, bound, call_ids, blocks_give, merge_in, merging, entering, blocks_added, call_added}
+use Rattle.lh_flat.specs.Building.{line_of, insts_room, block_room, unit_room, call_room, span_at, spans_with, spans_of, new_ids, bound, call_ids, blocks_give, merge_in, merging, entering, blocks_added, call_added, unit_added}
 use Rattle.lh_types.proofs.Lists.{drop_end}
 
 -- the room that a call takes
@@ -125,3 +125,8 @@ call_added-is (suc j) a b f h r ids l t s v z m n eb eh ei em es ev ez =
     ∙ ap (λ x. call_made j f r l t a x ids) eh
     ∙ ap (call_made j f r l t a f) (ei ∙ ap (λ i. call_ids (call_room i a) a f r l t) (sym (less_one j)))
     ∙ sym (call_added-next j a f r l t)
+
+-- the copy of a unit was entered and added, and its merge behind it
+pub copy_added : (depth u : ℕ) (a : Arena) (ids : Renaming) (m n : Option Merge) (t s v z : Text) → z ≡ merging m v → m ≡ n → v ≡ unit_added depth a u ids s → s ≡ t
+    → z ≡ merging n (unit_added depth a u ids t)
+copy_added depth u a ids m n t s v z ez em ev es = ez ∙ ap (λ x. merging x v) em ∙ ap (merging n) (ev ∙ ap (unit_added depth a u ids) es)

@@ -5,22 +5,8 @@ use Rattle.lh_types.specs.Types.{TypeTree, int_type, void_type}
 use Rattle.lh_types.specs.Values.{int_value}
 use Rattle.lh_names.specs.declared.name.UnitName.{UnitName}
 use Rattle.lh_unit.specs.declared.inst.UnitKind.TheVariants as kind
+pub use Rattle.lh_unit.specs.Worded.{byte, global, gives, does, typed, function}
 use Rattle.lh_unit.specs.Contents.{OperandText, EdgeText, InstText, const_text, call_text, phi_text, br_text, branch_text, wait_text, ret_text, LineText, BlockText, ArgText, UnitText}
-
-abbrev pub i8 : TypeTree
-i8 = int_type 8
-
-abbrev pub global : List ℕ → UnitName
-global n = record { sigil = 64; name = n }
-
-abbrev pub gives : List ℕ → InstText → LineText
-gives n i = record { result = Some n; inst = i }
-
-abbrev pub does : InstText → LineText
-does i = record { result = None; inst = i }
-
-abbrev pub typed : TypeTree → List ℕ → OperandText
-typed t n = record { value = n; ty = Some t }
 
 abbrev pub block : String → List LineText → BlockText
 block label lines = record { label = Some (codes label); lines = lines }
@@ -30,9 +16,6 @@ edge value block = record { value = value; block = block }
 
 abbrev pub parameter : String → TypeTree → ArgText
 parameter n t = record { name = codes n; ty = t; output = false }
-
-abbrev pub function : List ℕ → List ArgText → TypeTree → List BlockText → UnitText
-function n args t blocks = record { kind = kind.Func; name = global n; args = args; result = Some t; blocks = blocks }
 
 abbrev pub process : List BlockText → UnitText
 process blocks = record { kind = kind.Proc; name = global (codes "p"); args = []; result = None; blocks = blocks }

@@ -1,8 +1,8 @@
 //! A flat text while it is built: a unit's blocks are copied in order, and a call's copy stands before what follows the call.
 ghost use Rattle.std.specs.Prelude.{◌≡◌, ◌+◌, ◌<◌, length, IfOk, OnOk};
-ghost use Rattle.lh_unit.specs.Arena.{unit_count, inst_count};
-ghost use Rattle.lh_flat.specs.Graph.{BlockPlaced};
-ghost use Rattle.lh_flat.specs.Building.{line_of, call_room, call_ids, put, taken, with_values, no_text, merging, entering, block_added, call_added, unit_added};
+ghost use Rattle.lh_unit.specs.Arena.{unit_count, inst_count, blocks_at};
+ghost use Rattle.lh_flat.specs.Graph.{BlockPlaced, callee_of};
+ghost use Rattle.lh_flat.specs.Building.{line_of, call_room, call_ids, put, taken, with_values, no_text, merging, entering, blocks_give, merge_in, line_added, block_added, call_added, unit_added};
 ghost use Rattle.lh_flat.specs.CopyOf.{IsCopy};
 
 use crate::calls::callee;
@@ -98,12 +98,21 @@ impl Text {
         ensures { let a = copy.now.view.module.now in OnOk result (self.new ≡ block_added (call_added depth a) a copy.now.view.unit.0 copy.now.ids block self.old) }
     {
         for id in copy.view.insts(block) {
-            match callee(copy.view, copy.view.inst(*id)) {
-                None => self.take(copy.inst(*id)?)?,
-                Some(function) => self.add_call(depth, copy, *id, function)?,
-            }
+            self.add_inst(depth, copy, *id)?;
         }
         self.put()
+    }
+
+    /// Adds an instruction, or the copy of the function that it calls.
+    #[cycle(copying)]
+    fn add_inst(&mut self, depth: u32, copy: &UnitCopy<'_>, id: InstId) -> Result<(), NoMemory>
+        requires { id.0 < inst_count copy.now.view.module.now copy.now.view.unit.0 }
+        ensures { let a = copy.now.view.module.now in let l = line_of a copy.now.view.unit.0 id in OnOk result (self.new ≡ line_added (call_added depth a) copy.now.ids l (callee_of a l.inst) self.old) }
+    {
+        match callee(copy.view, copy.view.inst(id)) {
+            None => self.take(copy.inst(id)?),
+            Some(function) => self.add_call(depth, copy, id, function),
+        }
     }
 
     /// Replaces a call by a copy of the function, in place.
@@ -122,11 +131,28 @@ impl Text {
         if depth == 0 {
             return Ok(());
         }
-        let depth = depth - 1;
-        let called = self.copy_for(depth, copy, id, function)?;
-        self.enter(&called)?;
-        self.add_unit(depth, &called)?;
-        let merge = copy.merge(self.blocks.allocator(), id, &called)?;
+        let called = self.copy_for(depth - 1, copy, id, function)?;
+        let added = self.add_copy(depth - 1, copy, id, &called);
+        drop(called);
+        added
+    }
+
+    /// Adds the copy of a function that is called, and what merges behind it.
+    #[cycle(copying)]
+    fn add_copy(
+        &mut self,
+        depth: u32,
+        copy: &UnitCopy<'_>,
+        id: InstId,
+        called: &UnitCopy<'_>,
+    ) -> Result<(), NoMemory>
+        requires { id.0 < inst_count copy.now.view.module.now copy.now.view.unit.0 }
+        ensures { let d = called.now in let a = d.view.module.now in let l = line_of copy.now.view.module.now copy.now.view.unit.0 id in
+            OnOk result (self.new ≡ merging (merge_in copy.now.ids (blocks_give a d.view.unit.0 d.ids (blocks_at a d.view.unit.0)) l.inst l.result) (unit_added depth a d.view.unit.0 d.ids (entering a d.view.unit self.old))) }
+    {
+        self.enter(called)?;
+        self.add_unit(depth, called)?;
+        let merge = copy.merge(self.blocks.allocator(), id, called)?;
         self.merge(merge);
         Ok(())
     }
@@ -144,9 +170,9 @@ impl Text {
         ensures { let a = copy.now.view.module.now in IfOk result (λ d. IsCopy a function (call_ids (call_room depth a) a function copy.now.ids (line_of a copy.now.view.unit.0 id) self.now) d) }
     {
         let view = copy.view.module().unit(function);
-        let args = copy.args(self.blocks.allocator(), id)?;
         let at = self.next()?;
         let back = plus(at, unit_room(depth, view)?)?;
+        let args = copy.args(self.blocks.allocator(), id)?;
         let place = CopyPlace {
             at,
             from: self.values,

@@ -138,8 +138,8 @@ impl<'m> UnitCopy<'m> {
         let Some(value) = self.view.result_of(id) else {
             return Ok(None);
         };
-        let ty = result.copy()?;
         let edges = called.given(alloc)?;
+        let ty = result.copy()?;
         Ok(Some(Merge {
             value: self.ids.value(value),
             ty,

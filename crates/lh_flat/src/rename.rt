@@ -221,8 +221,8 @@ impl Renaming {
         requires { Each (λ (e : Edge). e.value.0 < length self.now.values) edges.now }
         ensures { IfOk result (λ i. i ≡ Inst.Phi ty.now (map (edge_in self.now) edges.now)) }
     {
-        let ty = ty.copy()?;
         let edges = self.edges(edges)?;
+        let ty = ty.copy()?;
         Ok(Inst::Phi { ty, edges })
     }
 

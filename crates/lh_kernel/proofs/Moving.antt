@@ -224,6 +224,19 @@ module _ (signals : List Signal) (probes : List (List Range)) (states : List Ins
       x ≡ get_or acts i x → Each (SensesFit width probes states) acts → ReadAt width x dp ds
   read_item width acts i x dp ds l e f = read_at width x dp ds (Each-item (SensesFit width probes states) acts i x f l e)
 
+  -- and it senses what lies within the bits, before and after
+  pub left_read : (width : ℕ) (x : Activation) (rs : List Range) (s : InstState) → ReadAt width x rs s → rs ≡ get_or probes x.instance rs →
+      s ≡ get_or states x.instance s → AreWithin width (parts_sensed s rs)
+  left_read width x rs s r p q =
+      subst (λ (z : InstState). AreWithin width (parts_sensed z rs)) (sym q)
+      (subst (λ (zs : List Range). AreWithin width (parts_sensed (get_or states x.instance s) zs)) (sym p) r.left)
+
+  pub entered_read : (width : ℕ) (x : Activation) (rs : List Range) (s new : InstState) → ReadAt width x rs s → rs ≡ get_or probes x.instance rs →
+      new ≡ x.act.next → AreWithin width (parts_sensed new rs)
+  entered_read width x rs s new r p q =
+      subst (λ (z : InstState). AreWithin width (parts_sensed z rs)) (sym q)
+      (subst (λ (zs : List Range). AreWithin width (parts_sensed x.act.next zs)) (sym p) r.entered)
+
 -- whether two lists of parts are the same
 part_same : (x y : Range) → Decides (nat_eq x.lo y.lo && nat_eq x.len y.len) (x ≡ y)
 part_same x y = (there, λ e. ap (λ (z : Range). nat_eq x.lo z.lo && nat_eq x.len z.len) (sym e) ∙ itself)

@@ -8,6 +8,7 @@ use Rattle.lh_index.specs.Rising.{IsOneOf}
 use Rattle.lh_index.specs.Sensed.{Senses, SensesOneMore, SensesOneLess}
 use Rattle.lh_index.specs.Waking.{IsNoted, NotesOneMore, NotesOneLess}
 use Rattle.lh_kernel.specs.declared.noted.Noted.{Noted}
+use Rattle.lh_kernel.specs.Moves.{IsSameNoted}
 use Rattle.lh_kernel.specs.Noting.{HasNoted, HasNotedSome, HasForgotten}
 use Rattle.lh_index.specs.declared.wakes.Wake.{Wake}
 use Rattle.lh_kernel.proofs.Relations.{With, WithSome, Without, IsEither, with_none, without_none, with_more, without_more, some_of_all, has_next, has_first, has_place}
@@ -24,6 +25,9 @@ no_wake t e = cc
 
 same_instant : (t u : Instant) → Some t ≡ Some u → t ≡ u
 same_instant t u e = cc
+
+pub noted_itself : (n : Noted) → IsSameNoted n n
+noted_itself n = record { long = refl; senses = λ s k. (λ h. h, λ h. h); wakes = λ t k. (λ h. h, λ h. h) }
 
 pub noted_none : (k : ℕ) (a : Noted) → HasNoted k [] None a a
 noted_none k a = record {

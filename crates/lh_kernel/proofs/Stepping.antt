@@ -60,3 +60,15 @@ pub next_seen : (old : SimState) (ended : Bool) (s : Simulation) (o : Option Ins
     ((w : World) → StandsFor (simulation_of old false) w → o ≡ next_instant w) →
     (w : World) → StandsFor s w → o ≡ next_instant w
 next_seen old ended s o v g h = subst (λ (z : Simulation). (w : World) → StandsFor z w → o ≡ next_instant w) (as_seen old ended s v g) h
+
+-- a simulation that has ended stands for no world
+pub ended_stands : (old : SimState) (ended : Bool) (s : Simulation) (w : World) → simulation_of old ended ≡ s → ended ≡ true → StandsFor s w → ⊥
+ended_stands old ended s w v e h =
+    let a : ended ≡ s.ended = ap (λ (z : Simulation). z.ended) v in
+    let b : s.ended ≡ false = h.goes_on in
+    cc
+
+pub goes_on_still : (old : SimState) (ended : Bool) (s : Simulation) → simulation_of old ended ≡ s → ended ≡ false → s.ended ≡ true → ⊥
+goes_on_still old ended s v g e =
+    let a : ended ≡ s.ended = ap (λ (z : Simulation). z.ended) v in
+    cc

@@ -1,5 +1,6 @@
 -- How many activations a step makes, by the definition.
-use Rattle.std.proofs.Common.{◌≡◌, ℕ, List, Bool, false, Option, arith, ◌∙◌, subst}
+use Rattle.std.proofs.Common.{◌≡◌, ◌≤◌, ℕ, List, Bool, false, nat_le, length, Option, Some, None, arith, ◌∙◌, subst}
+use Rattle.std.proofs.lemmas.List.Sums.{count_by-le-length}
 use Rattle.lh_time.specs.declared.Instant.{Instant}
 use Rattle.lh_types.specs.Raised.{raised}
 use Rattle.lh_unit.specs.World.{World}
@@ -18,6 +19,14 @@ raised_none n = omega arith
 -- no activation was made
 pub rises_none : (ks : List ℕ) (old new : ℕ) → new ≡ old → RisesWithin ks old new
 rises_none ks old new e = (0, omega arith, e ∙ raised_none old)
+
+-- no more are activated than wake
+few_activated : (r : Option ℕ) (ks : List ℕ) → activated_count r ks ≤ length ks
+few_activated None ks = omega arith
+few_activated (Some i) ks = count_by-le-length (λ k. nat_le k i) ks
+
+pub rises_activated : (r : Option ℕ) (ks : List ℕ) (old new : ℕ) → new ≡ raised old (activated_count r ks) → RisesWithin ks old new
+rises_activated r ks old new e = (activated_count r ks, few_activated r ks, e)
 
 pub rises_woken : (x : SimState) (t : Instant) (b : List Bool) (old new : ℕ) → IsKept x → ComesNext x t → b ≡ bits_then x.queue.held t x.bits →
     AreBitsAt x.queue.held x.bits t b → RisesWithin (awake_in (looked_at x t) t) old new →

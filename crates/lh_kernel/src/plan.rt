@@ -8,7 +8,7 @@ ghost use Rattle.lh_unit.specs.Within.{Each};
 ghost use Rattle.lh_unit.specs.World.{State};
 ghost use Rattle.lh_design.specs.Texts.{signal_text};
 ghost use Rattle.lh_kernel.specs.States.{StatesStand};
-ghost use Rattle.lh_kernel.specs.Ran.{AllRan, ActOfOne};
+ghost use Rattle.lh_kernel.specs.Ran.{AllRan, ActOfOne, outcomes_ran};
 ghost use Rattle.lh_kernel.specs.Puts.{wishes_ran};
 ghost use Rattle.lh_kernel.specs.Phases.{HasLooked, IsPlanned, awake_in, values_kept, RisesWithin};
 
@@ -66,19 +66,35 @@ fn plan_ran(
     ensures planned { IfOk result (IsPlanned x.now at) }
     ensures runaway { IfOk result (λ p. p.runaway ≡ ran.runaway) }
 {
-    let frame = Frame {
-        at,
-        changes: changes_in(alloc, x, at, touched)?,
-        outcomes: outcomes_of(alloc, &ran.acts)?,
-    };
-    let moves = moves_of(alloc, &x.design, &x.probes, &x.states, &ran.acts)?;
     let wishes = wish_count(&ran.acts)?;
+    let frame = frame_shown(alloc, x, at, touched, &ran.acts)?;
+    let moves = moves_of(alloc, &x.design, &x.probes, &x.states, &ran.acts)?;
     Ok(FramePlan {
         frame,
         acts: ran.acts,
         moves,
         wishes,
         runaway: ran.runaway,
+    })
+}
+
+/// What the frame shows in which the woken instances did this.
+fn frame_shown(
+    alloc: Global,
+    x: &SimState<'_>,
+    at: Instant,
+    touched: &Rising,
+    acts: &[Activation],
+) -> Result<Frame, NoMemory>
+    requires looked { HasLooked x.now at touched.now }
+    ensures { IfOk result (λ f. (f.at ≡ at) × (map showing_of f.changes ≡ changes_by (values_kept x.now) (signal_values (map signal_text x.now.design.signals.items) x.now.looked)) × (f.outcomes ≡ outcomes_ran acts.now)) }
+{
+    let changes = changes_in(alloc, x, at, touched)?;
+    let outcomes = outcomes_of(alloc, acts)?;
+    Ok(Frame {
+        at,
+        changes,
+        outcomes,
     })
 }
 

@@ -1,16 +1,16 @@
 //! The tokens of one line, taken longest first.
 //!
-//! Whether a line has tokens is one pass that stores nothing (`first_bad`), and its tokens are then taken one at a time
-//! from the front (`from_token`, `split`). `line` lists them all.
+//! `line` lists them all. A reader takes them one at a time from the front and stores none (`from_token`, `split`, `word`,
+//! `local`): a byte that no token takes is met where it stands.
 #![tactic(auto)]
 
-ghost use Rattle.std.specs.Prelude.{◌≡◌, ◌≤◌, ◌+◌, ◌||◌, [], ◌∷◌, IfOk, IfErr, IfSome, IfNone, length, map, drop, false, Some, None, Result, Ok};
+ghost use Rattle.std.specs.Prelude.{◌≡◌, ◌≤◌, ◌+◌, [], ◌∷◌, ◌⊎◌, IfOk, IfErr, IfSome, IfNone, length, map, take, drop, false, Some, Result, Ok};
 ghost use Rattle.lh_names.specs.Names.{is_name_byte, IsName};
 ghost use Rattle.lh_unit.specs.Lexemes as spec;
-ghost use Rattle.lh_unit.specs.Lexemes.{lexemes, front, first_lexeme, run_len, begins, is_comment, is_punct};
-ghost use Rattle.lh_unit.specs.Tokens.{tokens, first_token, first_bad as bad_place, named, lexeme_of, lexeme_at, IsSpelling, AreTokensOf, Covers};
+ghost use Rattle.lh_unit.specs.Lexemes.{lexemes, first_lexeme, run_len, begins, is_comment, is_punct};
+ghost use Rattle.lh_unit.specs.Tokens.{tokens, first_token, named, lexeme_of, lexeme_at, IsSpelling, AreTokensOf, Covers};
 ghost use Rattle.lh_lex.specs.Faults.{NamesFault, Refuses};
-ghost use Rattle.lh_lex.specs.Front.{taken, length_of, begins_word, HasTokens, IsSettled};
+ghost use Rattle.lh_lex.specs.Front.{taken, begins_word, begins_local, bad_mark, lexemes_to_bad, IsSettled};
 
 use lh_types::list::ListOf;
 pub use lh_unit::token::{Token, TokenKind, TokenList};
@@ -68,13 +68,6 @@ fn is_white(b: u8) -> bool
     CLASSES[usize::from(b)] == 3
 }
 
-/// Whether the byte is good wherever it stands: of a name, a mark or white.
-fn is_plain(b: u8) -> bool
-    ensures { result ≡ is_name_byte b || is_punct b || spec.is_white b }
-{
-    CLASSES[usize::from(b)] != 0
-}
-
 fn begins_with(bytes: &[u8], b: u8) -> bool
     ensures { result ≡ begins b bytes.now }
 {
@@ -102,6 +95,13 @@ fn name_len(bytes: &[u8]) -> usize
         }
     }
     bytes.len()
+}
+
+/// Whether a name may have so many bytes.
+fn fits_name(len: usize) -> bool
+    ensures { result ≡ spec.fits_name len }
+{
+    1 <= len && len <= 255
 }
 
 /// A sigil's token before this many name bytes.
@@ -144,73 +144,9 @@ fn first(b: u8, more: &[u8]) -> Result<(TokenKind, usize), usize>
     Err(0)
 }
 
-/// How many bytes a sigil's token takes after it, before this many name bytes.
-fn sigil_len(len: usize) -> Result<usize, usize>
-    ensures token { (kind : TokenKind) → result ≡ length_of (named kind len) }
-    ensures within { IfOk result (λ n. n ≤ len) }
-    ensures bad { IfErr result (λ n. n ≤ len) }
-{
-    match len {
-        0 => Err(0),
-        1..=255 => Ok(len),
-        _ => Err(256),
-    }
-}
-
-/// How many of the bytes after `b` the token that begins with it takes; or how far behind `b` the first bad byte
-/// stands.
-#[tactic(auto, unfolding(lh_unit::specs::Tokens::first_token))]
-fn first_len(b: u8, more: &[u8]) -> Result<usize, usize>
-    ensures token { result ≡ length_of (first_token b more.now) }
-    ensures within { IfOk result (λ n. n ≤ length more.now) }
-    ensures bad { IfErr result (λ n. n ≤ length more.now) }
-{
-    if is_name(b) {
-        return Ok(name_len(more));
-    }
-    if b == b'@' || b == b'%' {
-        return sigil_len(name_len(more));
-    }
-    if b == b'-' && begins_with(more, b'>') {
-        return Ok(1);
-    }
-    if b == b'-' || is_mark(b) {
-        return Ok(0);
-    }
-    Err(0)
-}
-
-/// The place of the first byte that no token takes, or of the 256th byte of a name; `None` where the bytes have tokens.
-///
-/// The time is linear in the bytes, and it takes no memory.
-pub fn first_bad(text: &[u8]) -> Option<usize>
-    ensures { result ≡ bad_place text.now }
-{
-    let mut at = 0;
-    let mut rest = text;
-    while let Some((b, more)) = rest.split_first() {
-        if is_plain(*b) {
-            rest = more;
-            at += 1;
-            continue;
-        }
-        if begins_comment(*b, more) {
-            return None;
-        }
-        match first_len(*b, more) {
-            Ok(len) => {
-                rest = &more[len..];
-                at += 1 + len;
-            }
-            Err(n) => return Some(at + n),
-        }
-    }
-    None
-}
-
 /// The bytes from their first token on; none where no token is left.
 pub fn from_token(text: &[u8]) -> &[u8]
-    ensures same { lexemes result.now ≡ lexemes text.now }
+    ensures same { lexemes_to_bad result.now ≡ lexemes_to_bad text.now }
     ensures settled { IsSettled result.now }
 {
     let mut rest = text;
@@ -227,14 +163,14 @@ pub fn from_token(text: &[u8]) -> &[u8]
     rest
 }
 
-/// The first token, its bytes, and the bytes from the next token on; `None` where no byte is left.
+/// The first token, its bytes, and the bytes from the next token on; `None` where no byte is left, or no token takes the
+/// first.
 pub fn split(text: &[u8]) -> Option<(TokenKind, &[u8], &[u8])>
-    requires tokens { HasTokens text.now }
-    requires settled { IsSettled text.now }
-    ensures taken { IfSome result (λ r. lexemes text.now ≡ front (lexeme_of r.0 r.1.now) (lexemes r.2.now)) }
+    requires { IsSettled text.now }
+    ensures taken { IfSome result (λ r. lexemes_to_bad text.now ≡ lexeme_of r.0 r.1.now ∷ lexemes_to_bad r.2.now) }
     ensures spelled { IfSome result (λ r. IsSpelling r.0 r.1.now) }
     ensures settled { IfSome result (λ r. IsSettled r.2.now) }
-    ensures end { IfNone result (text.now ≡ []) }
+    ensures none { IfNone result ((text.now ≡ []) ⊎ (lexemes_to_bad text.now ≡ bad_mark ∷ [])) }
 {
     let (b, more) = text.split_first()?;
     let Ok((kind, len)) = first(*b, more) else {
@@ -246,7 +182,7 @@ pub fn split(text: &[u8]) -> Option<(TokenKind, &[u8], &[u8])>
 /// The word in front, and the bytes from the next token on; `None` where another byte stands in front.
 pub fn word(text: &[u8]) -> Option<(&[u8], &[u8])>
     requires { IsSettled text.now }
-    ensures taken { IfSome result (λ r. lexemes text.now ≡ front (spec.word r.0.now) (lexemes r.1.now)) }
+    ensures taken { IfSome result (λ r. lexemes_to_bad text.now ≡ spec.word r.0.now ∷ lexemes_to_bad r.1.now) }
     ensures settled { IfSome result (λ r. IsSettled r.1.now) }
     ensures other { IfNone result (begins_word text.now ≡ false) }
 {
@@ -258,20 +194,22 @@ pub fn word(text: &[u8]) -> Option<(&[u8], &[u8])>
     Some((&text[..1 + len], from_token(&more[len..])))
 }
 
-/// The name behind `%` in front, and the bytes from the next token on; `None` where another byte stands in front.
+/// The name behind `%` in front, and the bytes from the next token on; `None` where there is none.
 pub fn local(text: &[u8]) -> Option<(&[u8], &[u8])>
-    requires tokens { HasTokens text.now }
-    requires settled { IsSettled text.now }
-    ensures taken { IfSome result (λ r. lexemes text.now ≡ front (spec.local r.0.now) (lexemes r.1.now)) }
+    requires { IsSettled text.now }
+    ensures taken { IfSome result (λ r. lexemes_to_bad text.now ≡ spec.local r.0.now ∷ lexemes_to_bad r.1.now) }
     ensures name { IfSome result (λ r. IsName r.0.now) }
     ensures settled { IfSome result (λ r. IsSettled r.1.now) }
-    ensures other { IfNone result (begins 37 text.now ≡ false) }
+    ensures other { IfNone result (begins_local text.now ≡ false) }
 {
     let (b, more) = text.split_first()?;
     if *b != b'%' {
         return None;
     }
     let len = name_len(more);
+    if !fits_name(len) {
+        return None;
+    }
     Some((&more[..len], from_token(&more[len..])))
 }
 

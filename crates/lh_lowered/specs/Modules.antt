@@ -3,24 +3,16 @@ use Rattle.std.specs.Prelude.{ℕ, zero, suc, ◌+◌, List, [], ◌∷◌, ◌+
 use Prim.Native.String.{String}
 use Rattle.std.specs.Fmt.{decimal}
 use Rattle.lh_types.specs.Types.{TypeTree, int_type, array_type, void_type, signal_type, pointer_type}
-use Rattle.lh_types.specs.Values.{int_value, time_value}
 use Rattle.lh_types.specs.declared.op.Op.{Op}
 use Rattle.lh_types.specs.declared.op.Op.TheVariants as op
 use Rattle.lh_names.specs.declared.name.UnitName.{UnitName}
 use Rattle.lh_unit.specs.declared.inst.UnitKind.TheVariants as unit_kind
 use Rattle.lh_unit.specs.declared.inst.Mode.{Mode}
+pub use Rattle.lh_unit.specs.Worded.{bit, byte, word, does, number}
+use Rattle.lh_unit.specs.Worded.{time}
 use Rattle.lh_unit.specs.Contents.{OperandText, EdgeText, TriggerText, InstText, const_text, pure_text, var_text, ld_text, st_text, sig_text, prb_text, drv_text, reg_text, child_text, call_text, phi_text, br_text, branch_text, wait_text, halt_text, ret_text, LineText, BlockText, ArgText, UnitText, ItemText, unit_text}
 
 -- ---- words for short
-
-abbrev pub bit : TypeTree
-bit = int_type 1
-
-abbrev pub byte : TypeTree
-byte = int_type 8
-
-abbrev pub word : TypeTree
-word = int_type 32
 
 abbrev pub global : String → UnitName
 global n = record { sigil = 64; name = codes n }
@@ -32,19 +24,13 @@ typed t n = record { value = codes n; ty = Some t }
 abbrev pub plain : String → OperandText
 plain n = record { value = codes n; ty = None }
 
--- a line with a result, and one without
+-- a line with a result
 abbrev pub gives : String → InstText → LineText
 gives n i = record { result = Some (codes n); inst = i }
 
-abbrev pub does : InstText → LineText
-does i = record { result = None; inst = i }
-
--- const iN k, and const time
-abbrev pub number : (bits k : ℕ) → InstText
-number n k = const_text (int_value n k)
-
+-- const time
 abbrev pub delay : (fs delta : ℕ) → InstText
-delay fs delta = const_text (time_value (record { fs = fs; delta = delta; eps = 0 }))
+delay fs delta = const_text (time fs delta)
 
 -- an operation on two values
 abbrev pub two : Op → TypeTree → String → String → InstText

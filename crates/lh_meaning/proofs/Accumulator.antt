@@ -18,10 +18,8 @@ use Rattle.lh_unit.specs.Design.{visit, design_of, refusal_of}
 use Rattle.lh_unit.specs.World.{acts_at}
 use Rattle.lh_types.specs.declared.frame.Outcome.{Outcome}
 use Rattle.lh_unit.specs.Trace.{Frame, quiet, Run, Shown, ShownSignal, ran, trace}
-use Rattle.lh_meaning.proofs.Samples.{global, line, bare, typed, bit, bit_signal, input, output, entity, process, block, delay}
-
-abbrev word : TypeTree
-word = int_type 32
+use Rattle.lh_unit.specs.Worded.{word}
+use Rattle.lh_meaning.proofs.Samples.{global, gives, does, typed, bit, bit_signal, input, output, entity, process, block, delay}
 
 abbrev word_signal : TypeTree
 word_signal = signal_type word
@@ -33,10 +31,10 @@ abbrev binary : Op → TypeTree → List ℕ → List ℕ → InstText
 binary o t x y = pure_text o (typed t x ∷ name y ∷ [])
 
 abbrev drives : TypeTree → List ℕ → List ℕ → List ℕ → LineText
-drives t to value after = bare (drv_text (typed t to) value after None)
+drives t to value after = does (drv_text (typed t to) value after None)
 
 abbrev instance : List ℕ → (inputs outputs : List OperandText) → LineText
-instance u inputs outputs = bare (child_text (global u) inputs outputs)
+instance u inputs outputs = does (child_text (global u) inputs outputs)
 
 abbrev bit_at : List ℕ → OperandText
 bit_at = typed bit_signal
@@ -46,20 +44,20 @@ word_at = typed word_signal
 
 abbrev testbench : ItemText
 testbench = entity (codes "acc_tb") [] (
-    line (codes "zero0") (const_text (int_value 1 0))
-    ∷ line (codes "zero1") (const_text (int_value 32 0))
-    ∷ line (codes "clk") (sig_text (typed bit (codes "zero0")))
-    ∷ line (codes "en") (sig_text (typed bit (codes "zero0")))
-    ∷ line (codes "x") (sig_text (typed word (codes "zero1")))
-    ∷ line (codes "q") (sig_text (typed word (codes "zero1")))
+    gives (codes "zero0") (const_text (int_value 1 0))
+    ∷ gives (codes "zero1") (const_text (int_value 32 0))
+    ∷ gives (codes "clk") (sig_text (typed bit (codes "zero0")))
+    ∷ gives (codes "en") (sig_text (typed bit (codes "zero0")))
+    ∷ gives (codes "x") (sig_text (typed word (codes "zero1")))
+    ∷ gives (codes "q") (sig_text (typed word (codes "zero1")))
     ∷ instance (codes "acc") (bit_at (codes "clk") ∷ word_at (codes "x") ∷ bit_at (codes "en") ∷ []) (word_at (codes "q") ∷ [])
     ∷ instance (codes "acc_tb_initial") (word_at (codes "q") ∷ []) (bit_at (codes "clk") ∷ word_at (codes "x") ∷ bit_at (codes "en") ∷ [])
     ∷ [])
 
 abbrev accumulator : ItemText
 accumulator = entity (codes "acc") (input (codes "clk") bit_signal ∷ input (codes "x") word_signal ∷ input (codes "en") bit_signal ∷ output (codes "q") word_signal ∷ []) (
-    line (codes "zero") (const_text (int_value 32 0))
-    ∷ line (codes "d") (sig_text (typed word (codes "zero")))
+    gives (codes "zero") (const_text (int_value 32 0))
+    ∷ gives (codes "d") (sig_text (typed word (codes "zero")))
     ∷ instance (codes "acc_ff") (bit_at (codes "clk") ∷ word_at (codes "d") ∷ []) (word_at (codes "q") ∷ [])
     ∷ instance (codes "acc_comb") (word_at (codes "q") ∷ word_at (codes "x") ∷ bit_at (codes "en") ∷ []) (word_at (codes "d") ∷ [])
     ∷ [])
@@ -73,70 +71,70 @@ comb_args = input (codes "q") word_signal ∷ input (codes "x") word_signal ∷ 
 abbrev ff_process : ItemText
 ff_process = process (codes "acc_ff") ff_args (
     block (codes "init") (
-    line (codes "clk0") (prb_text (bit_at (codes "clk")))
-    ∷ bare (wait_text (codes "check") None (codes "clk" ∷ []))
+    gives (codes "clk0") (prb_text (bit_at (codes "clk")))
+    ∷ does (wait_text (codes "check") None (codes "clk" ∷ []))
     ∷ [])
     ∷ block (codes "check") (
-    line (codes "clk1") (prb_text (bit_at (codes "clk")))
-    ∷ line (codes "chg") (binary op.Neq bit (codes "clk0") (codes "clk1"))
-    ∷ line (codes "posedge") (binary op.And bit (codes "chg") (codes "clk1"))
-    ∷ bare (branch_text (codes "posedge") (codes "init") (codes "event"))
+    gives (codes "clk1") (prb_text (bit_at (codes "clk")))
+    ∷ gives (codes "chg") (binary op.Neq bit (codes "clk0") (codes "clk1"))
+    ∷ gives (codes "posedge") (binary op.And bit (codes "chg") (codes "clk1"))
+    ∷ does (branch_text (codes "posedge") (codes "init") (codes "event"))
     ∷ [])
     ∷ block (codes "event") (
-    line (codes "dp") (prb_text (word_at (codes "d")))
-    ∷ line (codes "delay") (const_text (delay 0 1 0))
+    gives (codes "dp") (prb_text (word_at (codes "d")))
+    ∷ gives (codes "delay") (const_text (delay 0 1 0))
     ∷ drives word_signal (codes "q") (codes "dp") (codes "delay")
-    ∷ bare (br_text (codes "init"))
+    ∷ does (br_text (codes "init"))
     ∷ [])
     ∷ [])
 
 abbrev comb_process : ItemText
 comb_process = process (codes "acc_comb") comb_args (
     block (codes "entry") (
-    line (codes "qp") (prb_text (word_at (codes "q")))
-    ∷ line (codes "enp") (prb_text (bit_at (codes "en")))
-    ∷ line (codes "delay") (const_text (delay 0 1 0))
+    gives (codes "qp") (prb_text (word_at (codes "q")))
+    ∷ gives (codes "enp") (prb_text (bit_at (codes "en")))
+    ∷ gives (codes "delay") (const_text (delay 0 1 0))
     ∷ drives word_signal (codes "d") (codes "qp") (codes "delay")
-    ∷ bare (branch_text (codes "enp") (codes "final") (codes "enabled"))
+    ∷ does (branch_text (codes "enp") (codes "final") (codes "enabled"))
     ∷ [])
     ∷ block (codes "enabled") (
-    line (codes "xp") (prb_text (word_at (codes "x")))
-    ∷ line (codes "sum") (binary op.Add word (codes "qp") (codes "xp"))
+    gives (codes "xp") (prb_text (word_at (codes "x")))
+    ∷ gives (codes "sum") (binary op.Add word (codes "qp") (codes "xp"))
     ∷ drives word_signal (codes "d") (codes "sum") (codes "delay")
-    ∷ bare (br_text (codes "final"))
+    ∷ does (br_text (codes "final"))
     ∷ [])
-    ∷ block (codes "final") (bare (wait_text (codes "entry") None (codes "q" ∷ codes "x" ∷ codes "en" ∷ [])) ∷ [])
+    ∷ block (codes "final") (does (wait_text (codes "entry") None (codes "q" ∷ codes "x" ∷ codes "en" ∷ [])) ∷ [])
     ∷ [])
 
 abbrev initial : ItemText
 initial = process (codes "acc_tb_initial") (input (codes "q") word_signal ∷ output (codes "clk") bit_signal ∷ output (codes "x") word_signal ∷ output (codes "en") bit_signal ∷ []) (
     block (codes "entry") (
-    line (codes "bit0") (const_text (int_value 1 0))
-    ∷ line (codes "bit1") (const_text (int_value 1 1))
-    ∷ line (codes "zero") (const_text (int_value 32 0))
-    ∷ line (codes "one") (const_text (int_value 32 1))
-    ∷ line (codes "del1") (const_text (delay 1000000 0 0))
-    ∷ line (codes "del2") (const_text (delay 2000000 0 0))
-    ∷ line (codes "i") (var_text (typed word (codes "zero")))
+    gives (codes "bit0") (const_text (int_value 1 0))
+    ∷ gives (codes "bit1") (const_text (int_value 1 1))
+    ∷ gives (codes "zero") (const_text (int_value 32 0))
+    ∷ gives (codes "one") (const_text (int_value 32 1))
+    ∷ gives (codes "del1") (const_text (delay 1000000 0 0))
+    ∷ gives (codes "del2") (const_text (delay 2000000 0 0))
+    ∷ gives (codes "i") (var_text (typed word (codes "zero")))
     ∷ drives bit_signal (codes "en") (codes "bit1") (codes "del2")
-    ∷ bare (br_text (codes "loop"))
+    ∷ does (br_text (codes "loop"))
     ∷ [])
     ∷ block (codes "loop") (
-    line (codes "ip") (ld_text (typed (pointer_type word) (codes "i")))
+    gives (codes "ip") (ld_text (typed (pointer_type word) (codes "i")))
     ∷ drives word_signal (codes "x") (codes "ip") (codes "del2")
     ∷ drives bit_signal (codes "clk") (codes "bit1") (codes "del1")
     ∷ drives bit_signal (codes "clk") (codes "bit0") (codes "del2")
-    ∷ bare (wait_text (codes "next") (Some (codes "del2")) [])
+    ∷ does (wait_text (codes "next") (Some (codes "del2")) [])
     ∷ [])
     ∷ block (codes "next") (
-    line (codes "qp") (prb_text (word_at (codes "q")))
-    ∷ bare (call_text (global (codes "acc_tb_check")) void_type (typed word (codes "ip") ∷ typed word (codes "qp") ∷ []))
-    ∷ line (codes "in") (binary op.Add word (codes "ip") (codes "one"))
-    ∷ bare (st_text (typed (pointer_type word) (codes "i")) (codes "in"))
-    ∷ line (codes "cont") (binary op.Ult word (codes "ip") (codes "one"))
-    ∷ bare (branch_text (codes "cont") (codes "end") (codes "loop"))
+    gives (codes "qp") (prb_text (word_at (codes "q")))
+    ∷ does (call_text (global (codes "acc_tb_check")) void_type (typed word (codes "ip") ∷ typed word (codes "qp") ∷ []))
+    ∷ gives (codes "in") (binary op.Add word (codes "ip") (codes "one"))
+    ∷ does (st_text (typed (pointer_type word) (codes "i")) (codes "in"))
+    ∷ gives (codes "cont") (binary op.Ult word (codes "ip") (codes "one"))
+    ∷ does (branch_text (codes "cont") (codes "end") (codes "loop"))
     ∷ [])
-    ∷ block (codes "end") (bare halt_text ∷ [])
+    ∷ block (codes "end") (does halt_text ∷ [])
     ∷ [])
 
 abbrev check : ItemText
@@ -146,14 +144,14 @@ check = unit_text (record {
   args = input (codes "i") word ∷ input (codes "q") word ∷ [];
   result = Some void_type;
   blocks = block (codes "entry") (
-      line (codes "one") (const_text (int_value 32 1))
-      ∷ line (codes "two") (const_text (int_value 32 2))
-      ∷ line (codes "dec") (binary op.Sub word (codes "i") (codes "one"))
-      ∷ line (codes "prod") (binary op.Umul word (codes "i") (codes "dec"))
-      ∷ line (codes "sum") (binary op.Udiv word (codes "prod") (codes "two"))
-      ∷ line (codes "ok") (binary op.Eq word (codes "q") (codes "sum"))
-      ∷ bare (call_text (global (codes "llhd.assert")) void_type (typed bit (codes "ok") ∷ []))
-      ∷ bare (ret_text None)
+      gives (codes "one") (const_text (int_value 32 1))
+      ∷ gives (codes "two") (const_text (int_value 32 2))
+      ∷ gives (codes "dec") (binary op.Sub word (codes "i") (codes "one"))
+      ∷ gives (codes "prod") (binary op.Umul word (codes "i") (codes "dec"))
+      ∷ gives (codes "sum") (binary op.Udiv word (codes "prod") (codes "two"))
+      ∷ gives (codes "ok") (binary op.Eq word (codes "q") (codes "sum"))
+      ∷ does (call_text (global (codes "llhd.assert")) void_type (typed bit (codes "ok") ∷ []))
+      ∷ does (ret_text None)
       ∷ []) ∷ [];
 })
 
@@ -163,21 +161,21 @@ as_processes = testbench ∷ accumulator ∷ ff_process ∷ comb_process ∷ ini
 -- the entities that may stand for the two processes
 abbrev ff_entity : ItemText
 ff_entity = entity (codes "acc_ff") ff_args (
-    line (codes "v0") (prb_text (word_at (codes "d")))
-    ∷ line (codes "v1") (prb_text (bit_at (codes "clk")))
-    ∷ line (codes "v2") (const_text (delay 0 1 0))
-    ∷ bare (reg_text (word_at (codes "q")) (record { value = codes "v0"; mode = Rise; trigger = codes "v1"; gate = None; after = Some (codes "v2") } ∷ []))
+    gives (codes "v0") (prb_text (word_at (codes "d")))
+    ∷ gives (codes "v1") (prb_text (bit_at (codes "clk")))
+    ∷ gives (codes "v2") (const_text (delay 0 1 0))
+    ∷ does (reg_text (word_at (codes "q")) (record { value = codes "v0"; mode = Rise; trigger = codes "v1"; gate = None; after = Some (codes "v2") } ∷ []))
     ∷ [])
 
 abbrev comb_entity : ItemText
 comb_entity = entity (codes "acc_comb") comb_args (
-    line (codes "v0") (prb_text (word_at (codes "q")))
-    ∷ line (codes "v1") (prb_text (word_at (codes "x")))
-    ∷ line (codes "v2") (prb_text (bit_at (codes "en")))
-    ∷ line (codes "v3") (binary op.Add word (codes "v0") (codes "v1"))
-    ∷ line (codes "v4") (pure_text op.Array (typed word (codes "v0") ∷ name (codes "v3") ∷ []))
-    ∷ line (codes "v5") (pure_text op.Mux (typed word (codes "v4") ∷ name (codes "v2") ∷ []))
-    ∷ line (codes "v6") (const_text (delay 0 1 0))
+    gives (codes "v0") (prb_text (word_at (codes "q")))
+    ∷ gives (codes "v1") (prb_text (word_at (codes "x")))
+    ∷ gives (codes "v2") (prb_text (bit_at (codes "en")))
+    ∷ gives (codes "v3") (binary op.Add word (codes "v0") (codes "v1"))
+    ∷ gives (codes "v4") (pure_text op.Array (typed word (codes "v0") ∷ name (codes "v3") ∷ []))
+    ∷ gives (codes "v5") (pure_text op.Mux (typed word (codes "v4") ∷ name (codes "v2") ∷ []))
+    ∷ gives (codes "v6") (const_text (delay 0 1 0))
     ∷ drives word_signal (codes "d") (codes "v5") (codes "v6")
     ∷ [])
 

@@ -15,7 +15,7 @@ use Rattle.lh_unit.specs.Pass.{pass, probes}
 use Rattle.lh_unit.specs.World.{Rules, rules_of}
 use Rattle.lh_unit.specs.Trace.{SameTrace}
 use Rattle.lh_meaning.specs.Replacing.{MayStand}
-use Rattle.lh_meaning.proofs.Samples.{global, line, bare, typed, bit, bit_signal, input, output, block, delay}
+use Rattle.lh_meaning.proofs.Samples.{global, gives, does, typed, bit, bit_signal, input, output, block, delay}
 use Rattle.lh_meaning.proofs.ActivationsLaw.{run_enough}
 use Rattle.lh_meaning.proofs.Standing.{scene, fresh, waiting_at, EndsAt, sensed, CombFor}
 use Rattle.lh_meaning.proofs.MayStandLaw.{comb_may_stand}
@@ -31,10 +31,10 @@ as_process = record {
   args = args;
   result = None;
   blocks = block (codes "entry") (
-      line (codes "xp") (prb_text (typed bit_signal (codes "x")))
-      ∷ line (codes "d") (const_text (delay 1000000 0 0))
-      ∷ bare (drv_text (typed bit_signal (codes "q")) (codes "xp") (codes "d") None)
-      ∷ bare (wait_text (codes "entry") None (codes "x" ∷ []))
+      gives (codes "xp") (prb_text (typed bit_signal (codes "x")))
+      ∷ gives (codes "d") (const_text (delay 1000000 0 0))
+      ∷ does (drv_text (typed bit_signal (codes "q")) (codes "xp") (codes "d") None)
+      ∷ does (wait_text (codes "entry") None (codes "x" ∷ []))
       ∷ []) ∷ [];
 }
 
@@ -47,9 +47,9 @@ as_entity = record {
   blocks = record {
     label = None;
     lines =
-        line (codes "v0") (prb_text (typed bit_signal (codes "x")))
-        ∷ line (codes "v1") (const_text (delay 1000000 0 0))
-        ∷ bare (drv_text (typed bit_signal (codes "q")) (codes "v0") (codes "v1") None)
+        gives (codes "v0") (prb_text (typed bit_signal (codes "x")))
+        ∷ gives (codes "v1") (const_text (delay 1000000 0 0))
+        ∷ does (drv_text (typed bit_signal (codes "q")) (codes "v0") (codes "v1") None)
         ∷ [];
   } ∷ [];
 }
@@ -70,10 +70,10 @@ at_entry e = record {
   block = codes "entry";
   held = e;
   rest =
-      line (codes "xp") (prb_text (typed bit_signal (codes "x")))
-      ∷ line (codes "d") (const_text (delay 1000000 0 0))
-      ∷ bare (drv_text (typed bit_signal (codes "q")) (codes "xp") (codes "d") None)
-      ∷ bare (wait_text (codes "entry") None (codes "x" ∷ []))
+      gives (codes "xp") (prb_text (typed bit_signal (codes "x")))
+      ∷ gives (codes "d") (const_text (delay 1000000 0 0))
+      ∷ does (drv_text (typed bit_signal (codes "q")) (codes "xp") (codes "d") None)
+      ∷ does (wait_text (codes "entry") None (codes "x" ∷ []))
       ∷ [];
 }
 

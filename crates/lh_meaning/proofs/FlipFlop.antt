@@ -22,7 +22,7 @@ use Rattle.lh_unit.specs.Pass.{pass, probes}
 use Rattle.lh_unit.specs.World.{Rules, rules_of, bit_at, bit_numbers}
 use Rattle.lh_unit.specs.Trace.{SameTrace}
 use Rattle.lh_meaning.specs.Replacing.{MayStand}
-use Rattle.lh_meaning.proofs.Samples.{global, line, bare, typed, bit, bit_signal, input, output, block, delay}
+use Rattle.lh_meaning.proofs.Samples.{global, gives, does, typed, bit, bit_signal, input, output, block, delay}
 use Rattle.lh_meaning.proofs.ActivationsLaw.{run_enough}
 use Rattle.lh_meaning.proofs.BitSets.{SameSet, bits_read}
 use Rattle.lh_meaning.proofs.Standing.{scene, fresh, waiting_at, EndsAt, EdgeFor}
@@ -37,24 +37,24 @@ binary x y = x ∷ record { value = y; ty = None } ∷ []
 
 abbrev init_lines : List LineText
 init_lines =
-    line (codes "clk0") (prb_text (typed bit_signal (codes "clk")))
-    ∷ bare (wait_text (codes "check") None (codes "clk" ∷ []))
+    gives (codes "clk0") (prb_text (typed bit_signal (codes "clk")))
+    ∷ does (wait_text (codes "check") None (codes "clk" ∷ []))
     ∷ []
 
 abbrev check_lines : List LineText
 check_lines =
-    line (codes "clk1") (prb_text (typed bit_signal (codes "clk")))
-    ∷ line (codes "chg") (pure_text op.Neq (binary (typed bit (codes "clk0")) (codes "clk1")))
-    ∷ line (codes "posedge") (pure_text op.And (binary (typed bit (codes "chg")) (codes "clk1")))
-    ∷ bare (branch_text (codes "posedge") (codes "init") (codes "event"))
+    gives (codes "clk1") (prb_text (typed bit_signal (codes "clk")))
+    ∷ gives (codes "chg") (pure_text op.Neq (binary (typed bit (codes "clk0")) (codes "clk1")))
+    ∷ gives (codes "posedge") (pure_text op.And (binary (typed bit (codes "chg")) (codes "clk1")))
+    ∷ does (branch_text (codes "posedge") (codes "init") (codes "event"))
     ∷ []
 
 abbrev event_lines : List LineText
 event_lines =
-    line (codes "dp") (prb_text (typed bit_signal (codes "d")))
-    ∷ line (codes "delay") (const_text (delay 0 1 0))
-    ∷ bare (drv_text (typed bit_signal (codes "q")) (codes "dp") (codes "delay") None)
-    ∷ bare (br_text (codes "init"))
+    gives (codes "dp") (prb_text (typed bit_signal (codes "d")))
+    ∷ gives (codes "delay") (const_text (delay 0 1 0))
+    ∷ does (drv_text (typed bit_signal (codes "q")) (codes "dp") (codes "delay") None)
+    ∷ does (br_text (codes "init"))
     ∷ []
 
 abbrev as_process : UnitText
@@ -75,10 +75,10 @@ as_entity = record {
   blocks = record {
     label = None;
     lines =
-        line (codes "v0") (prb_text (typed bit_signal (codes "d")))
-        ∷ line (codes "v1") (prb_text (typed bit_signal (codes "clk")))
-        ∷ line (codes "v2") (const_text (delay 0 1 0))
-        ∷ bare (reg_text (typed bit_signal (codes "q")) (record { value = codes "v0"; mode = Rise; trigger = codes "v1"; gate = None; after = Some (codes "v2") } ∷ []))
+        gives (codes "v0") (prb_text (typed bit_signal (codes "d")))
+        ∷ gives (codes "v1") (prb_text (typed bit_signal (codes "clk")))
+        ∷ gives (codes "v2") (const_text (delay 0 1 0))
+        ∷ does (reg_text (typed bit_signal (codes "q")) (record { value = codes "v0"; mode = Rise; trigger = codes "v1"; gate = None; after = Some (codes "v2") } ∷ []))
         ∷ [];
   } ∷ [];
 }

@@ -13,9 +13,9 @@ use Rattle.lh_unit.specs.Pass.{pass, probes}
 use Rattle.lh_unit.specs.World.{Rules, rules_of}
 use Rattle.lh_unit.specs.Trace.{SameTrace}
 use Rattle.lh_meaning.specs.Replacing.{MayStand}
-use Rattle.lh_meaning.proofs.Samples.{global, line, bare, typed, bit, bit_signal, output, block, delay}
+use Rattle.lh_meaning.proofs.Samples.{global, gives, does, typed, bit_signal, output, block, delay}
 use Rattle.lh_meaning.proofs.ActivationsLaw.{run_enough}
-use Rattle.lh_meaning.proofs.Standing.{scene, fresh, Halts, sensed, OnceFor}
+use Rattle.lh_meaning.proofs.Standing.{scene, fresh, sensed, OnceFor}
 use Rattle.lh_meaning.proofs.MayStandLaw.{once_may_stand}
 use Rattle.lh_meaning.proofs.ReplacingLaw.{replaced_same_trace}
 
@@ -24,10 +24,10 @@ args = output (codes "q") bit_signal ∷ []
 
 abbrev process_lines : List LineText
 process_lines =
-    line (codes "one") (const_text (int_value 1 1))
-    ∷ line (codes "t") (const_text (delay 1000000 0 0))
-    ∷ bare (drv_text (typed bit_signal (codes "q")) (codes "one") (codes "t") None)
-    ∷ bare halt_text
+    gives (codes "one") (const_text (int_value 1 1))
+    ∷ gives (codes "t") (const_text (delay 1000000 0 0))
+    ∷ does (drv_text (typed bit_signal (codes "q")) (codes "one") (codes "t") None)
+    ∷ does halt_text
     ∷ []
 
 abbrev as_process : UnitText
@@ -42,9 +42,9 @@ as_entity = record {
   blocks = record {
     label = None;
     lines =
-        line (codes "v0") (const_text (int_value 1 1))
-        ∷ line (codes "v1") (const_text (delay 1000000 0 0))
-        ∷ bare (drv_text (typed bit_signal (codes "q")) (codes "v0") (codes "v1") None)
+        gives (codes "v0") (const_text (int_value 1 1))
+        ∷ gives (codes "v1") (const_text (delay 1000000 0 0))
+        ∷ does (drv_text (typed bit_signal (codes "q")) (codes "v0") (codes "v1") None)
         ∷ [];
   } ∷ [];
 }

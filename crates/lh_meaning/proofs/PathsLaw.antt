@@ -1,5 +1,5 @@
 -- The path of an instance, by the labels above it.
-use Rattle.std.proofs.Common.{◌≡◌, ◌≤◌, ◌<◌, ◌↔◌, ℕ, zero, suc, ◌+◌, List, [], ◌∷◌, ◌++◌, length, refl, ap, sym, ◌∙◌, subst, Option, Some, None, arith, append_assoc}
+use Rattle.std.proofs.Common.{◌≡◌, ◌≤◌, ◌<◌, ℕ, zero, suc, ◌+◌, List, [], ◌∷◌, ◌++◌, length, refl, ap, sym, ◌∙◌, subst, Option, Some, None, arith, append_assoc}
 use Rattle.std.specs.Prelude.{slice_get}
 use Rattle.std.specs.Option.{option_map_or}
 use Rattle.std.specs.List.{join_with_byte}
@@ -8,9 +8,9 @@ use Rattle.std.proofs.lemmas.Option.{none-some, same_Some, slice_get_within}
 use Rattle.lh_types.specs.declared.part.Range.{Range}
 use Rattle.lh_names.specs.declared.name.UnitName.{UnitName}
 use Rattle.lh_unit.specs.Hierarchy.{Instance, Child, Hierarchy, Entry, hierarchies, hierarchy_named}
-use Rattle.lh_unit.specs.Design.{Design, Refusal, Elaborated, refused, built, hierarchy_in, max_nesting, arg_ranges, signal_ranges, with_instance, visit_all, visited, visit, top_signals, only_signals, design_of, refusal_of, elaborated, elab_named, elab_of, instance_label}
+use Rattle.lh_unit.specs.Design.{Design, Refusal, Elaborated, refused, built, hierarchy_in, max_nesting, arg_ranges, signal_ranges, with_instance, visit_all, visited, visit, top_signals, only_signals, design_of, refusal_of, elaborated, elab_named, elab_of}
 use Rattle.lh_unit.specs.Trace.{Shown, shown_from}
-use Rattle.lh_unit.specs.Paths.{shown_in, LabelsTo, of_top, of_child, IsPathTo, labels_by, labels_to, path_at, IsParentBelow, ParentsComeBefore}
+use Rattle.lh_unit.specs.Paths.{LabelsTo, of_top, of_child, labels_by, labels_to, path_at, IsParentBelow, ParentsComeBefore}
 use Rattle.lh_meaning.specs.Paths.{PathComputes, TopPath, ChildPath, DesignsHaveParentsBefore}
 
 none_below : (k : ℕ) → k < zero → ⊥

@@ -3,14 +3,15 @@ use Rattle.std.proofs.Common.{◌≡◌, ◌<◌, ◌⊎◌, inl, inr, ℕ, List
 use Rattle.std.specs.Prelude.{codes}
 use Rattle.std.specs.List.{list_any}
 use Rattle.std.proofs.lemmas.Bool.{both_ways as clash}
-use Rattle.lh_types.specs.Types.{TypeTree, int_type, void_type}
+use Rattle.lh_types.specs.Types.{void_type}
 use Rattle.lh_types.specs.Values.{int_value}
 use Rattle.lh_types.specs.declared.op.Op.TheVariants as op
 use Rattle.lh_unit.specs.declared.inst.UnitKind.TheVariants as kind
 use Rattle.lh_unit.specs.Contents.{InstText, const_text, pure_text, sig_text, prb_text, halt_text, call_text, phi_text, br_text, branch_text, ret_text, LineText, BlockText, UnitText, ItemText, unit_text, lines_define}
 use Rattle.lh_unit.specs.Places.{InstPlaceText}
 use Rattle.lh_unit.specs.WellFormed.{FaultKind, undefined, wrong_kind, wrong_type, not_here, no_terminator, phi_edges, not_defined, arguments, number_of, has_local, Lacks, SomeEdgeLacks, Site, sites, HasFault, IsFirstFault, IsFaultless}
-use Rattle.lh_meaning.proofs.Samples.{global, line, bare, typed, input, bit, bit_signal, block, entity, process}
+use Rattle.lh_unit.specs.Worded.{byte}
+use Rattle.lh_meaning.proofs.Samples.{global, gives, does, typed, input, bit, bit_signal, block, entity, process}
 
 abbrev all_kinds : List FaultKind
 all_kinds = undefined ∷ wrong_kind ∷ wrong_type ∷ not_here ∷ no_terminator ∷ phi_edges ∷ arguments ∷ []
@@ -66,9 +67,6 @@ module _ (items : List ItemText) (s : Site) (none : list_any (has_local items s)
   none_below not_defined l = absurd (omega (arith, l))
   none_below arguments l = absurd (omega (arith, l))
 
-abbrev byte : TypeTree
-byte = int_type 8
-
 abbrev function : List BlockText → UnitText
 function blocks = record { kind = kind.Func; name = global (codes "f"); args = input (codes "c") bit ∷ []; result = Some byte; blocks = blocks }
 
@@ -80,16 +78,16 @@ site u p = record { unit = u; place = p }
 
 -- A value that is defined on one way alone.
 abbrev branches : LineText
-branches = bare (branch_text (codes "c") (codes "b") (codes "a"))
+branches = does (branch_text (codes "c") (codes "b") (codes "a"))
 
 abbrev const_x : LineText
-const_x = line (codes "x") (const_text (int_value 8 1))
+const_x = gives (codes "x") (const_text (int_value 8 1))
 
 abbrev to_b : LineText
-to_b = bare (br_text (codes "b"))
+to_b = does (br_text (codes "b"))
 
 abbrev returns_value : List ℕ → LineText
-returns_value n = bare (ret_text (Some (typed byte n)))
+returns_value n = does (ret_text (Some (typed byte n)))
 
 abbrev entry : BlockText
 entry = block (codes "entry") (branches ∷ [])
@@ -134,10 +132,10 @@ one_way_fault =
 
 -- The same with a value on either way.
 abbrev const_o : LineText
-const_o = line (codes "o") (const_text (int_value 8 0))
+const_o = gives (codes "o") (const_text (int_value 8 0))
 
 abbrev merges : LineText
-merges = line (codes "y") (phi_text byte (record { value = codes "o"; block = codes "entry" } ∷ record { value = codes "x"; block = codes "a" } ∷ []))
+merges = gives (codes "y") (phi_text byte (record { value = codes "o"; block = codes "entry" } ∷ record { value = codes "x"; block = codes "a" } ∷ []))
 
 abbrev entry_with_o : BlockText
 entry_with_o = block (codes "entry") (const_o ∷ branches ∷ [])
@@ -191,70 +189,70 @@ both_ways_faultless = (
 -- One fault of each kind that asks for no path, in a process of two blocks.
 abbrev faulty : List LineText → List ItemText
 faulty lines = process (codes "p") (input (codes "s") bit_signal ∷ []) (
-    block (codes "entry") (lines ++ bare (br_text (codes "next")) ∷ []) ∷ block (codes "next") (bare halt_text ∷ []) ∷ []) ∷ []
+    block (codes "entry") (lines ++ does (br_text (codes "next")) ∷ []) ∷ block (codes "next") (does halt_text ∷ []) ∷ []) ∷ []
 
 abbrev sum : List ℕ → List ℕ → InstText
 sum x y = pure_text op.Add (typed bit x ∷ record { value = y; ty = None } ∷ [])
 
-pub faultless_sum : local_numbers (faulty (line (codes "a") (prb_text (typed bit_signal (codes "s"))) ∷ line (codes "b") (sum (codes "a") (codes "a")) ∷ [])) ≡ [] ∷ [] ∷ [] ∷ [] ∷ []
+pub faultless_sum : local_numbers (faulty (gives (codes "a") (prb_text (typed bit_signal (codes "s"))) ∷ gives (codes "b") (sum (codes "a") (codes "a")) ∷ [])) ≡ [] ∷ [] ∷ [] ∷ [] ∷ []
 faultless_sum = refl
 
-pub undefined_value : local_numbers (faulty (line (codes "b") (prb_text (typed bit_signal (codes "r"))) ∷ [])) ≡ (1 ∷ 3 ∷ []) ∷ [] ∷ [] ∷ []
+pub undefined_value : local_numbers (faulty (gives (codes "b") (prb_text (typed bit_signal (codes "r"))) ∷ [])) ≡ (1 ∷ 3 ∷ []) ∷ [] ∷ [] ∷ []
 undefined_value = refl
 
-pub undefined_unit : local_numbers (faulty (bare (call_text (global (codes "f")) void_type []) ∷ [])) ≡ (1 ∷ 2 ∷ []) ∷ [] ∷ [] ∷ []
+pub undefined_unit : local_numbers (faulty (does (call_text (global (codes "f")) void_type []) ∷ [])) ≡ (1 ∷ 2 ∷ []) ∷ [] ∷ [] ∷ []
 undefined_unit = refl
 
 -- a signal where data is needed, and data of another width
-pub signal_as_data : local_numbers (faulty (line (codes "b") (sum (codes "s") (codes "s")) ∷ [])) ≡ (2 ∷ 3 ∷ []) ∷ [] ∷ [] ∷ []
+pub signal_as_data : local_numbers (faulty (gives (codes "b") (sum (codes "s") (codes "s")) ∷ [])) ≡ (2 ∷ 3 ∷ []) ∷ [] ∷ [] ∷ []
 signal_as_data = refl
 
-pub other_width : local_numbers (faulty (line (codes "a") (const_text (int_value 8 1)) ∷ line (codes "b") (sum (codes "a") (codes "a")) ∷ [])) ≡ [] ∷ (3 ∷ []) ∷ [] ∷ [] ∷ []
+pub other_width : local_numbers (faulty (gives (codes "a") (const_text (int_value 8 1)) ∷ gives (codes "b") (sum (codes "a") (codes "a")) ∷ [])) ≡ [] ∷ (3 ∷ []) ∷ [] ∷ [] ∷ []
 other_width = refl
 
-pub signal_in_process : local_numbers (faulty (line (codes "a") (const_text (int_value 1 1)) ∷ line (codes "b") (sig_text (typed bit (codes "a"))) ∷ [])) ≡ [] ∷ (4 ∷ []) ∷ [] ∷ [] ∷ []
+pub signal_in_process : local_numbers (faulty (gives (codes "a") (const_text (int_value 1 1)) ∷ gives (codes "b") (sig_text (typed bit (codes "a"))) ∷ [])) ≡ [] ∷ (4 ∷ []) ∷ [] ∷ [] ∷ []
 signal_in_process = refl
 
-pub halts_early : local_numbers (faulty (bare halt_text ∷ [])) ≡ (5 ∷ []) ∷ [] ∷ [] ∷ []
+pub halts_early : local_numbers (faulty (does halt_text ∷ [])) ≡ (5 ∷ []) ∷ [] ∷ [] ∷ []
 halts_early = refl
 
 -- a value that has no kind where it is used: `prb i1` names no signal
-pub no_kind : local_numbers (faulty (line (codes "b") (prb_text (typed bit (codes "s"))) ∷ line (codes "c") (sum (codes "b") (codes "b")) ∷ [])) ≡ (3 ∷ []) ∷ (3 ∷ []) ∷ [] ∷ [] ∷ []
+pub no_kind : local_numbers (faulty (gives (codes "b") (prb_text (typed bit (codes "s"))) ∷ gives (codes "c") (sum (codes "b") (codes "b")) ∷ [])) ≡ (3 ∷ []) ∷ (3 ∷ []) ∷ [] ∷ [] ∷ []
 no_kind = refl
 
-pub assertion_of_none : local_numbers (faulty (bare (call_text (global (codes "llhd.assert")) void_type []) ∷ [])) ≡ (8 ∷ []) ∷ [] ∷ [] ∷ []
+pub assertion_of_none : local_numbers (faulty (does (call_text (global (codes "llhd.assert")) void_type []) ∷ [])) ≡ (8 ∷ []) ∷ [] ∷ [] ∷ []
 assertion_of_none = refl
 
 -- the operand of a signal depends on a probe
 pub probed_signal : local_numbers (entity (codes "t") (input (codes "s") bit_signal ∷ []) (
-    line (codes "a") (prb_text (typed bit_signal (codes "s"))) ∷ line (codes "b") (sum (codes "a") (codes "a")) ∷ line (codes "c") (sig_text (typed bit (codes "b"))) ∷ []) ∷ [])
+    gives (codes "a") (prb_text (typed bit_signal (codes "s"))) ∷ gives (codes "b") (sum (codes "a") (codes "a")) ∷ gives (codes "c") (sig_text (typed bit (codes "b"))) ∷ []) ∷ [])
     ≡ [] ∷ [] ∷ (2 ∷ []) ∷ []
 probed_signal = refl
 
 -- a phi that does not name its predecessor
 pub phi_of_none : local_numbers (process (codes "p") [] (
-    block (codes "entry") (line (codes "a") (const_text (int_value 1 1)) ∷ bare (br_text (codes "next")) ∷ [])
-    ∷ block (codes "next") (line (codes "b") (phi_text bit (record { value = codes "a"; block = codes "next" } ∷ [])) ∷ bare halt_text ∷ []) ∷ []) ∷ [])
+    block (codes "entry") (gives (codes "a") (const_text (int_value 1 1)) ∷ does (br_text (codes "next")) ∷ [])
+    ∷ block (codes "next") (gives (codes "b") (phi_text bit (record { value = codes "a"; block = codes "next" } ∷ [])) ∷ does halt_text ∷ []) ∷ []) ∷ [])
     ≡ [] ∷ [] ∷ (6 ∷ []) ∷ [] ∷ []
 phi_of_none = refl
 
 -- A value has the type that its own line writes, also where its row takes no such type: the use as a signal has no fault, the line that gives it has one.
 pub call_of_a_signal : local_numbers (faulty (
-    line (codes "c") (const_text (int_value 1 1))
-    ∷ line (codes "b") (prb_text (typed bit_signal (codes "x")))
-    ∷ line (codes "x") (call_text (global (codes "llhd.assert")) bit_signal (typed bit (codes "c") ∷ [])) ∷ []))
+    gives (codes "c") (const_text (int_value 1 1))
+    ∷ gives (codes "b") (prb_text (typed bit_signal (codes "x")))
+    ∷ gives (codes "x") (call_text (global (codes "llhd.assert")) bit_signal (typed bit (codes "c") ∷ [])) ∷ []))
     ≡ [] ∷ [] ∷ (3 ∷ []) ∷ [] ∷ [] ∷ []
 call_of_a_signal = refl
 
 pub phi_of_a_signal : local_numbers (process (codes "p") [] (
-    block (codes "entry") (line (codes "a") (const_text (int_value 1 1)) ∷ line (codes "b") (prb_text (typed bit_signal (codes "x"))) ∷ bare (br_text (codes "next")) ∷ [])
-    ∷ block (codes "next") (line (codes "x") (phi_text bit_signal (record { value = codes "a"; block = codes "entry" } ∷ [])) ∷ bare halt_text ∷ []) ∷ []) ∷ [])
+    block (codes "entry") (gives (codes "a") (const_text (int_value 1 1)) ∷ gives (codes "b") (prb_text (typed bit_signal (codes "x"))) ∷ does (br_text (codes "next")) ∷ [])
+    ∷ block (codes "next") (gives (codes "x") (phi_text bit_signal (record { value = codes "a"; block = codes "entry" } ∷ [])) ∷ does halt_text ∷ []) ∷ []) ∷ [])
     ≡ [] ∷ [] ∷ [] ∷ (3 ∷ []) ∷ [] ∷ []
 phi_of_a_signal = refl
 
 -- and a use of it as data is of the wrong kind
 pub phi_of_a_signal_as_data : local_numbers (process (codes "p") [] (
-    block (codes "entry") (line (codes "a") (const_text (int_value 1 1)) ∷ line (codes "b") (sum (codes "x") (codes "a")) ∷ bare (br_text (codes "next")) ∷ [])
-    ∷ block (codes "next") (line (codes "x") (phi_text bit_signal (record { value = codes "a"; block = codes "entry" } ∷ [])) ∷ bare halt_text ∷ []) ∷ []) ∷ [])
+    block (codes "entry") (gives (codes "a") (const_text (int_value 1 1)) ∷ gives (codes "b") (sum (codes "x") (codes "a")) ∷ does (br_text (codes "next")) ∷ [])
+    ∷ block (codes "next") (gives (codes "x") (phi_text bit_signal (record { value = codes "a"; block = codes "entry" } ∷ [])) ∷ does halt_text ∷ []) ∷ []) ∷ [])
     ≡ [] ∷ (2 ∷ 3 ∷ []) ∷ [] ∷ (3 ∷ []) ∷ [] ∷ []
 phi_of_a_signal_as_data = refl

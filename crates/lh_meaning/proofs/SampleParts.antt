@@ -16,10 +16,8 @@ use Rattle.lh_unit.specs.Pass.{pass, probes}
 use Rattle.lh_unit.specs.Design.{visit, design_of, refusal_of}
 use Rattle.lh_unit.specs.World.{acts_at}
 use Rattle.lh_unit.specs.Trace.{Frame, End, quiet, steps, Run, Shown, ShownSignal, ran, trace}
-use Rattle.lh_meaning.proofs.Samples.{global, line, bare, typed, bit, bit_signal, byte_signal, input, output, entity, process, block, delay}
-
-abbrev byte : TypeTree
-byte = int_type 8
+use Rattle.lh_unit.specs.Worded.{byte}
+use Rattle.lh_meaning.proofs.Samples.{global, gives, does, typed, bit, bit_signal, byte_signal, input, output, entity, process, block, delay}
 
 abbrev name : List ℕ → OperandText
 name n = record { value = n; ty = None }
@@ -40,17 +38,17 @@ signal n t = record { instance = 0; name = n; ty = t }
 abbrev swapping : List ItemText
 swapping = process (codes "p") (output (codes "q") byte_signal ∷ []) (
     block (codes "entry") (
-    line (codes "a") (const_text (int_value 8 1))
-    ∷ line (codes "b") (const_text (int_value 8 2))
-    ∷ line (codes "z") (const_text (delay 0 0 0))
-    ∷ line (codes "d") (const_text (delay 1000000 0 0))
-    ∷ bare (br_text (codes "loop"))
+    gives (codes "a") (const_text (int_value 8 1))
+    ∷ gives (codes "b") (const_text (int_value 8 2))
+    ∷ gives (codes "z") (const_text (delay 0 0 0))
+    ∷ gives (codes "d") (const_text (delay 1000000 0 0))
+    ∷ does (br_text (codes "loop"))
     ∷ [])
     ∷ block (codes "loop") (
-    line (codes "x") (phi_text byte (record { value = codes "a"; block = codes "entry" } ∷ record { value = codes "y"; block = codes "loop" } ∷ []))
-    ∷ line (codes "y") (phi_text byte (record { value = codes "b"; block = codes "entry" } ∷ record { value = codes "x"; block = codes "loop" } ∷ []))
-    ∷ bare (drv_text (typed byte_signal (codes "q")) (codes "x") (codes "z") None)
-    ∷ bare (wait_text (codes "loop") (Some (codes "d")) [])
+    gives (codes "x") (phi_text byte (record { value = codes "a"; block = codes "entry" } ∷ record { value = codes "y"; block = codes "loop" } ∷ []))
+    ∷ gives (codes "y") (phi_text byte (record { value = codes "b"; block = codes "entry" } ∷ record { value = codes "x"; block = codes "loop" } ∷ []))
+    ∷ does (drv_text (typed byte_signal (codes "q")) (codes "x") (codes "z") None)
+    ∷ does (wait_text (codes "loop") (Some (codes "d")) [])
     ∷ [])
     ∷ []) ∷ []
 
@@ -71,19 +69,19 @@ calling =
       args = input (codes "a") byte ∷ input (codes "b") byte ∷ [];
       result = Some byte;
       blocks = block (codes "entry") (
-          line (codes "x") (pure_text op.Sub (typed byte (codes "a") ∷ name (codes "b") ∷ []))
-          ∷ bare (ret_text (Some (typed byte (codes "x"))))
+          gives (codes "x") (pure_text op.Sub (typed byte (codes "a") ∷ name (codes "b") ∷ []))
+          ∷ does (ret_text (Some (typed byte (codes "x"))))
           ∷ []) ∷ [];
     })
     ∷ process (codes "p") (output (codes "q") byte_signal ∷ []) (
     block (codes "entry") (
-    line (codes "x") (const_text (int_value 8 9))
-    ∷ line (codes "b") (const_text (int_value 8 4))
-    ∷ line (codes "z") (const_text (delay 0 0 0))
-    ∷ line (codes "r") (call_text (global (codes "f")) byte (typed byte (codes "x") ∷ typed byte (codes "b") ∷ []))
-    ∷ line (codes "s") (pure_text op.Add (typed byte (codes "r") ∷ name (codes "x") ∷ []))
-    ∷ bare (drv_text (typed byte_signal (codes "q")) (codes "s") (codes "z") None)
-    ∷ bare halt_text
+    gives (codes "x") (const_text (int_value 8 9))
+    ∷ gives (codes "b") (const_text (int_value 8 4))
+    ∷ gives (codes "z") (const_text (delay 0 0 0))
+    ∷ gives (codes "r") (call_text (global (codes "f")) byte (typed byte (codes "x") ∷ typed byte (codes "b") ∷ []))
+    ∷ gives (codes "s") (pure_text op.Add (typed byte (codes "r") ∷ name (codes "x") ∷ []))
+    ∷ does (drv_text (typed byte_signal (codes "q")) (codes "s") (codes "z") None)
+    ∷ does halt_text
     ∷ [])
     ∷ [])
     ∷ []
@@ -99,20 +97,20 @@ pair = tuple_type (row_of (int_type 4 ∷ byte ∷ []))
 abbrev parts : List ItemText
 parts =
     entity (codes "t") [] (
-    line (codes "n") (const_text (int_value 4 5))
-    ∷ line (codes "b") (const_text (int_value 8 255))
-    ∷ line (codes "v") (pure_text op.Tuple (typed (int_type 4) (codes "n") ∷ typed byte (codes "b") ∷ []))
-    ∷ line (codes "s") (sig_text (typed pair (codes "v")))
-    ∷ line (codes "f") (pure_text (op.Extf 1) (typed byte_signal (codes "s") ∷ []))
-    ∷ bare (child_text (global (codes "u")) [] (typed byte_signal (codes "f") ∷ []))
+    gives (codes "n") (const_text (int_value 4 5))
+    ∷ gives (codes "b") (const_text (int_value 8 255))
+    ∷ gives (codes "v") (pure_text op.Tuple (typed (int_type 4) (codes "n") ∷ typed byte (codes "b") ∷ []))
+    ∷ gives (codes "s") (sig_text (typed pair (codes "v")))
+    ∷ gives (codes "f") (pure_text (op.Extf 1) (typed byte_signal (codes "s") ∷ []))
+    ∷ does (child_text (global (codes "u")) [] (typed byte_signal (codes "f") ∷ []))
     ∷ [])
     ∷ process (codes "u") (output (codes "w") byte_signal ∷ []) (
     block (codes "entry") (
-    line (codes "g") (pure_text (op.Exts 2 3) (typed (signal_type (int_type 3)) (codes "w") ∷ []))
-    ∷ line (codes "k") (const_text (int_value 3 2))
-    ∷ line (codes "d") (const_text (delay 5 0 0))
-    ∷ bare (drv_text (typed (signal_type (int_type 3)) (codes "g")) (codes "k") (codes "d") None)
-    ∷ bare halt_text
+    gives (codes "g") (pure_text (op.Exts 2 3) (typed (signal_type (int_type 3)) (codes "w") ∷ []))
+    ∷ gives (codes "k") (const_text (int_value 3 2))
+    ∷ gives (codes "d") (const_text (delay 5 0 0))
+    ∷ does (drv_text (typed (signal_type (int_type 3)) (codes "g")) (codes "k") (codes "d") None)
+    ∷ does halt_text
     ∷ [])
     ∷ [])
     ∷ []
@@ -130,17 +128,17 @@ parts_trace = refl
 -- A register with three triggers: the first that fires drives, and its gate counts. Both edges of a clock that is driven by the entity itself.
 abbrev clocked : List ItemText
 clocked = entity (codes "t") [] (
-    line (codes "z") (const_text (int_value 1 0))
-    ∷ line (codes "one") (const_text (int_value 8 1))
-    ∷ line (codes "two") (const_text (int_value 8 2))
-    ∷ line (codes "zero") (const_text (int_value 8 0))
-    ∷ line (codes "d") (const_text (delay 5 0 0))
-    ∷ line (codes "c") (sig_text (typed bit (codes "z")))
-    ∷ line (codes "q") (sig_text (typed byte (codes "zero")))
-    ∷ line (codes "cp") (prb_text (typed bit_signal (codes "c")))
-    ∷ line (codes "cn") (pure_text op.Not (typed bit (codes "cp") ∷ []))
-    ∷ bare (drv_text (typed bit_signal (codes "c")) (codes "cn") (codes "d") None)
-    ∷ bare (reg_text (typed byte_signal (codes "q")) (
+    gives (codes "z") (const_text (int_value 1 0))
+    ∷ gives (codes "one") (const_text (int_value 8 1))
+    ∷ gives (codes "two") (const_text (int_value 8 2))
+    ∷ gives (codes "zero") (const_text (int_value 8 0))
+    ∷ gives (codes "d") (const_text (delay 5 0 0))
+    ∷ gives (codes "c") (sig_text (typed bit (codes "z")))
+    ∷ gives (codes "q") (sig_text (typed byte (codes "zero")))
+    ∷ gives (codes "cp") (prb_text (typed bit_signal (codes "c")))
+    ∷ gives (codes "cn") (pure_text op.Not (typed bit (codes "cp") ∷ []))
+    ∷ does (drv_text (typed bit_signal (codes "c")) (codes "cn") (codes "d") None)
+    ∷ does (reg_text (typed byte_signal (codes "q")) (
     record { value = codes "one"; mode = Rise; trigger = codes "cp"; gate = Some (codes "z"); after = None }
     ∷ record { value = codes "two"; mode = Both; trigger = codes "cp"; gate = Some (codes "cp"); after = None }
     ∷ record { value = codes "one"; mode = Low; trigger = codes "cp"; gate = None; after = None }

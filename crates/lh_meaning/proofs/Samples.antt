@@ -1,27 +1,12 @@
 -- Small files, as contents.
-use Rattle.std.specs.Prelude.{ℕ, List, [], ◌∷◌, ◌++◌, map, true, false, Some, None, codes}
+use Rattle.std.specs.Prelude.{ℕ, List, [], ◌∷◌, ◌++◌, map, Some, None, codes}
 use Rattle.lh_types.specs.Types.{TypeTree, int_type, void_type, signal_type}
 use Rattle.lh_types.specs.Values.{Datum, int_value, time_value}
-use Rattle.lh_names.specs.declared.name.UnitName.{UnitName}
 use Rattle.lh_unit.specs.declared.inst.UnitKind.TheVariants as kind
 use Rattle.lh_unit.specs.declared.inst.Mode.{Mode}
 use Rattle.lh_unit.specs.declared.inst.Mode.TheVariants.{Rise}
-use Rattle.lh_unit.specs.Contents.{OperandText, InstText, const_text, sig_text, drv_text, prb_text, reg_text, child_text, call_text, wait_text, halt_text, ret_text, LineText, BlockText, ArgText, UnitText, ItemText, unit_text}
-
-abbrev pub global : List ℕ → UnitName
-global n = record { sigil = 64; name = n }
-
-abbrev pub line : List ℕ → InstText → LineText
-line n i = record { result = Some n; inst = i }
-
-abbrev pub bare : InstText → LineText
-bare i = record { result = None; inst = i }
-
-abbrev pub typed : TypeTree → List ℕ → OperandText
-typed t n = record { value = n; ty = Some t }
-
-abbrev pub bit : TypeTree
-bit = int_type 1
+pub use Rattle.lh_unit.specs.Worded.{bit, global, typed, gives, does, input, output, block}
+use Rattle.lh_unit.specs.Contents.{const_text, sig_text, drv_text, prb_text, reg_text, child_text, call_text, wait_text, halt_text, ret_text, LineText, BlockText, ArgText, UnitText, ItemText, unit_text}
 
 abbrev pub bit_signal : TypeTree
 bit_signal = signal_type bit
@@ -29,20 +14,11 @@ bit_signal = signal_type bit
 abbrev pub byte_signal : TypeTree
 byte_signal = signal_type (int_type 8)
 
-abbrev pub input : List ℕ → TypeTree → ArgText
-input n t = record { name = n; ty = t; output = false }
-
-abbrev pub output : List ℕ → TypeTree → ArgText
-output n t = record { name = n; ty = t; output = true }
-
 abbrev pub entity : List ℕ → List ArgText → List LineText → ItemText
 entity n args lines = unit_text (record { kind = kind.Entity; name = global n; args = args; result = None; blocks = record { label = None; lines = lines } ∷ [] })
 
 abbrev pub process : List ℕ → List ArgText → List BlockText → ItemText
 process n args blocks = unit_text (record { kind = kind.Proc; name = global n; args = args; result = None; blocks = blocks })
-
-abbrev pub block : List ℕ → List LineText → BlockText
-block n lines = record { label = Some n; lines = lines }
 
 abbrev pub delay : ℕ → ℕ → ℕ → Datum
 delay fs delta eps = time_value (record { fs = fs; delta = delta; eps = eps })
@@ -50,34 +26,34 @@ delay fs delta eps = time_value (record { fs = fs; delta = delta; eps = eps })
 -- a signal that is driven to 1 after a nanosecond
 abbrev pub one_drive : List ItemText
 one_drive = entity (codes "t") [] (
-    line (codes "z") (const_text (int_value 1 0))
-    ∷ line (codes "o") (const_text (int_value 1 1))
-    ∷ line (codes "d") (const_text (delay 1000000 0 0))
-    ∷ line (codes "a") (sig_text (typed bit (codes "z")))
-    ∷ bare (drv_text (typed bit_signal (codes "a")) (codes "o") (codes "d") None)
+    gives (codes "z") (const_text (int_value 1 0))
+    ∷ gives (codes "o") (const_text (int_value 1 1))
+    ∷ gives (codes "d") (const_text (delay 1000000 0 0))
+    ∷ gives (codes "a") (sig_text (typed bit (codes "z")))
+    ∷ does (drv_text (typed bit_signal (codes "a")) (codes "o") (codes "d") None)
     ∷ []) ∷ []
 
 -- two processes that drive one byte at one instant, with 1 and with 2
 abbrev pub one_byte : List ℕ → ℕ → ItemText
 one_byte n v = process n (output (codes "s") byte_signal ∷ []) (
     block (codes "entry") (
-    line (codes "v") (const_text (int_value 8 v))
-    ∷ line (codes "d") (const_text (delay 1000000 0 0))
-    ∷ bare (drv_text (typed byte_signal (codes "s")) (codes "v") (codes "d") None)
-    ∷ bare halt_text
+    gives (codes "v") (const_text (int_value 8 v))
+    ∷ gives (codes "d") (const_text (delay 1000000 0 0))
+    ∷ does (drv_text (typed byte_signal (codes "s")) (codes "v") (codes "d") None)
+    ∷ does halt_text
     ∷ [])
     ∷ [])
 
 abbrev pub connected : List ℕ → List (List ℕ) → LineText
-connected n outputs = bare (child_text (global n) [] (map (λ o. record { value = o; ty = None }) outputs))
+connected n outputs = does (child_text (global n) [] (map (λ o. record { value = o; ty = None }) outputs))
 
 abbrev pub two_drivers : List ItemText
 two_drivers =
     one_byte (codes "p") 1
     ∷ one_byte (codes "r") 2
     ∷ entity (codes "t") [] (
-    line (codes "z") (const_text (int_value 8 0))
-    ∷ line (codes "s") (sig_text (typed (int_type 8) (codes "z")))
+    gives (codes "z") (const_text (int_value 8 0))
+    ∷ gives (codes "s") (sig_text (typed (int_type 8) (codes "z")))
     ∷ connected (codes "r") (codes "s" ∷ [])
     ∷ connected (codes "p") (codes "s" ∷ [])
     ∷ [])
@@ -85,29 +61,29 @@ two_drivers =
 
 -- a register with one trigger
 abbrev pub register : Mode → LineText
-register m = bare (reg_text (typed bit_signal (codes "q")) (record { value = codes "o"; mode = m; trigger = codes "cp"; gate = None; after = None } ∷ []))
+register m = does (reg_text (typed bit_signal (codes "q")) (record { value = codes "o"; mode = m; trigger = codes "cp"; gate = None; after = None } ∷ []))
 
 -- a register whose trigger is 1 from the start
 abbrev pub high_from_start : Mode → List ItemText
 high_from_start m = entity (codes "t") [] (
-    line (codes "z") (const_text (int_value 1 0))
-    ∷ line (codes "o") (const_text (int_value 1 1))
-    ∷ line (codes "c") (sig_text (typed bit (codes "o")))
-    ∷ line (codes "q") (sig_text (typed bit (codes "z")))
-    ∷ line (codes "cp") (prb_text (typed bit_signal (codes "c")))
+    gives (codes "z") (const_text (int_value 1 0))
+    ∷ gives (codes "o") (const_text (int_value 1 1))
+    ∷ gives (codes "c") (sig_text (typed bit (codes "o")))
+    ∷ gives (codes "q") (sig_text (typed bit (codes "z")))
+    ∷ gives (codes "cp") (prb_text (typed bit_signal (codes "c")))
     ∷ register m
     ∷ []) ∷ []
 
 -- a register whose trigger rises after a nanosecond
 abbrev pub rises_later : List ItemText
 rises_later = entity (codes "t") [] (
-    line (codes "z") (const_text (int_value 1 0))
-    ∷ line (codes "o") (const_text (int_value 1 1))
-    ∷ line (codes "d") (const_text (delay 1000000 0 0))
-    ∷ line (codes "c") (sig_text (typed bit (codes "z")))
-    ∷ line (codes "q") (sig_text (typed bit (codes "z")))
-    ∷ bare (drv_text (typed bit_signal (codes "c")) (codes "o") (codes "d") None)
-    ∷ line (codes "cp") (prb_text (typed bit_signal (codes "c")))
+    gives (codes "z") (const_text (int_value 1 0))
+    ∷ gives (codes "o") (const_text (int_value 1 1))
+    ∷ gives (codes "d") (const_text (delay 1000000 0 0))
+    ∷ gives (codes "c") (sig_text (typed bit (codes "z")))
+    ∷ gives (codes "q") (sig_text (typed bit (codes "z")))
+    ∷ does (drv_text (typed bit_signal (codes "c")) (codes "o") (codes "d") None)
+    ∷ gives (codes "cp") (prb_text (typed bit_signal (codes "c")))
     ∷ register Rise
     ∷ []) ∷ []
 
@@ -115,33 +91,33 @@ rises_later = entity (codes "t") [] (
 abbrev pub waits_for : List ItemText
 waits_for = process (codes "p") (output (codes "q") bit_signal ∷ []) (
     block (codes "entry") (
-    line (codes "o") (const_text (int_value 1 1))
-    ∷ line (codes "d") (const_text (delay 1000000 0 0))
-    ∷ bare (wait_text (codes "next") (Some (codes "d")) [])
+    gives (codes "o") (const_text (int_value 1 1))
+    ∷ gives (codes "d") (const_text (delay 1000000 0 0))
+    ∷ does (wait_text (codes "next") (Some (codes "d")) [])
     ∷ [])
     ∷ block (codes "next") (
-    bare (drv_text (typed bit_signal (codes "q")) (codes "o") (codes "d") None)
-    ∷ bare halt_text
+    does (drv_text (typed bit_signal (codes "q")) (codes "o") (codes "d") None)
+    ∷ does halt_text
     ∷ [])
     ∷ []) ∷ []
 
 -- a drive with the zero delay
 abbrev pub zero_delay : List ItemText
 zero_delay = entity (codes "t") [] (
-    line (codes "z") (const_text (int_value 1 0))
-    ∷ line (codes "o") (const_text (int_value 1 1))
-    ∷ line (codes "d") (const_text (delay 0 0 0))
-    ∷ line (codes "a") (sig_text (typed bit (codes "z")))
-    ∷ bare (drv_text (typed bit_signal (codes "a")) (codes "o") (codes "d") None)
+    gives (codes "z") (const_text (int_value 1 0))
+    ∷ gives (codes "o") (const_text (int_value 1 1))
+    ∷ gives (codes "d") (const_text (delay 0 0 0))
+    ∷ gives (codes "a") (sig_text (typed bit (codes "z")))
+    ∷ does (drv_text (typed bit_signal (codes "a")) (codes "o") (codes "d") None)
     ∷ []) ∷ []
 
 -- an assertion that fails
 abbrev pub failing : List ItemText
 failing = process (codes "p") [] (
     block (codes "entry") (
-    line (codes "z") (const_text (int_value 1 0))
-    ∷ bare (call_text (global (codes "llhd.assert")) void_type (typed bit (codes "z") ∷ []))
-    ∷ bare halt_text
+    gives (codes "z") (const_text (int_value 1 0))
+    ∷ does (call_text (global (codes "llhd.assert")) void_type (typed bit (codes "z") ∷ []))
+    ∷ does halt_text
     ∷ [])
     ∷ []) ∷ []
 
@@ -153,16 +129,16 @@ endless =
       name = global (codes "f");
       args = [];
       result = Some void_type;
-      blocks = block (codes "entry") (bare (call_text (global (codes "f")) void_type []) ∷ bare (ret_text None) ∷ []) ∷ [];
+      blocks = block (codes "entry") (does (call_text (global (codes "f")) void_type []) ∷ does (ret_text None) ∷ []) ∷ [];
     })
     ∷ process (codes "p") [] (
-    block (codes "entry") (bare (call_text (global (codes "f")) void_type []) ∷ bare (wait_text (codes "entry") None []) ∷ []) ∷ [])
+    block (codes "entry") (does (call_text (global (codes "f")) void_type []) ∷ does (wait_text (codes "entry") None []) ∷ []) ∷ [])
     ∷ []
 
 -- five drives with five delays
 abbrev pub delayed : List ℕ → List ℕ → Datum → List LineText
 delayed s d v =
-    line d (const_text v) ∷ line s (sig_text (typed bit (codes "z"))) ∷ bare (drv_text (typed bit_signal s) (codes "z") d None) ∷ []
+    gives d (const_text v) ∷ gives s (sig_text (typed bit (codes "z"))) ∷ does (drv_text (typed bit_signal s) (codes "z") d None) ∷ []
 
 abbrev pub five_delays : UnitText
 five_delays = record {
@@ -172,7 +148,7 @@ five_delays = record {
   result = None;
   blocks = record {
     label = None;
-    lines = line (codes "z") (const_text (int_value 1 0)) ∷ delayed (codes "a") (codes "d0") (delay 0 0 0) ++ delayed (codes "b") (codes "d1") (delay 0 1 0)
+    lines = gives (codes "z") (const_text (int_value 1 0)) ∷ delayed (codes "a") (codes "d0") (delay 0 0 0) ++ delayed (codes "b") (codes "d1") (delay 0 1 0)
         ++ delayed (codes "c") (codes "d2") (delay 0 1 4) ++ delayed (codes "d") (codes "d3") (delay 0 0 1) ++ delayed (codes "e") (codes "d4") (delay 1000000 2 3);
   } ∷ [];
 }

@@ -12,6 +12,7 @@ use lh_io::stream::Source;
 use lh_io::whole::read_all;
 use lh_read::read;
 use lh_types::ty::NoMemory;
+use lh_unit::module::Module;
 use lh_verify::verify::{Verified, VerifyCause, VerifyFault, verify};
 use std::alloc::Global;
 
@@ -29,11 +30,10 @@ pub fn load<S: Source>(alloc: Global, src: &mut S) -> Result<Verified, Status>
     let module = read(alloc, &bytes)?;
     // The module holds nothing of the text, which may be large.
     drop(bytes);
-    let verified = match verify(alloc, module) {
-        Ok(verified) => verified,
-        Err(fault) => return Err(refused(fault)),
-    };
-    Ok(verified)
+    match verify(alloc, module) {
+        Ok(verified) => Ok(verified),
+        Err(fault) => Err(refused(fault)),
+    }
 }
 
 // The status of a module that is not well formed.
@@ -41,8 +41,19 @@ fn refused(fault: VerifyFault) -> Status
     requires { HasCause fault.cause fault.«module» }
     ensures { IsFaultStatus result (contents fault.«module») }
 {
-    match fault.cause {
-        VerifyCause::Invalid(first) => match fault.module.unit_name(first.unit).copy() {
+    let VerifyFault { module, cause } = fault;
+    let status = status_of_cause(&module, cause);
+    drop(module);
+    status
+}
+
+// The status of a module that is not well formed for this cause.
+fn status_of_cause(m: &Module, cause: VerifyCause) -> Status
+    requires { HasCause cause m.now }
+    ensures { IsFaultStatus result (contents m.now) }
+{
+    match cause {
+        VerifyCause::Invalid(first) => match m.unit_name(first.unit).copy() {
             Ok(unit) => Status::Refused(Refusal::Invalid {
                 unit,
                 inst: first.inst,

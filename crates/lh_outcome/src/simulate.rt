@@ -1,5 +1,5 @@
 //! The command `simulate`.
-ghost use Rattle.std.specs.Prelude.{◌≡◌, ◌<◌, ◌≤◌, ◌++◌, ◌∷◌, [], map, IfOk, OnOk, IfErr, IsSome, Some};
+ghost use Rattle.std.specs.Prelude.{◌≡◌, ◌<◌, ◌≤◌, ◌++◌, ◌∷◌, [], map, IfOk, OnOk, OnErr, IfErr, IsSome, Some};
 ghost use Rattle.lh_unit.specs.Arena.{contents, unit_count, unit_name_at, kind_at};
 ghost use Rattle.lh_unit.specs.Design.{elab, built};
 ghost use Rattle.lh_unit.specs.WellFormed.{IsWellFormed};
@@ -9,6 +9,7 @@ ghost use Rattle.lh_elab.specs.Answer.{IsDesignOf};
 ghost use Rattle.lh_elab.specs.Elaborates.{Elaborates};
 ghost use Rattle.lh_elab.specs.Refusals.{FaultWithin};
 ghost use Rattle.lh_kernel.specs.Simulation.{StandsFor};
+ghost use Rattle.lh_watch.specs.Shown.{kept};
 ghost use Rattle.lh_words.specs.Forms as words;
 ghost use Rattle.lh_words.specs.Meant.{simulation_of, top_of, titles_left};
 ghost use Rattle.lh_wave.specs.ShownRun.{shown_from_first};
@@ -49,11 +50,62 @@ pub fn simulate<O: Sink, L: Sink, W: Watcher>(
     ensures never_fall { L.faults log.old ≤ L.faults log.new }
 {
     let module = file.module();
+    let mut sim = new_simulation(alloc, asked, module)?;
+    let shown = show_asked(alloc, asked, module, &mut sim, out, log, watchers);
+    drop(sim);
+    shown
+}
+
+// The simulation of the top that is asked for, before its first frame.
+fn new_simulation<'m>(
+    alloc: Global,
+    asked: &Simulate<'_>,
+    module: &'m Module,
+) -> Result<Sim<'m>, Status>
+    requires { IsWellFormed (contents «module».now) }
+    ensures built { IfOk result (λ s. elab (contents «module».now) (top_of asked.now.top) ≡ built (design_text «module».now s.design)) }
+    ensures arena { IfOk result (λ s. s.arena ≡ «module».now) }
+    ensures first { IfOk result (λ s. StandsFor s (first_world (contents «module».now) (design_text «module».now s.design))) }
+    ensures status { IfErr result (λ s. IsTopStatus s (contents «module».now) (top_of asked.now.top)) }
+{
     let design = design_named(alloc, module, asked.top)?;
-    let titles = titles_of(alloc, asked.titles())?;
-    let mut sim = Sim::new(alloc, module, design)?;
+    Ok(Sim::new(alloc, module, design)?)
+}
+
+// Shows a run to the watchers that are asked for, and drops the others.
+fn show_asked<O: Sink, L: Sink, W: Watcher>(
+    alloc: Global,
+    asked: &Simulate<'_>,
+    m: &Module,
+    sim: &mut Sim<'_>,
+    out: &mut O,
+    log: &mut L,
+    watchers: &mut Vec<W>,
+) -> Result<Ending, Status>
+    requires steps { 0 < asked.now.steps }
+    requires arena { sim.old.arena ≡ m.now }
+    requires first { StandsFor sim.old (first_world (contents m.now) (design_text m.now sim.old.design)) }
+    requires built { elab (contents m.now) (top_of asked.now.top) ≡ built (design_text m.now sim.old.design) }
+    ensures carries { Carries (words.simulate (simulation_of asked.now)) (contents m.now) (map W.member watchers.old.items) (simulated result) (use_of (O.written out.old) (O.written out.new) (O.faults out.old) (O.faults out.new)) (use_of (L.written log.old) (L.written log.new) (L.faults log.old) (L.faults log.new)) (map W.member watchers.new.items) }
+    ensures never_fall { L.faults log.old ≤ L.faults log.new }
+{
+    keep_asked(alloc, asked.titles(), watchers)?;
+    let mut reports = Vec::new(alloc);
+    show_run(alloc, asked, m, sim, out, log, watchers, &mut reports)
+}
+
+// Drops the watchers that are not asked for.
+fn keep_asked<W: Watcher>(
+    alloc: Global,
+    titles: Titles<'_>,
+    watchers: &mut Vec<W>,
+) -> Result<(), NoMemory>
+    ensures kept { OnOk result (map W.member watchers.new.items ≡ kept (titles_left titles.entry) (map W.member watchers.old.items)) }
+    ensures same { OnErr result (map W.member watchers.new.items ≡ map W.member watchers.old.items) }
+{
+    let titles = titles_of(alloc, titles)?;
     keep_titles(watchers, &titles);
-    show_run(alloc, asked, module, &mut sim, out, log, watchers)
+    Ok(())
 }
 
 // Shows a run from its first frame on, and then the reports.
@@ -65,26 +117,18 @@ fn show_run<O: Sink, L: Sink, W: Watcher>(
     out: &mut O,
     log: &mut L,
     watchers: &mut Vec<W>,
+    reports: &mut Vec<u8>,
 ) -> Result<Ending, Status>
     requires steps { 0 < asked.now.steps }
     requires module { sim.old.arena ≡ m.now }
     requires first { StandsFor sim.old (first_world (contents m.now) (design_text m.now sim.old.design)) }
+    requires no_reports { reports.old.items ≡ [] }
     ensures shows { ShowsRun asked.now.vcd (design_text m.now sim.old.design) (shown_from_first (contents m.now) (design_text m.now sim.old.design) asked.now.steps (map W.member watchers.old.items)) (map W.member watchers.old.items) (simulated result) (use_of (O.written out.old) (O.written out.new) (O.faults out.old) (O.faults out.new)) (use_of (L.written log.old) (L.written log.new) (L.faults log.old) (L.faults log.new)) (map W.member watchers.new.items) }
     ensures never_fall { L.faults log.old ≤ L.faults log.new }
 {
-    let mut reports = Vec::new(alloc);
     let mode = mode_of(asked.vcd);
-    let ending = run_wave(
-        alloc,
-        sim,
-        m,
-        asked.steps,
-        mode,
-        watchers,
-        out,
-        &mut reports,
-    )?;
-    write_all(log, &reports)?;
+    let ending = run_wave(alloc, sim, m, asked.steps, mode, watchers, out, reports)?;
+    write_all(log, reports)?;
     Ok(ending)
 }
 

@@ -234,7 +234,6 @@ fn write_cycle<L: Sink>(log: &mut L, unit: &UnitName) -> Result<(), Failed>
 
 impl TopFault {
     /// Writes the status line of a top that is not simulated.
-    #[tactic(auto, using(crate::proofs::Writes::Puts_of))]
     fn write_line<L: Sink>(&self, log: &mut L) -> Result<(), Failed>
         ensures puts { Puts result (use_of (L.written log.old) (L.written log.new) (L.faults log.old) (L.faults log.new)) (top_line self.now) }
         ensures never_fall { L.faults log.old ≤ L.faults log.new }
@@ -271,7 +270,6 @@ impl Status {
     }
 
     /// Writes the status line, without memory. `Done` has none.
-    #[tactic(auto, using(crate::proofs::Writes::Puts_of))]
     pub fn write_line<L: Sink>(&self, log: &mut L) -> Result<(), Failed>
         ensures puts { Puts result (use_of (L.written log.old) (L.written log.new) (L.faults log.old) (L.faults log.new)) (status_line self.now) }
         ensures never_fall { L.faults log.old ≤ L.faults log.new }

@@ -1,28 +1,24 @@
 -- What a text reads as, computed line by line; so every text reads or is faulty.
 use Rattle.std.proofs.Common.{◌≡◌, ℕ, ◌+◌, Bool, true, false, List, [], ◌∷◌, Option, Some, None, Result, Ok, Err, refl, subst, inl, inr}
 use Rattle.lh_unit.specs.Contents.{ItemText}
-use Rattle.lh_unit.specs.Lexemes.{Lexeme, lexemes}
 use Rattle.lh_unit.specs.Lines.{lines_of}
 use Rattle.lh_unit.specs.Spells.{LineItem}
 use Rattle.lh_unit.specs.Reads.{ReadState, start, Takes, Walk, BadKind, syntax, IsBad, FirstBadFrom, Reads, FirstBad}
+use Rattle.lh_lex.specs.Front.{lexemes_to_bad}
 use Rattle.lh_syntax.specs.Items.{item_at}
 use Rattle.lh_syntax.specs.SpelledBy.{SpelledBy}
 use Rattle.lh_syntax.proofs.SpelledItems.{spelled_by}
 use Rattle.lh_read.specs.Steps.{step}
 use Rattle.lh_read.specs.Reading.{ReadsOrIsBad}
-use Rattle.lh_read.proofs.Texts.{closed, taken-line, bad-line, unspelled-line, unlexed-line, reads-once, reads-bad, first_bad-once}
+use Rattle.lh_read.proofs.Texts.{closed, taken-line, bad-line, unspelled-line, reads-once, reads-bad, first_bad-once}
 
 abbrev pub step_item : ReadState → Option LineItem → Result ReadState BadKind
 step_item s None = Err syntax
 step_item s (Some i) = step s i
 
-abbrev pub item_of : Option (List Lexeme) → Option LineItem
-item_of None = None
-item_of (Some ts) = item_at ts
-
 -- the state after a line, or its fault
 abbrev pub step_line : ReadState → List ℕ → Result ReadState BadKind
-step_line s l = step_item s (item_of (lexemes l))
+step_line s l = step_item s (item_at (lexemes_to_bad l))
 
 -- goes on from a state, or names the line
 abbrev pub or_fault : ℕ → Result ReadState BadKind → (ReadState → Result (List ItemText) (ℕ × BadKind)) → Result (List ItemText) (ℕ × BadKind)
@@ -48,19 +44,15 @@ Answered s l (Ok t) = Takes s l t
 Answered s l (Err why) = IsBad s l why
 
 line-answered : (s : ReadState) (l : List ℕ) → Answered s l (step_line s l)
-line-answered s l = lexed (lexemes l) refl
+line-answered s l = spelled (item_at (lexemes_to_bad l)) (spelled_by (lexemes_to_bad l) (item_at (lexemes_to_bad l)) refl)
   where
-    stepped : (ts : List Lexeme) (i : LineItem) → lexemes l ≡ Some ts → SpelledBy ts (Some i) → (r : Result ReadState BadKind) → step s i ≡ r → Answered s l r
-    stepped ts i e w (Ok t) p = taken-line s t l ts i e w p
-    stepped ts i e w (Err why) p = bad-line s l ts i why e w p
+    stepped : (i : LineItem) → SpelledBy (lexemes_to_bad l) (Some i) → (r : Result ReadState BadKind) → step s i ≡ r → Answered s l r
+    stepped i w (Ok t) p = taken-line s t l i w p
+    stepped i w (Err why) p = bad-line s l i why w p
 
-    spelled : (ts : List Lexeme) → lexemes l ≡ Some ts → (o : Option LineItem) → SpelledBy ts o → Answered s l (step_item s o)
-    spelled ts e None w = unspelled-line s l ts e w
-    spelled ts e (Some i) w = stepped ts i e w (step s i) refl
-
-    lexed : (o : Option (List Lexeme)) → lexemes l ≡ o → Answered s l (step_item s (item_of o))
-    lexed None e = unlexed-line s l e
-    lexed (Some ts) e = spelled ts e (item_at ts) (spelled_by ts (item_at ts) refl)
+    spelled : (o : Option LineItem) → SpelledBy (lexemes_to_bad l) o → Answered s l (step_item s o)
+    spelled None w = unspelled-line s l w
+    spelled (Some i) w = stepped i w (step s i) refl
 
 -- these lines lead to the end of a text, or one of them is the first faulty one
 abbrev AllAnswered : List (List ℕ) → ℕ → ReadState → Result (List ItemText) (ℕ × BadKind) → Type 0

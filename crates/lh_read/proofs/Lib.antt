@@ -1,6 +1,7 @@
 pub mod LastUnit
 pub mod Splitting
 pub mod Stepping
+pub mod SpelledTokens
 pub mod Texts
 pub mod Computed
 mod Rows

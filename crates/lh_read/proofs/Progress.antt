@@ -1,13 +1,14 @@
 -- How far a text is read.
-use Rattle.std.proofs.Common.{Some, None, ◌≡◌, ℕ, ◌+◌, ◌<◌, ◌≤◌, List, [], ◌∷◌, length, Result, Ok, Err, IfOk, IfErr, true, false, refl, ap, sym, ◌∙◌, subst, inl, inr, arith}
+use Rattle.std.proofs.Common.{Some, None, ◌≡◌, ℕ, ◌+◌, ◌<◌, ◌≤◌, List, [], ◌∷◌, length, Result, Ok, Err, IfOk, IfErr, true, false, refl, sym, subst, inl, inr, arith}
 use Rattle.lh_unit.specs.Contents.{ItemText}
-use Rattle.lh_unit.specs.Lexemes.{Lexeme, lexemes}
+use Rattle.lh_unit.specs.Lexemes.{Lexeme}
 use Rattle.lh_unit.specs.Lines.{lines_of}
 use Rattle.lh_unit.specs.Spells.{LineItem}
 use Rattle.lh_unit.specs.Arena.{Arena, contents}
 use Rattle.lh_unit.specs.Reads.{ReadState, start, Takes, Walk, BadKind, syntax, unit_too_large, duplicate_name, IsBad, FirstBadFrom, Reads, FirstBad}
 use Rattle.lh_scan.specs.declared.fault.ScanFault.{ScanFault}
 use Rattle.lh_scan.specs.declared.fault.ScanFault.TheVariants as scan
+use Rattle.lh_lex.specs.Front.{lexemes_to_bad}
 use Rattle.lh_syntax.specs.SpelledBy.{SpelledBy}
 use Rattle.lh_read.specs.declared.faults.LineFault.{LineFault}
 use Rattle.lh_read.specs.declared.faults.LineFault.TheVariants as line
@@ -23,17 +24,19 @@ use Rattle.lh_read.specs.Reading.{ModuleOrNoMemory, Names, ModuleOrFault, text_f
 use Rattle.lh_read.proofs.Texts.{closed, taken-line, bad-line, unspelled-line, reads-once, reads-bad}
 
 -- what is answered of a line that says an item
-pub line-steps : (o : Result (Unit {0}) LineFault) (s t : ReadState) (l : List ℕ) (ts us : List Lexeme) (i : LineItem) → lexemes l ≡ Some ts → us ≡ ts → SpelledBy us (Some i) → Steps o (step s i) t
-    → TakesOrIsBad o s l t
-line-steps (Ok _) s t l ts us i e f w p = taken-line s t l us i (e ∙ ap Some (sym f)) w p
-line-steps (Err line.Syntax) s t l ts us i e f w p = bad-line s l us i syntax (e ∙ ap Some (sym f)) w p
-line-steps (Err line.UnitTooLarge) s t l ts us i e f w p = bad-line s l us i unit_too_large (e ∙ ap Some (sym f)) w p
-line-steps (Err line.DuplicateName) s t l ts us i e f w p = bad-line s l us i duplicate_name (e ∙ ap Some (sym f)) w p
-line-steps (Err line.OutOfMemory) s t l ts us i e f w p = tt
+pub line-steps : (o : Result (Unit {0}) LineFault) (s t : ReadState) (l : List ℕ) (ts : List Lexeme) (i : LineItem) → ts ≡ lexemes_to_bad l → SpelledBy ts (Some i) → Steps o (step s i) t → TakesOrIsBad o s l t
+line-steps o s t l ts i e w p = by o (subst (λ us. SpelledBy us (Some i)) e w) p
+  where
+    by : (q : Result (Unit {0}) LineFault) → SpelledBy (lexemes_to_bad l) (Some i) → Steps q (step s i) t → TakesOrIsBad q s l t
+    by (Ok _) v p = taken-line s t l i v p
+    by (Err line.Syntax) v p = bad-line s l i syntax v p
+    by (Err line.UnitTooLarge) v p = bad-line s l i unit_too_large v p
+    by (Err line.DuplicateName) v p = bad-line s l i duplicate_name v p
+    by (Err line.OutOfMemory) v p = tt
 
 -- what is answered of a line that spells no item
-pub line-unspelled : (e : ScanFault) (s t : ReadState) (l : List ℕ) (ts : List Lexeme) → lexemes l ≡ Some ts → (e ≡ scan.NotSpelled → SpelledBy ts None) → TakesOrIsBad (Err (spelling_fault e)) s l t
-line-unspelled scan.NotSpelled s t l ts e h = unspelled-line s l ts e (h refl)
+pub line-unspelled : (e : ScanFault) (s t : ReadState) (l : List ℕ) (ts : List Lexeme) → ts ≡ lexemes_to_bad l → (e ≡ scan.NotSpelled → SpelledBy ts None) → TakesOrIsBad (Err (spelling_fault e)) s l t
+line-unspelled scan.NotSpelled s t l ts e h = unspelled-line s l (subst (λ us. SpelledBy us None) e (h refl))
 line-unspelled scan.OutOfMemory s t l ts e h = tt
 
 -- the lines before this number are read: what follows from here is what the text reads as

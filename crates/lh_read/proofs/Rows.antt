@@ -4,6 +4,7 @@ use Rattle.std.specs.Prelude.{codes}
 use Rattle.lh_types.specs.Types.{TypeTree, int_type, signal_type}
 use Rattle.lh_types.specs.Values.{int_value}
 use Rattle.lh_unit.specs.Contents.{ArgText, BlockText, ItemText, unit_text, declare_text, LineText, InstText, const_text, sig_text, br_text, wait_text, ret_text}
+use Rattle.lh_unit.specs.Worded.{gives, does, input, output, block, body}
 use Rattle.lh_unit.specs.Lexemes.{first_lexeme}
 use Rattle.lh_unit.specs.Reads.{Reads, FirstBad, syntax, duplicate_name}
 use Rattle.lh_unit.specs.declared.inst.UnitKind.{UnitKind}
@@ -28,24 +29,6 @@ text_of (l ∷ ls) = l ++ 10 ∷ text_of ls
 
 abbrev unit : UnitKind → List ℕ → List ArgText → Option TypeTree → List BlockText → ItemText
 unit k name args result blocks = unit_text (record { kind = k; name = record { sigil = 64; name = name }; args = args; result = result; blocks = blocks })
-
-abbrev body : List LineText → List BlockText
-body lines = record { label = None; lines = lines } ∷ []
-
-abbrev block : List ℕ → List LineText → BlockText
-block label lines = record { label = Some label; lines = lines }
-
-abbrev input : List ℕ → TypeTree → ArgText
-input name t = record { name = name; ty = t; output = false }
-
-abbrev output : List ℕ → TypeTree → ArgText
-output name t = record { name = name; ty = t; output = true }
-
-abbrev gives : List ℕ → InstText → LineText
-gives name i = record { result = Some name; inst = i }
-
-abbrev does : InstText → LineText
-does i = record { result = None; inst = i }
 
 -- nothing at all
 nothing : Reads ([]) ([])

@@ -1,49 +1,47 @@
 -- A line is taken or is faulty in one way only, and so is a text.
-use Rattle.std.proofs.Common.{◌≡◌, ℕ, ◌+◌, false, List, [], ◌∷◌, Option, Some, None, Ok, Err, refl, ap, sym, ◌∙◌, subst, inl, inr}
+use Rattle.std.proofs.Common.{◌≡◌, ℕ, ◌+◌, true, false, List, [], ◌∷◌, Option, Some, None, Ok, Err, refl, ap, sym, ◌∙◌, subst, inl, inr}
 use Rattle.std.proofs.lemmas.Bool.{both_ways}
 use Rattle.lh_unit.specs.Contents.{ItemText}
-use Rattle.lh_unit.specs.Lexemes.{Lexeme, lexemes}
+use Rattle.lh_unit.specs.Lexemes.{Lexeme}
 use Rattle.lh_unit.specs.Lines.{lines_of}
 use Rattle.lh_unit.specs.Spells.{LineItem, Spells}
 use Rattle.lh_unit.specs.Reads.{ReadState, start, place_of, may_stand, too_large, defines_again, after, LineSpells, Takes, Walk, Reads, BadKind, syntax, unit_too_large, duplicate_name, IsBad, FirstBadFrom, FirstBad}
+use Rattle.lh_lex.specs.Front.{lexemes_to_bad}
+use Rattle.lh_lex.proofs.ToBad.{lexemes-all, those-lexemes}
 use Rattle.lh_syntax.specs.Items.{item_at}
 use Rattle.lh_syntax.specs.SpelledBy.{SpelledBy}
 use Rattle.lh_syntax.proofs.SpelledItems.{spelled_by}
 use Rattle.lh_read.specs.Steps.{step}
+use Rattle.lh_read.proofs.SpelledTokens.{spelled-tokens}
 use Rattle.lh_read.proofs.Stepping.{IsFree, step-free, HasFault, step-fault}
 
 -- no unit is open at the end of these items
 abbrev pub closed : List ItemText → ReadState
 closed items = record { items = items; inside = false }
 
--- a line of these tokens, which spell this item
-pub taken-line : (s t : ReadState) (l : List ℕ) (ts : List Lexeme) (i : LineItem) → lexemes l ≡ Some ts → SpelledBy ts (Some i) → step s i ≡ Ok t → Takes s l t
-taken-line s t l ts i e w p =
+-- a line whose tokens spell this item
+said-line : (s : ReadState) (l : List ℕ) (i : LineItem) → Spells (lexemes_to_bad l) i → may_stand (place_of s) i ≡ true → LineSpells s l i
+said-line s l i w h = record { tokens = lexemes_to_bad l; lexed = lexemes-all l (spelled-tokens (lexemes_to_bad l) i w); spelled = w; stands = h }
+
+pub taken-line : (s t : ReadState) (l : List ℕ) (i : LineItem) → SpelledBy (lexemes_to_bad l) (Some i) → step s i ≡ Ok t → Takes s l t
+taken-line s t l i w p =
     let f : IsFree s i t = step-free s i t p in
-    record { item = i; said = record { tokens = ts; lexed = e; spelled = w.0; stands = f.stands }; has_room = f.has_room; is_new = f.is_new; becomes = f.becomes }
+    record { item = i; said = said-line s l i w.0 f.stands; has_room = f.has_room; is_new = f.is_new; becomes = f.becomes }
 
-same_tokens : (l : List ℕ) (ts us : List Lexeme) → lexemes l ≡ Some ts → lexemes l ≡ Some us → us ≡ ts
-same_tokens l ts us p q = cc
+said-spelled : (s : ReadState) (l : List ℕ) (j : LineItem) → LineSpells s l j → Spells (lexemes_to_bad l) j
+said-spelled s l j w = subst (λ us. Spells us j) (sym (those-lexemes l w.tokens w.lexed)) w.spelled
 
-said-spelled : (s : ReadState) (l : List ℕ) (ts : List Lexeme) (j : LineItem) → lexemes l ≡ Some ts → LineSpells s l j → Spells ts j
-said-spelled s l ts j e w = subst (λ us. Spells us j) (same_tokens l ts w.tokens e w.lexed) w.spelled
-
-pub bad-line : (s : ReadState) (l : List ℕ) (ts : List Lexeme) (i : LineItem) (why : BadKind) → lexemes l ≡ Some ts → SpelledBy ts (Some i) → step s i ≡ Err why → IsBad s l why
-bad-line s l ts i why e w p = by why (step-fault s i why p)
+pub bad-line : (s : ReadState) (l : List ℕ) (i : LineItem) (why : BadKind) → SpelledBy (lexemes_to_bad l) (Some i) → step s i ≡ Err why → IsBad s l why
+bad-line s l i why w p = by why (step-fault s i why p)
   where
     by : (b : BadKind) → HasFault s i b → IsBad s l b
-    by syntax f = λ j v. both_ways (may_stand (place_of s) i) f (ap (may_stand (place_of s)) (sym (w.1 j (said-spelled s l ts j e v))) ∙ v.stands)
-    by unit_too_large f = (i, record { tokens = ts; lexed = e; spelled = w.0; stands = f.0 }, f.1)
-    by duplicate_name f = (i, record { tokens = ts; lexed = e; spelled = w.0; stands = f.0 }, f.1, f.2)
+    by syntax f = λ j v. both_ways (may_stand (place_of s) i) f (ap (may_stand (place_of s)) (sym (w.1 j (said-spelled s l j v))) ∙ v.stands)
+    by unit_too_large f = (i, said-line s l i w.0 f.0, f.1)
+    by duplicate_name f = (i, said-line s l i w.0 f.0, f.1, f.2)
 
-pub unspelled-line : (s : ReadState) (l : List ℕ) (ts : List Lexeme) → lexemes l ≡ Some ts → SpelledBy ts None → IsBad s l syntax
-unspelled-line s l ts e w = λ j v. w j (said-spelled s l ts j e v)
-
-no_tokens : (l : List ℕ) (ts : List Lexeme) → lexemes l ≡ None → lexemes l ≡ Some ts → ⊥
-no_tokens l ts p q = cc
-
-pub unlexed-line : (s : ReadState) (l : List ℕ) → lexemes l ≡ None → IsBad s l syntax
-unlexed-line s l e = λ j v. no_tokens l v.tokens e v.lexed
+-- a line whose tokens spell nothing, or that has a bad byte
+pub unspelled-line : (s : ReadState) (l : List ℕ) → SpelledBy (lexemes_to_bad l) None → IsBad s l syntax
+unspelled-line s l w = λ j v. w j (said-spelled s l j v)
 
 -- tokens spell one item
 spells-once : (ts : List Lexeme) (i j : LineItem) → Spells ts i → Spells ts j → i ≡ j
@@ -54,7 +52,7 @@ spells-once ts i j v w = by (item_at ts) (spelled_by ts (item_at ts) refl)
     by (Some k) s = s.1 i v ∙ sym (s.1 j w)
 
 said-once : (s : ReadState) (l : List ℕ) (i j : LineItem) → LineSpells s l i → LineSpells s l j → i ≡ j
-said-once s l i j v w = spells-once v.tokens i j v.spelled (said-spelled s l v.tokens j v.lexed w)
+said-once s l i j v w = spells-once (lexemes_to_bad l) i j (said-spelled s l i v) (said-spelled s l j w)
 
 taken-once : (s t u : ReadState) (l : List ℕ) → Takes s l t → Takes s l u → t ≡ u
 taken-once s t u l v w = v.becomes ∙ ap (after s) (said-once s l v.item w.item v.said w.said) ∙ sym w.becomes

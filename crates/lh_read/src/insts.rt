@@ -36,6 +36,24 @@ pub fn instruction(
     ensures { IfOk result (λ i. InstPlacedAs m.old m.new unit i (inst_of inst.entry)) }
 {
     match inst {
+        InstSyntax::Pure { op, args } => pure(alloc, known, m, unit, op, args),
+        inst => any_instruction(alloc, known, m, unit, inst),
+    }
+}
+
+/// The same of any instruction. It stands apart, since most are operations, and all forms together take a large frame.
+#[inline(never)]
+fn any_instruction(
+    alloc: Global,
+    known: &mut Known,
+    m: &mut Module,
+    unit: UnitId,
+    inst: InstSyntax,
+) -> Result<Inst, NoMemory>
+    requires { unit.0 < unit_count m.old }
+    ensures { IfOk result (λ i. InstPlacedAs m.old m.new unit i (inst_of inst.entry)) }
+{
+    match inst {
         InstSyntax::Const(value) => Ok(Inst::Const(Constant::new(alloc, value)?)),
         InstSyntax::Pure { op, args } => pure(alloc, known, m, unit, op, args),
         InstSyntax::Var(of) => var(alloc, known, m, unit, of),

@@ -31,9 +31,7 @@ pub fn read_line(alloc: Global, reader: &mut Reader, text: &[u8]) -> Result<(), 
     ensures step { TakesOrIsBad result (state_of reader.old) text.now (state_of reader.new) }
     ensures order { OnOk result (IsInOrder reader.new) }
 {
-    let Some(tokens) = Tokens::of(text) else {
-        return Err(LineFault::Syntax);
-    };
+    let tokens = Tokens::of(text);
     let said = item(alloc, &tokens)?;
     reader.take(alloc, said)
 }

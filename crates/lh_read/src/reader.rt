@@ -98,6 +98,19 @@ impl Reader {
         ensures order { OnOk result (IsInOrder self.new) }
     {
         match line {
+            LineSyntax::Inst { result, inst } => self.take_inst(alloc, &result, inst),
+            line => self.take_any(alloc, line),
+        }
+    }
+
+    /// The same of any line. It stands apart, since most lines are instructions, and all kinds together take a large frame.
+    #[inline(never)]
+    fn take_any(&mut self, alloc: Global, line: LineSyntax) -> Result<(), LineFault>
+        requires { IsInOrder self.old }
+        ensures step { Steps result (step (state_of self.old) (item_of line.entry)) (state_of self.new) }
+        ensures order { OnOk result (IsInOrder self.new) }
+    {
+        match line {
             LineSyntax::Empty => Ok(()),
             LineSyntax::Func {
                 name,

@@ -1,8 +1,7 @@
 -- Conditions at places: what a drive and a branch ask for.
-use Rattle.std.specs.Prelude.{◌≡◌, ℕ, List, [], ◌∷◌, Some}
-use Rattle.lh_types.specs.declared.op.Op.TheVariants.{Not}
+use Rattle.std.specs.Prelude.{◌≡◌, ℕ, List, Some}
 use Rattle.lh_term.specs.Tree.{Tree}
-use Rattle.lh_term.specs.Make.{make_operation}
+pub use Rattle.lh_term.specs.Make.{negation}
 use Rattle.lh_term.specs.Arena.{StandsForTree}
 use Rattle.lh_term.specs.declared.term.TermId.{TermId}
 use Rattle.lh_term.specs.declared.term.Node.{Node}
@@ -18,9 +17,6 @@ pub record CanTest (ns : List Node) (ps : List PlaceState) (v i : ℕ) : Type 0 
   pub cond : Tree
   pub is : told i v ≡ Some cond
   pub condition : IsCondition cond
-
-abbrev pub negation : Tree → Tree
-negation x = make_operation Not (x ∷ [])
 
 -- The term is the condition c and what is told of value v at a place.
 abbrev pub IsAnd : List Node → List PlaceState → List Node → (v i : ℕ) → Tree → TermId → Type 0

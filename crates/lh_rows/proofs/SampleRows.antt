@@ -1,11 +1,12 @@
 -- The rows of some processes, computed.
 use Rattle.std.specs.Prelude.{◌≡◌, ℕ, List, [], ◌∷◌, map, true, false, Option, Some, None, codes, refl}
 use Rattle.lh_types.specs.Types.{TypeTree, int_type, signal_type}
-use Rattle.lh_types.specs.Values.{Datum, int_value, time_value}
+use Rattle.lh_types.specs.Values.{Datum, int_value}
 use Rattle.lh_types.specs.declared.op.Op.TheVariants as op
 use Rattle.lh_types.specs.Apply.{apply}
 use Rattle.lh_types.specs.ApplyInt.{integer_row, row_width}
-use Rattle.lh_unit.specs.Contents.{OperandText, InstText, const_text, pure_text, prb_text, drv_text, phi_text, br_text, branch_text, wait_text, LineText, ArgText}
+use Rattle.lh_unit.specs.Contents.{const_text, pure_text, prb_text, drv_text, phi_text, br_text, branch_text, wait_text, LineText, ArgText}
+use Rattle.lh_unit.specs.Worded.{bit, word, typed, plain, gives, does, time}
 use Rattle.lh_flat.specs.Flat.{FlatBlockText, FlatText}
 use Rattle.lh_term.specs.Tree.{Tree, constant, now_of, past_of, operation_on, choice_of}
 use Rattle.lh_term.specs.Make.{bit_of}
@@ -16,24 +17,6 @@ use Rattle.lh_rows.specs.Regions.{Coursed, stops, comes_to, head_phi, Regioned, 
 
 -- ---- writing texts
 
-abbrev bit : TypeTree
-bit = int_type 1
-
-abbrev word : TypeTree
-word = int_type 32
-
-abbrev of_type : TypeTree → List ℕ → OperandText
-of_type t n = record { value = n; ty = Some t }
-
-abbrev plain : List ℕ → OperandText
-plain n = record { value = n; ty = None }
-
-abbrev gives : List ℕ → InstText → LineText
-gives n i = record { result = Some n; inst = i }
-
-abbrev does : InstText → LineText
-does i = record { result = None; inst = i }
-
 abbrev block : List ℕ → List LineText → FlatBlockText
 block n ls = record { label = n; merge = None; lines = ls }
 
@@ -41,7 +24,7 @@ abbrev input : List ℕ → TypeTree → ArgText
 input n t = record { name = n; ty = signal_type t; output = false }
 
 abbrev delta : Datum
-delta = time_value (record { fs = 0; delta = 1; eps = 0 })
+delta = time 0 1
 
 abbrev part : ℕ → TypeTree → Part
 part i t = record { arg = i; lo = 0; ty = t }
@@ -63,10 +46,10 @@ abbrev acc_comb : FlatText
 acc_comb = record {
   args = input (codes "q") word ∷ input (codes "x") word ∷ input (codes "en") bit ∷ input (codes "d") word ∷ [];
   blocks = block (codes "entry") (
-      gives (codes "qp") (prb_text (of_type (signal_type word) (codes "q"))) ∷ gives (codes "enp") (prb_text (of_type (signal_type bit) (codes "en"))) ∷ gives (codes "delay") (const_text delta)
-      ∷ does (drv_text (of_type (signal_type word) (codes "d")) (codes "qp") (codes "delay") None) ∷ does (branch_text (codes "enp") (codes "final") (codes "enabled")) ∷ [])
-      ∷ block (codes "enabled") (gives (codes "xp") (prb_text (of_type (signal_type word) (codes "x"))) ∷ gives (codes "sum") (pure_text op.Add (of_type word (codes "qp") ∷ plain (codes "xp") ∷ []))
-      ∷ does (drv_text (of_type (signal_type word) (codes "d")) (codes "sum") (codes "delay") None) ∷ does (br_text (codes "final")) ∷ [])
+      gives (codes "qp") (prb_text (typed (signal_type word) (codes "q"))) ∷ gives (codes "enp") (prb_text (typed (signal_type bit) (codes "en"))) ∷ gives (codes "delay") (const_text delta)
+      ∷ does (drv_text (typed (signal_type word) (codes "d")) (codes "qp") (codes "delay") None) ∷ does (branch_text (codes "enp") (codes "final") (codes "enabled")) ∷ [])
+      ∷ block (codes "enabled") (gives (codes "xp") (prb_text (typed (signal_type word) (codes "x"))) ∷ gives (codes "sum") (pure_text op.Add (typed word (codes "qp") ∷ plain (codes "xp") ∷ []))
+      ∷ does (drv_text (typed (signal_type word) (codes "d")) (codes "sum") (codes "delay") None) ∷ does (br_text (codes "final")) ∷ [])
       ∷ block (codes "final") (does (wait_text (codes "entry") None (codes "q" ∷ codes "x" ∷ codes "en" ∷ [])) ∷ [])
       ∷ [];
 }
@@ -93,13 +76,13 @@ comb_ends = refl
 abbrev acc_ff : FlatText
 acc_ff = record {
   args = input (codes "clk") bit ∷ input (codes "d") word ∷ input (codes "q") word ∷ [];
-  blocks = block (codes "init") (gives (codes "clk0") (prb_text (of_type (signal_type bit) (codes "clk"))) ∷ does (wait_text (codes "check") None (codes "clk" ∷ [])) ∷ [])
+  blocks = block (codes "init") (gives (codes "clk0") (prb_text (typed (signal_type bit) (codes "clk"))) ∷ does (wait_text (codes "check") None (codes "clk" ∷ [])) ∷ [])
       ∷ block (codes "check") (
-      gives (codes "clk1") (prb_text (of_type (signal_type bit) (codes "clk"))) ∷ gives (codes "chg") (pure_text op.Neq (of_type bit (codes "clk0") ∷ plain (codes "clk1") ∷ []))
-      ∷ gives (codes "posedge") (pure_text op.And (of_type bit (codes "chg") ∷ plain (codes "clk1") ∷ [])) ∷ does (branch_text (codes "posedge") (codes "init") (codes "event")) ∷ [])
+      gives (codes "clk1") (prb_text (typed (signal_type bit) (codes "clk"))) ∷ gives (codes "chg") (pure_text op.Neq (typed bit (codes "clk0") ∷ plain (codes "clk1") ∷ []))
+      ∷ gives (codes "posedge") (pure_text op.And (typed bit (codes "chg") ∷ plain (codes "clk1") ∷ [])) ∷ does (branch_text (codes "posedge") (codes "init") (codes "event")) ∷ [])
       ∷ block (codes "event") (
-      gives (codes "dp") (prb_text (of_type (signal_type word) (codes "d"))) ∷ gives (codes "delay") (const_text delta)
-      ∷ does (drv_text (of_type (signal_type word) (codes "q")) (codes "dp") (codes "delay") None) ∷ does (br_text (codes "init")) ∷ [])
+      gives (codes "dp") (prb_text (typed (signal_type word) (codes "d"))) ∷ gives (codes "delay") (const_text delta)
+      ∷ does (drv_text (typed (signal_type word) (codes "q")) (codes "dp") (codes "delay") None) ∷ does (br_text (codes "init")) ∷ [])
       ∷ [];
 }
 
@@ -133,12 +116,12 @@ looped = record {
   args = input (codes "a") bit ∷ input (codes "o") word ∷ [];
   blocks = block (codes "entry") (
       gives (codes "zero") (const_text (int_value 32 0)) ∷ gives (codes "one") (const_text (int_value 32 1)) ∷ gives (codes "two") (const_text (int_value 32 2)) ∷ gives (codes "t") (const_text delta)
-      ∷ does (drv_text (of_type (signal_type word) (codes "o")) (codes "zero") (codes "t") None) ∷ does (br_text (codes "loop")) ∷ [])
+      ∷ does (drv_text (typed (signal_type word) (codes "o")) (codes "zero") (codes "t") None) ∷ does (br_text (codes "loop")) ∷ [])
       ∷ block (codes "loop") (
       gives (codes "i") (phi_text word (record { value = codes "zero"; block = codes "entry" } ∷ record { value = codes "next"; block = codes "loop" } ∷ []))
-      ∷ gives (codes "next") (pure_text op.Add (of_type word (codes "i") ∷ plain (codes "one") ∷ []))
-      ∷ does (drv_text (of_type (signal_type word) (codes "o")) (codes "i") (codes "t") None)
-      ∷ gives (codes "more") (pure_text op.Ult (of_type word (codes "i") ∷ plain (codes "two") ∷ [])) ∷ does (branch_text (codes "more") (codes "done") (codes "loop")) ∷ [])
+      ∷ gives (codes "next") (pure_text op.Add (typed word (codes "i") ∷ plain (codes "one") ∷ []))
+      ∷ does (drv_text (typed (signal_type word) (codes "o")) (codes "i") (codes "t") None)
+      ∷ gives (codes "more") (pure_text op.Ult (typed word (codes "i") ∷ plain (codes "two") ∷ [])) ∷ does (branch_text (codes "more") (codes "done") (codes "loop")) ∷ [])
       ∷ block (codes "done") (does (wait_text (codes "entry") None (codes "a" ∷ [])) ∷ [])
       ∷ [];
 }
@@ -160,14 +143,14 @@ abbrev merged_text : FlatText
 merged_text = record {
   args = input (codes "c") bit ∷ input (codes "d") bit ∷ input (codes "o") word ∷ [];
   blocks = block (codes "entry") (
-      gives (codes "cp") (prb_text (of_type (signal_type bit) (codes "c"))) ∷ gives (codes "dp") (prb_text (of_type (signal_type bit) (codes "d"))) ∷ gives (codes "t") (const_text delta)
-      ∷ gives (codes "low") (pure_text (op.Exts 0 8) (of_type (signal_type (int_type 8)) (codes "o") ∷ [])) ∷ does (branch_text (codes "cp") (codes "end") (codes "on")) ∷ [])
+      gives (codes "cp") (prb_text (typed (signal_type bit) (codes "c"))) ∷ gives (codes "dp") (prb_text (typed (signal_type bit) (codes "d"))) ∷ gives (codes "t") (const_text delta)
+      ∷ gives (codes "low") (pure_text (op.Exts 0 8) (typed (signal_type (int_type 8)) (codes "o") ∷ [])) ∷ does (branch_text (codes "cp") (codes "end") (codes "on")) ∷ [])
       ∷ block (codes "on") (does (branch_text (codes "dp") (codes "no") (codes "yes")) ∷ [])
       ∷ block (codes "no") (gives (codes "k1") (const_text (int_value 8 1)) ∷ does (br_text (codes "join")) ∷ [])
       ∷ block (codes "yes") (gives (codes "k2") (const_text (int_value 8 2)) ∷ does (br_text (codes "join")) ∷ [])
       ∷ block (codes "join") (
       gives (codes "v") (phi_text (int_type 8) (record { value = codes "k1"; block = codes "no" } ∷ record { value = codes "k2"; block = codes "yes" } ∷ []))
-      ∷ does (drv_text (of_type (signal_type (int_type 8)) (codes "low")) (codes "v") (codes "t") None) ∷ does (br_text (codes "end")) ∷ [])
+      ∷ does (drv_text (typed (signal_type (int_type 8)) (codes "low")) (codes "v") (codes "t") None) ∷ does (br_text (codes "end")) ∷ [])
       ∷ block (codes "end") (does (wait_text (codes "entry") None (codes "c" ∷ codes "d" ∷ [])) ∷ [])
       ∷ [];
 }

@@ -4,7 +4,7 @@ use Rattle.std.specs.Option.{option_and_then, option_map, is_some}
 use Rattle.lh_types.specs.Types.{TypeTree}
 use Rattle.lh_types.specs.Parts.{range_of}
 use Rattle.lh_types.specs.declared.op.Op.{Op}
-use Rattle.lh_types.specs.declared.op.Op.TheVariants.{Not, And}
+use Rattle.lh_types.specs.declared.op.Op.TheVariants.{Not}
 use Rattle.lh_types.specs.declared.part.Step.{Step}
 use Rattle.lh_unit.specs.Contents.{OperandText, InstText, const_text, pure_text, var_text, ld_text, st_text, prb_text, drv_text, call_text, br_text, branch_text, wait_text, halt_text, LineText}
 use Rattle.lh_names.specs.Names.{same_name}
@@ -12,6 +12,7 @@ use Rattle.lh_unit.specs.Typing.{carried, or_else}
 use Rattle.lh_unit.specs.Effects.{step_of}
 use Rattle.lh_term.specs.Tree.{Tree, constant}
 use Rattle.lh_term.specs.Make.{is_zero, make_operation}
+pub use Rattle.lh_term.specs.Make.{both}
 use Rattle.lh_term.specs.declared.part.Part.{Part}
 use Rattle.lh_flat.specs.Flat.{FlatBlockText}
 use Rattle.lh_rows.specs.Known.{Known, known_value, known_cell, known_part, Knowledge, with_given, value_known, cell_known, part_known, values_known, parts_known}
@@ -65,10 +66,6 @@ gives m result x = record m { known = with_given m.known result x }
 abbrev pub probes : Region → Midst → Option (List ℕ) → Option Part → Midst
 probes g m result None = m
 probes g m result (Some p) = gives (record m { rows = record m.rows { probes = m.rows.probes ++ p ∷ [] } }) result (Some (known_value (g.probe p)))
-
--- both conditions hold
-abbrev pub both : Tree → Tree → Tree
-both c d = make_operation And (c ∷ d ∷ [])
 
 -- the condition of a drive: that of its place, and that after `if`, where there is one
 abbrev pub drive_cond : Knowledge → Tree → Option (List ℕ) → Option Tree

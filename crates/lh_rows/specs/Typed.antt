@@ -1,5 +1,5 @@
 -- The terms that are met are typed, each with the type of its name, and what an instruction names is known where control stands at it.
-use Rattle.std.specs.Prelude.{◌≡◌, ◌⊎◌, ℕ, ◌+◌, List, [], ◌∷◌, if◌then◌else◌, false, Some, IsSome}
+use Rattle.std.specs.Prelude.{◌≡◌, ◌⊎◌, ℕ, List, [], ◌∷◌, false, Some, IsSome}
 use Rattle.std.specs.Option.{option_and_then}
 use Rattle.lh_types.specs.Types.{TypeTree, int_type, void_type, signal_type, pointer_type, IsData}
 use Rattle.lh_types.specs.declared.op.Op.{Op}

@@ -41,6 +41,7 @@ data_in-other p (lex.Global n) us f g = refl
 data_in-other p (lex.Local n) us f g = refl
 data_in-other p lex.Arrow us f g = refl
 data_in-other p lex.Minus us f g = refl
+data_in-other p lex.Bad us f g = refl
 
 -- past a type and a comma less is left
 pub next-shorter : (k : ℕ) (ts more next : List Lexeme) (t : TypeTree) → data_at k ts ≡ Some (t, more) → punct_at 44 more ≡ Some next → length next < length ts

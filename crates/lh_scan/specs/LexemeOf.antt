@@ -1,5 +1,6 @@
 -- What the tokens that the program holds stand for.
 use Rattle.lh_unit.specs.Lexemes.{Lexeme, word, global, local, arrow, minus, punct}
+use Rattle.lh_lex.specs.Front.{bad_mark}
 use Rattle.lh_names.specs.declared.name.UnitName.{UnitName}
 use Rattle.lh_scan.specs.declared.tokens.UnitNameText.{UnitNameText}
 use Rattle.lh_scan.specs.declared.tokens.Lex.{Lex}
@@ -17,3 +18,4 @@ lexeme_of (lex.Local n) = local n
 lexeme_of lex.Arrow = arrow
 lexeme_of lex.Minus = minus
 lexeme_of (lex.Punct b) = punct b
+lexeme_of lex.Bad = bad_mark

@@ -11,7 +11,7 @@ abbrev pub ◌>>=◌ : {A B : Type 0} → Option A → (A → Option B) → Opti
 None >>= f = None
 (Some x) >>= f = f x
 
--- the first token and the rest
+-- the first token, or what stands in the place of a bad byte, and the rest
 abbrev pub first_at : List Lexeme → Option (Lexeme × List Lexeme)
 first_at [] = None
 first_at (t ∷ ts) = Some (t, ts)

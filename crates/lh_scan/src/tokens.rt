@@ -1,12 +1,13 @@
 //! The tokens of a line from the front: what a line is read by.
-ghost use Rattle.std.specs.Prelude.{◌≡◌, None, false, option_map, IfOk, IfSome};
-ghost use Rattle.lh_unit.specs.Lexemes.{lexemes, begins};
+ghost use Rattle.std.specs.Prelude.{◌≡◌, [], ◌∷◌, ◌⊎◌, Some, None, false, option_map, IfOk, IfSome, IfNone};
+ghost use Rattle.lh_unit.specs.Lexemes.{begins};
 ghost use Rattle.lh_unit.specs.Tokens.{lexeme_of as spelled_by, IsSpelling};
 ghost use Rattle.lh_unit.specs.Reads.{is_assert};
+ghost use Rattle.lh_lex.specs.Front.{bad_mark, lexemes_to_bad};
 ghost use Rattle.lh_scan.specs.Pieces.{first_at, word_at, any_word_at, local_at, named_in, name_at, unit_name_at, punct_at, arrow_at, minus_at, end_at};
 ghost use Rattle.lh_scan.specs.LexemeOf.{lexeme_of, unit_name_of};
 
-use lh_lex::{first_bad, from_token, is_mark, split};
+use lh_lex::{from_token, is_mark, split};
 use lh_names::name::{Name, UnitName};
 use lh_types::ty::NoMemory;
 use lh_unit::token::TokenKind;
@@ -90,6 +91,8 @@ pub enum Lex<'a> {
     Minus,
     /// One of `( ) { } [ ] , : $ * =`, as a byte.
     Punct(u8),
+    /// A byte that no token takes. Nothing stands behind it.
+    Bad,
 }
 
 /// A token with its text, of these bytes.
@@ -128,7 +131,8 @@ fn begins_dashed(text: &[u8]) -> bool
     }
 }
 
-/// The tokens of a line that are left, in order.
+/// The tokens of a line that are left, in order, up to the first byte that no token takes, in whose place a mark stands that
+/// is no token.
 ///
 /// They are the bytes from the first of them on: a token is found when it is taken, and none is stored.
 #[derive(Drop)]
@@ -139,25 +143,22 @@ pub struct Tokens<'a> {
 impl<'a> Model for Tokens<'a> {
     ghost use Rattle.std.specs.Prelude.{List};
     ghost use Rattle.lh_unit.specs.Lexemes.{Lexeme};
-    ghost use Rattle.lh_lex.specs.Front.{lexemes_in, HasTokens, IsSettled};
+    ghost use Rattle.lh_lex.specs.Front.{lexemes_to_bad, IsSettled};
 
     ghost Value = { List Lexeme };
 
-    ghost view = { λ a. lexemes_in a.rest.now };
+    ghost view = { λ a. lexemes_to_bad a.rest.now };
 
-    ghost invariant = { λ a. HasTokens a.rest.now × IsSettled a.rest.now };
+    ghost invariant = { λ a. IsSettled a.rest.now };
 }
 
 impl<'a> Tokens<'a> {
-    /// The tokens of a line; `None` where a byte of it begins no token.
-    pub fn of(line: &'a [u8]) -> Option<Tokens<'a>>
-        ensures { result ≡ lexemes line.now }
+    /// The tokens of a line.
+    pub fn of(line: &'a [u8]) -> Tokens<'a>
+        ensures { result ≡ lexemes_to_bad line.now }
     {
-        if first_bad(line).is_some() {
-            return None;
-        }
         let rest = from_token(line);
-        Some(Tokens { rest })
+        Tokens { rest }
     }
 
     /// The same tokens again.
@@ -167,10 +168,12 @@ impl<'a> Tokens<'a> {
         Tokens { rest: self.rest }
     }
 
-    /// The kind of the first token, its bytes, and the tokens behind it.
+    /// The kind of the first token, its bytes, and the tokens behind it; `None` where no token is left, or a byte stands in
+    /// front that no token takes.
     fn split(&self) -> Option<(TokenKind, &'a [u8], Tokens<'a>)>
-        ensures first { option_map (λ r. (spelled_by r.0 r.1.now, r.2)) result ≡ first_at self.now }
+        ensures first { IfSome result (λ r. Some (spelled_by r.0 r.1.now, r.2) ≡ first_at self.now) }
         ensures spelled { IfSome result (λ r. IsSpelling r.0 r.1.now) }
+        ensures none { IfNone result ((self.now ≡ []) ⊎ (self.now ≡ bad_mark ∷ [])) }
     {
         let (kind, bytes, rest) = split(self.rest)?;
         Some((kind, bytes, Tokens { rest }))
@@ -188,8 +191,22 @@ impl<'a> Tokens<'a> {
         if let Some((name, rest)) = self.local() {
             return Some((Lex::Local(name), rest));
         }
-        let (kind, bytes, rest) = self.split()?;
-        Some((text_of(kind, bytes), rest))
+        if let Some((kind, bytes, rest)) = self.split() {
+            return Some((text_of(kind, bytes), rest));
+        }
+        self.bad()
+    }
+
+    /// The byte in front, which no token takes; `None` where no byte is left.
+    fn bad(&self) -> Option<(Lex<'a>, Tokens<'a>)>
+        requires { (self.now ≡ []) ⊎ (self.now ≡ bad_mark ∷ []) }
+        ensures { option_map (λ r. (lexeme_of r.0, r.1)) result ≡ first_at self.now }
+    {
+        if self.rest.is_empty() {
+            return None;
+        }
+        let rest = &self.rest[..0];
+        Some((Lex::Bad, Tokens { rest }))
     }
 
     /// Whether the first byte is that of this text. Most words are told from another by it.

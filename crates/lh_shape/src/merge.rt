@@ -68,8 +68,14 @@ fn take(
     ensures kept { Grows terms.old terms.new }
 {
     if are_alike(terms, &last, drive) {
-        let both = join(alloc, terms, last, drive)?;
-        return Ok(both);
+        let mut both = last;
+        return match join(alloc, terms, &mut both, drive) {
+            Ok(()) => Ok(both),
+            Err(fault) => {
+                drop(both);
+                Err(fault)
+            }
+        };
     }
     let next = copy_of(drive)?;
     merged.push(last)?;
@@ -85,29 +91,25 @@ fn are_alike(terms: &Terms, a: &DriveRow, b: &DriveRow) -> bool
     a.part == b.part && terms.same(a.delay, b.delay)
 }
 
-/// One drive for two of one part: the value of the second where that holds, else that of the first.
+/// Makes a drive one for two of one part: the value of the second where that holds, else its own.
 fn join(
     alloc: Global,
     terms: &mut Terms,
-    first: DriveRow,
+    first: &mut DriveRow,
     second: &DriveRow,
-) -> Result<DriveRow, NoMemory>
-    requires first_fits { DriveFits terms.old first }
+) -> Result<(), NoMemory>
+    requires first_fits { DriveFits terms.old first.old }
     requires second_fits { DriveFits terms.old second.now }
-    requires alike { second.now.part ≡ first.part }
-    ensures is { IfOk result (λ drive. IsDrive terms.new drive (drive_merged (drive_at terms.old first) (drive_at terms.old second.now))) }
+    requires alike { second.now.part ≡ first.old.part }
+    ensures is { OnOk result (IsDrive terms.new first.new (drive_merged (drive_at terms.old first.old) (drive_at terms.old second.now))) }
     ensures kept { Grows terms.old terms.new }
 {
     let beyond = selector(alloc, terms, first.cond, second.cond)?;
     let value = terms.choice(beyond, first.value, second.value)?;
     let cond = or(terms, first.cond, second.cond)?;
-    let DriveRow { part, delay, .. } = first;
-    Ok(DriveRow {
-        cond,
-        part,
-        value,
-        delay,
-    })
+    first.cond = cond;
+    first.value = value;
+    Ok(())
 }
 
 /// The conjunction of the conjuncts of the second condition that the first one lacks.

@@ -232,6 +232,9 @@ grows : (us : List Tree) (more : List Term) → (rest : List Tree) × (trees_fro
 grows us [] = ([], sym (append-nil us))
 grows us (x ∷ more) = let (rest, e) = grows (us ++ term_tree us x ∷ []) more in (term_tree us x ∷ rest, e ∙ append_assoc us (term_tree us x ∷ []) rest)
 
+pub grows_none : (ns : List Node) → Grows ns ns
+grows_none ns = ([], sym (append-nil ns))
+
 pub trees_grow : (ns ms : List Node) → Grows ns ms → (rest : List Tree) × (trees ms ≡ trees ns ++ rest)
 trees_grow ns ms (more, e) =
     let (rest, g) = grows (trees ns) (terms_in more) in

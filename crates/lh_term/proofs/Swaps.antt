@@ -14,7 +14,7 @@ use Rattle.lh_types.specs.declared.val.Val.{Val}
 use Rattle.lh_types.proofs.Lists.{get_below}
 use Rattle.lh_term.specs.Tree.{Tree, TreeRow, constant, past_of, now_of, operation, choice_of, no_trees, more_trees, tree_row, operation_on}
 use Rattle.lh_term.specs.Types.{type_of, types_of, row_result, TakesTypes, Chooses, IsTyped, AreTyped}
-use Rattle.lh_term.specs.Mean.{Valuation, IsFitting, chosen, mean, means}
+use Rattle.lh_term.specs.Mean.{Valuation, IsFitting, chosen, means}
 use Rattle.lh_term.specs.SameTree.{same_tree, same_tree-is}
 use Rattle.lh_term.specs.Make.{make_operation, make_choice}
 use Rattle.lh_term.specs.Arena.{tree_at, term_tree, trees_from, terms_in, trees, trees_at, ids_below, IsIn, AllTyped, StandsForTree, Grows}

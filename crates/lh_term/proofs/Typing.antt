@@ -1,18 +1,17 @@
 -- The types of terms.
-use Rattle.std.proofs.Common.{◌≡◌, ℕ, zero, suc, ◌+◌, ◌<◌, ◌≤◌, ◌^◌, List, [], ◌∷◌, length, map, replicate, Bool, true, false, ◌&&◌, nat_lt, nat_le, refl, ap, sym, ◌∙◌, subst, Option, Some, None, option_map, arith, inl, inr, ◌⊎◌}
-use Rattle.std.specs.Bool.{if◌then◌else◌}
+use Rattle.std.proofs.Common.{◌≡◌, ℕ, zero, suc, ◌+◌, ◌<◌, ◌≤◌, List, [], ◌∷◌, length, replicate, Bool, true, false, ◌&&◌, nat_lt, nat_le, refl, ap, sym, ◌∙◌, subst, Option, Some, None, option_map, arith, inl}
 use Rattle.lh_types.specs.Types.{TypeTree, TypeRow, int_type, time_type, void_type, array_type, tuple_type, signal_type, pointer_type, no_types, more_types, row_of, IsData, AreData, bit_count}
 use Rattle.lh_types.specs.Values.{Datum, DatumRow, int_value, time_value, array_value, tuple_value, no_values, more_values, data_row}
 use Rattle.lh_types.specs.Fits.{FitsType, FitsRow, PartsFit, part_count}
-use Rattle.lh_types.specs.Parts.{Part as Within, step_part, part_if, part_beyond, field_part}
+use Rattle.lh_types.specs.Parts.{Part as Within, part_if, part_beyond, field_part}
 use Rattle.lh_types.specs.ApplyTypes.{RowType, PartHasType}
 use Rattle.lh_types.specs.Apply.{apply}
 use Rattle.lh_types.specs.declared.part.Step.TheVariants.{Field, Slice}
 use Rattle.lh_types.specs.declared.op.Op.{Op}
 use Rattle.lh_types.specs.declared.op.Op.TheVariants.{Not, Neg, Add, Sub, Umul, Smul, Udiv, Sdiv, Umod, Smod, Urem, Srem, And, Or, Xor, Eq, Neq, Slt, Sgt, Sle, Sge, Ult, Ugt, Ule, Uge, Shl, Shr, Mux, Extf, Exts, Insf, Inss, Array, Repeat, Tuple}
 use Rattle.lh_ops.proofs.TypeLemmas.{results_fit_lem}
-use Rattle.lh_term.specs.Tree.{Tree, TreeRow, constant, past_of, now_of, operation, choice_of, no_trees, more_trees, tree_row, operation_on}
-use Rattle.lh_term.specs.Types.{value_type, first_type, value_types, first_of, element_of, type_in_row, field_type, slice_type, gives_bit, type_by_first, row_result, type_of, types_of, IsValueType, FitsTerm, TakesTypes, Chooses, IsTyped, AreTyped}
+use Rattle.lh_term.specs.Tree.{Tree, TreeRow, constant, past_of, now_of, operation, choice_of, no_trees, more_trees}
+use Rattle.lh_term.specs.Types.{value_type, first_type, value_types, first_of, element_of, type_in_row, field_type, slice_type, row_result, type_of, types_of, IsValueType, FitsTerm, TakesTypes, IsTyped, AreTyped}
 use Rattle.lh_term.specs.Mean.{Valuation, IsFitting, chosen, mean, means}
 
 -- ---- the type of a value is the one that it fits

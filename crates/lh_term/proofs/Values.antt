@@ -1,6 +1,6 @@
 -- The types that values and lists of types are read off by.
-use Rattle.std.proofs.Common.{◌≡◌, ℕ, zero, suc, ◌<◌, ◌≤◌, ◌+◌, List, [], ◌∷◌, length, map, take, refl, ap, sym, ◌∙◌, subst, Option, Some, None, Result, IfOk, arith, slice_index_or, slice_get}
-use Rattle.lh_types.specs.Types.{TypeTree, more_types, row_of, array_type, tuple_type}
+use Rattle.std.proofs.Common.{◌≡◌, ℕ, zero, suc, ◌<◌, ◌≤◌, List, [], ◌∷◌, length, map, take, refl, ap, sym, ◌∙◌, subst, Some, Result, IfOk, arith, slice_index_or, slice_get}
+use Rattle.lh_types.specs.Types.{TypeTree, more_types, row_of, array_type}
 use Rattle.lh_types.specs.Values.{Datum, array_value, data_row}
 use Rattle.lh_types.specs.ValueOf.{datum_of}
 use Rattle.lh_types.specs.Fits.{part_count}

@@ -1,5 +1,5 @@
 -- The walk through the conjuncts of a condition.
-use Rattle.std.proofs.Common.{◌≡◌, ℕ, zero, suc, ◌+◌, ◌*◌, ◌-◌, ◌<◌, List, [], ◌∷◌, ◌++◌, length, map, Bool, true, false, not, ◌&&◌, ◌||◌, cond, nat_eq, nat_lt, refl, ap, sym, ◌∙◌, subst, Some, arith, append_assoc, length-append, slice_get, set, replicate, inl, inr, ◌⊎◌, ltb-true, lt-ltb}
+use Rattle.std.proofs.Common.{◌≡◌, ℕ, zero, suc, ◌+◌, ◌*◌, ◌<◌, List, [], ◌∷◌, ◌++◌, length, map, Bool, true, false, not, ◌&&◌, ◌||◌, cond, nat_eq, nat_lt, refl, ap, sym, ◌∙◌, subst, Some, arith, append_assoc, length-append, slice_get, set, replicate, inl, inr, ◌⊎◌, ltb-true, lt-ltb}
 use Rattle.std.specs.Bool.{if◌then◌else◌}
 use Rattle.std.specs.List.{list_any}
 use Rattle.std.specs.Cmp.{first_so, second_so}

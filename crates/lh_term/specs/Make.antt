@@ -177,3 +177,11 @@ make_choice c f t =
     else if is_bit 0 f && is_bit 1 t then c
     else if is_bit 1 f && is_bit 0 t then make_not c
     else choice_of c f t
+
+-- the condition does not hold
+abbrev pub negation : Tree → Tree
+negation c = make_operation Not (c ∷ [])
+
+-- both conditions hold
+abbrev pub both : Tree → Tree → Tree
+both c d = make_operation And (c ∷ d ∷ [])

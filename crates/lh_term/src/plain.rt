@@ -22,12 +22,15 @@ impl Terms {
         ensures kept { Grows self.old self.new }
     {
         self.are_typed(args);
+        let list = TermList::from_slice(self.allocator(), args)?;
         let Ok(ty) = self.result_type(op, args) else {
             return Err(NoMemory);
         };
-        let args = TermList::from_slice(self.allocator(), args)?;
         self.intern(Node {
-            term: Term::Op { op: *op, args },
+            term: Term::Op {
+                op: *op,
+                args: list,
+            },
             ty,
         })
     }

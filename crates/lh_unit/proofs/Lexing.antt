@@ -108,9 +108,9 @@ run_len-names [] = refl
 run_len-names (b ∷ bs) = run_step (is_name_byte b) b bs refl (run_len-names bs)
 
 -- what the token that begins with b takes
-record Takes (b : ℕ) (bs : List ℕ) (p : TokenKind × ℕ) : Type 0 where
-  within : p.1 ≤ length bs
-  spelling : IsSpelling p.0 (b ∷ take p.1 bs)
+pub record Takes (b : ℕ) (bs : List ℕ) (p : TokenKind × ℕ) : Type 0 where
+  pub within : p.1 ≤ length bs
+  pub spelling : IsSpelling p.0 (b ∷ take p.1 bs)
 
 abbrev IsOkOf : Result (TokenKind × ℕ) ℕ → TokenKind × ℕ → Type 0
 IsOkOf r p = r ≡ Ok p
@@ -164,7 +164,7 @@ takes_by_tests false false false true false mark b n bs p na ga la da mo ma r e 
 takes_by_tests false false false false more true b n bs p na ga la da mo ma r e = let q : (kind.Punct b, 0) ≡ p = cc in subst (Takes b bs) q (record { within = omega arith; spelling = (refl, ma) })
 takes_by_tests false false false false more false b n bs p na ga la da mo ma r e = cc
 
-takes : (b : ℕ) (bs : List ℕ) (p : TokenKind × ℕ) → first_token b bs ≡ Ok p → Takes b bs p
+pub takes : (b : ℕ) (bs : List ℕ) (p : TokenKind × ℕ) → first_token b bs ≡ Ok p → Takes b bs p
 unfolding first_token
 takes b bs p e = takes_by_tests (is_name_byte b) (nat_eq b 64) (nat_eq b 37) (nat_eq b 45) (begins 62 bs) (is_punct b) b (run_len bs) bs p refl refl refl refl refl refl refl e
 

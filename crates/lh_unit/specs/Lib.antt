@@ -32,6 +32,7 @@ pub mod Activation
 pub mod Hierarchy
 pub mod Pass
 pub mod Design
+pub mod Worded
 pub mod World
 pub mod Trace
 pub mod Paths

@@ -119,17 +119,28 @@ fn operand_fault(alloc: Global, scope: &Scope<'_>, inst: &Inst) -> Result<Option
     ensures { IfOk result (λ n. n ≡ lowest_of_operands (items_in scope.now) (text_in scope.now) (inst_text (naming_in scope.now) inst.now)) }
 {
     let list = operands_of(alloc, scope, inst)?;
-    let operands = list.as_slice();
+    Ok(lowest_by_operands(scope, inst, list.as_slice()))
+}
+
+/// Faults 1 to 3 of an instruction with these operands: the lowest.
+fn lowest_by_operands(scope: &Scope<'_>, inst: &Inst, operands: &[Use]) -> Option<u8>
+    requires scope { IsScope scope.now }
+    requires within { InstWithin (sizes_in scope.now) inst.now }
+    requires sig { HasItsSig scope.now inst.now }
+    requires operands { operands.now ≡ uses_of inst.now }
+    requires operands_within { Each (UseWithin (sizes_in scope.now)) operands.now }
+    ensures { result ≡ lowest_of_operands (items_in scope.now) (text_in scope.now) (inst_text (naming_in scope.now) inst.now) }
+{
     if is_undefined(scope, inst, operands) {
-        return Ok(Some(1));
+        return Some(1);
     }
     if is_wrong_kind(scope, inst, operands) {
-        return Ok(Some(2));
+        return Some(2);
     }
     if is_wrong_type(scope, inst, operands) {
-        return Ok(Some(3));
+        return Some(3);
     }
-    Ok(None)
+    None
 }
 
 /// Faults 4 to 8 of an instruction, where it is known whether it has the faults 6 and 7: the lowest.

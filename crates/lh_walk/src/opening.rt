@@ -68,8 +68,7 @@ impl Walk {
             at.place,
             block.insts.as_slice(),
         )?;
-        take_merge(alloc, terms, &mut self.places, at.place, &block.merge)?;
-        Ok(())
+        take_merge(alloc, terms, &mut self.places, at.place, &block.merge)
     }
 
     /// Takes the lines of a block, the last of which is its terminator.
@@ -162,10 +161,7 @@ fn take_line(
         return Ok(());
     };
     match &line.inst {
-        Inst::Phi { edges, .. } => {
-            take_phi(alloc, terms, places, at, result, edges.as_slice())?;
-            Ok(())
-        }
+        Inst::Phi { edges, .. } => take_phi(alloc, terms, places, at, result, edges.as_slice()),
         _ => Ok(()),
     }
 }
@@ -186,8 +182,7 @@ fn take_merge(
         return Ok(());
     };
     let edges = as_phis(alloc, merge.edges.as_slice())?;
-    take_phi(alloc, terms, places, at, merge.value, edges.as_slice())?;
-    Ok(())
+    take_phi(alloc, terms, places, at, merge.value, edges.as_slice())
 }
 
 /// The edges of a merge as those of a `phi`.
@@ -218,6 +213,5 @@ fn take_phi(
     ensures taken { OnOk result (merges.TakesPhi terms.old places.old.items at gives.0 operands.now terms.new places.new.items) }
 {
     let merged = phi_at(alloc, terms, places, at, operands)?;
-    give(places, at, gives.0, merged)?;
-    Ok(())
+    give(places, at, gives.0, merged)
 }

@@ -1,10 +1,11 @@
 -- Numbers of signals, gone through one after the other, and the values of those that have changed.
-use Rattle.std.proofs.Common.{◌≡◌, ℕ, zero, suc, ◌+◌, ◌-◌, ◌<◌, ◌≤◌, ◌⊎◌, inl, inr, true, false, not, List, [], ◌∷◌, ◌++◌, length, get_or, set, drop, map, refl, ap, sym, ◌∙◌, subst, cond, Option, Some, None, arith}
-use Rattle.std.specs.Prelude.{Contains}
+use Rattle.std.proofs.Common.{◌≡◌, ℕ, zero, suc, ◌+◌, ◌-◌, ◌<◌, ◌≤◌, ◌⊎◌, ◌≢◌, inl, inr, true, false, not, List, [], ◌∷◌, ◌++◌, length, get_or, set, drop, map, refl, ap, sym, ◌∙◌, subst, cond, Option, Some, None, arith}
+use Rattle.std.specs.Prelude.{All, Contains}
 use Rattle.std.specs.List.Sorted.{IsNonDecreasing}
 use Rattle.std.proofs.Math.ListN.{length-set}
 use Rattle.std.proofs.lemmas.Bool.{cases_eq}
-use Rattle.std.proofs.lemmas.List.{drop-set-lt, drop_more, get_or_default, get_or-set_same, get_or-set_other, get_or-map, map-set, set-get_or, length-map, same_lists}
+use Rattle.std.proofs.lemmas.List.{append-nil, drop-set-lt, drop_more, get_or_default, get_or-set_same, get_or-set_other, get_or-map, map-set, set-get_or, length-map, same_lists}
+use Rattle.std.proofs.lemmas.List.Elements.{All-push, Contains-append_left, Contains-push}
 use Rattle.lh_text.specs.Writing.{Written, Writes, Leaves}
 use Rattle.lh_text.proofs.Parts.{all-left, less-left, none-left}
 use Rattle.lh_types.specs.Values.{Datum}
@@ -13,7 +14,8 @@ use Rattle.lh_types.specs.SameValue.{same_datum}
 use Rattle.lh_types.specs.SameValueLaws.{same_datum-refl, same_datum-is}
 use Rattle.lh_types.specs.declared.val.Val.{Val}
 use Rattle.lh_wave.specs.WaveText.{value_line, differing_lines, any_differs}
-use Rattle.lh_wave.specs.Changed.{HasNone, present_value, present_values}
+use Rattle.lh_wave.specs.declared.changed.Changed.{Changed}
+use Rattle.lh_wave.specs.Changed.{HasNone, IsNoted, with_number, present_value, present_values}
 use Rattle.lh_wave.proofs.Recording.{IsSameAt, values_drop, passed_over, differs_at, same_differ, from_not}
 
 -- the number stands in the list from this place on
@@ -238,6 +240,42 @@ putting_end ks i start to whole ns ws now p past =
     let same : drop p.low (map datum_of ws) ≡ drop p.low now = ap (drop p.low) (moving_end ks i ns ws now p.moving past) in
     none-left start to (differing_lines p.low (drop p.low (map datum_of ws)) (drop p.low now)) whole
     (ap (λ ds. differing_lines p.low ds (drop p.low now)) same ∙ no_lines p.low (drop p.low now)) p.text
+
+-- the line of a signal, by the test that its values differ
+pub other_line : (k : ℕ) (w v : Datum) (to after : Written) → true ≡ not (same_datum w v) → Writes to after (value_line k v) → Writes to after (line_if_differs k w v)
+other_line k w v to after other g = subst (λ b. Writes to after (cond b [] (value_line k v))) (sym (from_not (same_datum w v) true other)) g
+
+pub same_line : (k : ℕ) (w v : Datum) (to : Written) → false ≡ not (same_datum w v) → Writes to to (line_if_differs k w v)
+same_line k w v to same = subst (λ b. Writes to to (cond b [] (value_line k v))) (sym (from_not (same_datum w v) false same)) (λ whole. (whole, sym (append-nil to.items)))
+
+-- a signal has a new value, and is listed
+listed_more : (ns : List (Option Val)) (ks : List ℕ) (k : ℕ) (n : Option Val) (v : Val) → ((j : ℕ) → Contains ks j ⊎ HasNone ns j) → k < length ns → get_or ns k None ≡ n
+    → (j : ℕ) → Contains (with_number n k ks) j ⊎ HasNone (set ns k (Some v)) j
+listed_more ns ks k n v h l e j = elim (cases_eq j k) [ inl s ↦ inl (subst (Contains (with_number n k ks)) (sym s) (here n e)) | inr other ↦ there n (h j) other ]
+  where
+    here : (m : Option Val) → get_or ns k None ≡ m → Contains (with_number m k ks) k
+    here None is = Contains-push ks k
+    here (Some x) is = elim (h k) [ inl c ↦ c | inr none ↦ absurd (let no : None ≡ Some x = sym none ∙ is in cc) ]
+
+    there : (m : Option Val) → Contains ks j ⊎ HasNone ns j → j ≢ k → Contains (with_number m k ks) j ⊎ HasNone (set ns k (Some v)) j
+    there None (inl c) other = inl (Contains-append_left ks (k ∷ []) j c)
+    there (Some x) (inl c) other = inl c
+    there m (inr none) other = inr (get_or-set_other ns k j (Some v) None other ∙ none)
+
+within_more : (ks : List ℕ) (k count : ℕ) (n : Option Val) → All (λ (j : ℕ). j < count) ks → k < count → All (λ (j : ℕ). j < count) (with_number n k ks)
+within_more ks k count None h l = All-push (λ (j : ℕ). j < count) ks k h l
+within_more ks k count (Some x) h l = h
+
+pub noted_more : (c next : Changed) (count k : ℕ) (n : Option Val) (v : Val) → IsNoted c count → k < length c.values.items → n ≡ get_or c.values.items k n
+    → next.numbers.items ≡ with_number n k c.numbers.items → next.values.items ≡ set c.values.items k (Some v) → IsNoted next count
+noted_more c next count k n v is l e numbers values = record {
+  level = ap length values ∙ length-set c.values.items k (Some v) ∙ is.level;
+  within = subst (All (λ (j : ℕ). j < count)) (sym numbers) (within_more c.numbers.items k count n is.within (omega (arith, is.level)));
+  listed = λ j.
+      subst (λ ks. Contains ks j ⊎ HasNone next.values.items j) (sym numbers)
+      (subst (λ ns. Contains (with_number n k c.numbers.items) j ⊎ HasNone ns j) (sym values)
+      (listed_more c.values.items c.numbers.items k n v is.listed l (get_or_default c.values.items k None n l ∙ sym e) j));
+}
 
 pub none_other : (n : Option Val) (w : Val) → n ≡ None → false ≡ not (same_datum (datum_of w) (present_value n w))
 none_other n w e = ap not (sym (same_datum-refl (datum_of w))) ∙ ap (λ x. not (same_datum (datum_of w) (present_value x w))) (sym e)

@@ -1,6 +1,6 @@
 -- A run from one of its points to a later one, and where it broke off.
 use Rattle.std.proofs.Common.{◌≡◌, ℕ, ◌+◌, ◌≤◌, Bool, true, ◌||◌, List, [], ◌∷◌, ◌++◌, length, take, drop, refl, ap, sym, ◌∙◌, append_assoc, subst, Option, Some, None, arith}
-use Rattle.std.specs.Prelude.{Result, Ok, Err, OnOk, IfErr}
+use Rattle.std.specs.Prelude.{Result, Ok, Err, OnOk, IfErr, IsErrOf}
 use Rattle.std.specs.List.{list_any}
 use Rattle.std.proofs.lemmas.List.{append-nil, length-append, take-append-drop, take-append-le}
 use Rattle.std.proofs.Math.Seq.{take-append-add, take-append_seam}
@@ -11,7 +11,7 @@ use Rattle.lh_types.specs.declared.frame.Outcome.{Outcome}
 use Rattle.lh_types.specs.declared.frame.Frame as frames
 use Rattle.lh_types.specs.Values.{Datum}
 use Rattle.lh_types.specs.Pictures.{Picture, picture}
-use Rattle.lh_io.specs.Streams.{Appends, AppendsProperPrefix}
+use Rattle.lh_io.specs.Streams.{Rose, Appends, AppendsProperPrefix}
 use Rattle.lh_unit.specs.Trace.{Frame}
 use Rattle.lh_unit.specs.Frames.{pictures, picture_by}
 use Rattle.lh_watch.specs.Members.{Member}
@@ -77,6 +77,19 @@ none_of e a t o = subst (λ (f : WaveFault). BreaksOff f a a t) (sym o) (at)
   where
     at : AppendsPrefix a a t
     at = record { count = 0; told = told_none a }
+
+-- where memory ran out, no write has failed
+pub none_failed : {T : Type 0} (r : Result T WaveFault) (e : WaveFault) (a b : ℕ) → r ≡ Err e → e ≡ OutOfMemory → IsErrOf r WriteFault → Rose a b
+none_failed r e a b is out failed = absurd (let no : r ≡ Err OutOfMemory = is ∙ ap Err out in cc)
+
+-- a fault that is passed on says that a write failed where the one before says so
+pub failed_so : {T U : Type 0} (r : Result T WaveFault) (e f : WaveFault) → r ≡ Err e → e ≡ f → IsErrOf r WriteFault → IsErrOf {T = U} (Err f) WriteFault
+failed_so r e f is same failed = let one : e ≡ WriteFault = cc in ap Err (sym same ∙ one)
+
+-- a write failed, and a proper prefix was written
+pub failed_short : {T : Type 0} (r : Result T WaveFault) (e : WaveFault) (a b : Option (List ℕ)) (t : List ℕ)
+    → r ≡ Err e → e ≡ WriteFault → AppendsProperPrefix a b t → IfErr r (λ f. BreaksOff f a b t)
+failed_short r e a b t is same h = rw (is, same) h
 
 pub all_of : (e : WaveFault) (a b : Option (List ℕ)) (p t : List ℕ) → e ≡ OutOfMemory → Appends a b p → BreaksOff e a b (p ++ t)
 all_of e a b p t o h = behind_piece e a b b p t h (none_of e b t o)

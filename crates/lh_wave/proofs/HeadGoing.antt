@@ -3,6 +3,7 @@ use Rattle.std.proofs.Common.{◌≡◌, ℕ, ◌+◌, ◌<◌, ◌≤◌, List,
 use Rattle.std.specs.Prelude.{true, Result, Ok, Err, OnOk, IfErr}
 use Rattle.lh_text.specs.Writing.{Written, Writes}
 use Rattle.lh_io.specs.Streams.{Appends, AppendsProperPrefix}
+use Rattle.lh_unit.specs.Trace.{Shown, ShownSignal}
 use Rattle.lh_unit.specs.Arena.{Arena}
 use Rattle.lh_unit.specs.Pieces.{render}
 use Rattle.lh_unit.specs.CanonTypes.{type_pieces}
@@ -10,9 +11,12 @@ use Rattle.lh_unit.specs.Paths.{shown_in, path_at}
 use Rattle.lh_design.specs.declared.Design.{Design}
 use Rattle.lh_design.specs.declared.Signal.{Signal}
 use Rattle.lh_design.specs.Texts.{design_text}
+use Rattle.lh_wave.specs.declared.run.WaveMode.{WaveMode}
+use Rattle.lh_wave.specs.declared.run.WaveMode.TheVariants as mode
 use Rattle.lh_wave.specs.declared.run.WaveFault.{WaveFault}
 use Rattle.lh_wave.specs.declared.run.WaveFault.TheVariants.{WriteFault, OutOfMemory}
-use Rattle.lh_wave.specs.HeadText.{signal_line, signal_lines, trace_head, signals_in}
+use Rattle.lh_wave.specs.HeadText.{signal_line, signal_lines, trace_head, waveform_head, signals_in}
+use Rattle.lh_wave.specs.RunText.{head_in}
 use Rattle.lh_wave.specs.BrokenOff.{BreaksOff}
 use Rattle.lh_wave.specs.Going.{IsPassedOn, StopsShort}
 use Rattle.lh_wave.proofs.Courses.{told_both, told_none, behind_piece, in_front_of, all_of}
@@ -93,3 +97,8 @@ pub head_told : {T E : Type 0} (r : Result T E) (a : Arena) (d : Design) (was wr
 head_told (Ok x) a d was written then xs waits k whole h past t =
     subst (Appends was then) (signals_end a d xs (h.piece ++ waits) k whole h.text past) (told_both was written then h.piece waits h.told t)
 head_told (Err x) a d was written then xs waits k whole h past t = tt
+
+-- what holds of the head of a waveform holds of the head of the text
+pub head_by_vcd : (P : List ℕ → Type 0) (m : WaveMode) (is : List Shown) (ss : List ShownSignal) (bytes head : List ℕ)
+    → m ≡ mode.Vcd → bytes ≡ head → head ≡ waveform_head is ss → P bytes → P (head_in m is ss)
+head_by_vcd P m is ss bytes head v e h p = subst (λ (x : WaveMode). P (head_in x is ss)) (sym v) (subst P (e ∙ h) p)

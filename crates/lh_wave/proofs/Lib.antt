@@ -6,6 +6,7 @@ pub mod Recording
 pub mod ChangedLemmas
 pub mod Keeping
 pub mod Joined
+pub mod Titles
 pub mod SameValues
 pub mod OwnedLemmas
 pub mod HeadLines

@@ -1,16 +1,16 @@
 -- A whole run: turn after turn, and what stands of it at its end.
-use Rattle.std.proofs.Common.{◌≡◌, ℕ, suc, Bool, false, ◌||◌, List, [], ◌++◌, refl, ap, sym, ◌∙◌, append_assoc, subst, Option, Some, None}
+use Rattle.std.proofs.Common.{◌≡◌, ℕ, suc, Bool, ◌||◌, List, [], ◌++◌, refl, ap, sym, ◌∙◌, append_assoc, subst, Option, Some, None}
+use Rattle.std.specs.Prelude.{Result, Ok, Err, OnOk, IfErr}
 use Rattle.std.specs.List.{list_any, flat_map}
 use Rattle.std.proofs.lemmas.List.{append-nil}
 use Rattle.lh_time.specs.declared.Instant.{Instant}
 use Rattle.lh_types.specs.Values.{Datum}
 use Rattle.lh_io.specs.Streams.{Appends}
-use Rattle.lh_unit.specs.Arena.{Arena, contents}
-use Rattle.lh_unit.specs.World.{World, next_instant, first_world}
+use Rattle.lh_unit.specs.Arena.{Arena}
+use Rattle.lh_unit.specs.World.{World, next_instant}
 use Rattle.lh_unit.specs.Trace.{Shown, ShownSignal, Frame, at_bound}
 use Rattle.lh_unit.specs.Frames.{pictures}
 use Rattle.lh_design.specs.declared.Design.{Design}
-use Rattle.lh_design.specs.Texts.{design_text}
 use Rattle.lh_kernel.specs.Simulation.{Simulation, StandsFor}
 use Rattle.lh_watch.specs.Members.{Member, report_of}
 use Rattle.lh_watch.specs.Builtin.{has_failed}
@@ -21,7 +21,7 @@ use Rattle.lh_wave.specs.declared.run.WaveMode.{WaveMode}
 use Rattle.lh_wave.specs.declared.run.WaveMode.TheVariants as mode
 use Rattle.lh_wave.specs.declared.run.WaveFault.{WaveFault}
 use Rattle.lh_wave.specs.declared.run.WaveFault.TheVariants.{OutOfMemory}
-use Rattle.lh_wave.specs.ShownRun.{ShownRun, shown_behind, shows_none, end_of, shown_from_first, any_failed, all_reports}
+use Rattle.lh_wave.specs.ShownRun.{ShownRun, shown_behind, shows_none, end_of, any_failed, all_reports}
 use Rattle.lh_wave.specs.RunText.{head_in, text_in}
 use Rattle.lh_wave.specs.BrokenOff.{HaveSeen, no_more, BreaksOff}
 use Rattle.lh_wave.specs.Going.{Going, Went, BrokeOff, GoesOn, IsOver, Turned, going, shown_on, values_of_last, IsBehind, scribe_in, text_left}
@@ -110,24 +110,6 @@ pub behind_new : (m : WaveMode) (s : Scribe) → s ≡ scribe_in m → IsBehind 
 behind_new mode.Trace s e = subst (λ (x : Scribe). IsBehind x None) (sym e) tt
 behind_new mode.Vcd s e = subst (λ (x : Scribe). IsBehind x None) (sym e) refl
 
-pub over_at : (a a' : Arena) (d : Design) (n : ℕ) (s : Simulation) (t t' : Teller) (ms ms' : List Member) (wr wr' : Option (List ℕ)) (rp rp' : List ℕ) (end : End) → a ≡ a'
-    → StandsFor s (first_world (contents a') (design_text a' d))
-    → IsBehind t.scribe None → ((w : World) → StandsFor s w → IsBehind t.scribe (values_of_last a d w) → IsOver t' (going t (values_of_last a d w) ms (shown_on a d n w ms) wr rp) end ms' wr' rp')
-    → IsOver t' (going t None ms (shown_from_first (contents a') (design_text a' d) n ms) wr rp) end ms' wr' rp'
-over_at a a' d n s t t' ms ms' wr wr' rp rp' end e st b h =
-    let k : (w : World) → StandsFor s w → IsBehind t.scribe (values_of_last a' d w) → IsOver t' (going t (values_of_last a' d w) ms (shown_on a' d n w ms) wr rp) end ms' wr' rp' =
-    subst (λ (x : Arena). (w : World) → StandsFor s w → IsBehind t.scribe (values_of_last x d w) → IsOver t' (going t (values_of_last x d w) ms (shown_on x d n w ms) wr rp) end ms' wr' rp') e h in
-    k (first_world (contents a') (design_text a' d)) st b
-
-pub broken_at : (a a' : Arena) (d : Design) (n : ℕ) (s : Simulation) (t : Teller) (ms now : List Member) (wr wr' : Option (List ℕ)) (rp : List ℕ) (f : WaveFault) → a ≡ a'
-    → StandsFor s (first_world (contents a') (design_text a' d))
-    → IsBehind t.scribe None → ((w : World) → StandsFor s w → IsBehind t.scribe (values_of_last a d w) → BrokeOff (going t (values_of_last a d w) ms (shown_on a d n w ms) wr rp) f wr' now)
-    → BrokeOff (going t None ms (shown_from_first (contents a') (design_text a' d) n ms) wr rp) f wr' now
-broken_at a a' d n s t ms now wr wr' rp f e st b h =
-    let k : (w : World) → StandsFor s w → IsBehind t.scribe (values_of_last a' d w) → BrokeOff (going t (values_of_last a' d w) ms (shown_on a' d n w ms) wr rp) f wr' now =
-    subst (λ (x : Arena). (w : World) → StandsFor s w → IsBehind t.scribe (values_of_last x d w) → BrokeOff (going t (values_of_last x d w) ms (shown_on x d n w ms) wr rp) f wr' now) e h in
-    k (first_world (contents a') (design_text a' d)) st b
-
 -- the head, and what follows it
 parts : (m : WaveMode) (is : List Shown) (ss : List ShownSignal) (r : ShownRun) → head_in m is ss ++ text_left (scribe_in m) None r.frames r.left r.end ≡ text_in m is ss r
 parts mode.Trace is ss r = sym (append_assoc (head_in mode.Trace is ss) _ _)
@@ -145,58 +127,67 @@ head_broken m is ss r head f a b e h =
     let one : BreaksOff f a b (head_in m is ss) = subst (BreaksOff f a b) e h in
     subst (BreaksOff f a b) (parts m is ss r) (broken_in_front f a b (head_in m is ss) (text_left (scribe_in m) None r.frames r.left r.end) one)
 
-module _ (m : WaveMode) (is : List Shown) (ss : List ShownSignal) (r : ShownRun) (t : Teller) (ms : List Member) (a b : Option (List ℕ)) (rp head : List ℕ) (sc : t.scribe ≡ scribe_in m)
-    (te : t.text.items ≡ [])
-    (eh : head ≡ head_in m is ss) (h : Appends a b head) where
+module _ {T : Type 0} (res : Result T WaveFault) (m : WaveMode) (is : List Shown) (ss : List ShownSignal) (r : ShownRun) (t : Teller) (a b : Option (List ℕ)) (head : List ℕ)
+    (sc : t.scribe ≡ scribe_in m) (te : t.text.items ≡ []) (eh : head ≡ head_in m is ss) (h : Appends a b head) where
   head_told : Appends a b (head_in m is ss)
   head_told = subst (Appends a b) eh h
 
-  pub frames_broken : (f : WaveFault) (b' : Option (List ℕ)) (now : List Member) → BrokeOff (going t None ms r b rp) f b' now → BreaksOff f a b' (text_in m is ss r)
-      × HaveSeen (pictures None r.frames) ms now
-  frames_broken f b' now k = (
-    subst (BreaksOff f a b') (whole m t.scribe t.text.items is ss r sc te)
-        (behind_piece f a b b' (head_in m is ss) (t.text.items ++ text_left t.scribe None r.frames r.left r.end) head_told k.text),
-    k.seen,
-  )
+  abbrev behind_head : List ℕ
+  behind_head = t.text.items ++ text_left t.scribe None r.frames r.left r.end
 
-  module _ (t' : Teller) (ms' : List Member) (b' : Option (List ℕ)) (rp' : List ℕ) (end : End) (over : IsOver t' (going t None ms r b rp) end ms' b' rp') where
-    -- the text of the frames is written
-    frames_told : Appends a b' (head_in m is ss ++ over.went.piece)
-    frames_told = told_both a b b' (head_in m is ss) over.went.piece head_told over.went.told
+  -- behind the head the rest was written, or broke off
+  pub whole_told : (c : Option (List ℕ)) → OnOk res (Appends b c behind_head) → OnOk res (Appends a c (text_in m is ss r))
+  whole_told c k = at res k
+    where
+      at : (x : Result T WaveFault) → OnOk x (Appends b c behind_head) → OnOk x (Appends a c (text_in m is ss r))
+      at (Ok _) k = subst (Appends a c) (whole m t.scribe t.text.items is ss r sc te) (told_both a b c (head_in m is ss) behind_head head_told k)
+      at (Err _) k = tt
 
-    in_whole : (head_in m is ss ++ over.went.piece) ++ (t'.text.items ++ text_left t'.scribe over.before [] ms' end) ≡ text_in m is ss r
-    in_whole =
-        append_assoc (head_in m is ss) over.went.piece (t'.text.items ++ text_left t'.scribe over.before [] ms' end) ∙ ap (λ l. head_in m is ss ++ l) (sym over.went.text) ∙ whole m t.scribe t.text.items is ss r sc te
+  pub whole_broken : (c : Option (List ℕ)) (ms now : List Member) (rp : List ℕ) → IfErr res (λ f. BrokeOff (going t None ms r b rp) f c now)
+      → IfErr res (λ f. BreaksOff f a c (text_in m is ss r) × HaveSeen (pictures None r.frames) ms now)
+  whole_broken c ms now rp k = at res k
+    where
+      at : (x : Result T WaveFault) → IfErr x (λ f. BrokeOff (going t None ms r b rp) f c now) → IfErr x (λ f. BreaksOff f a c (text_in m is ss r) × HaveSeen (pictures None r.frames) ms now)
+      at (Ok _) k = tt
+      at (Err f) k = (subst (BreaksOff f a c) (whole m t.scribe t.text.items is ss r sc te) (behind_piece f a b c (head_in m is ss) behind_head head_told k.text), k.seen)
 
-    pub all_seen : HaveSeen (pictures None r.frames) ms ms'
-    all_seen = over.went.seen ms' (no_more [] ms')
+module _ (r : ShownRun) (t : Teller) (ms : List Member) (b : Option (List ℕ)) (rp : List ℕ) (t' : Teller) (ms' : List Member) (b' : Option (List ℕ)) (rp' : List ℕ) (end : End)
+    (over : IsOver t' (going t None ms r b rp) end ms' b' rp') where
+  abbrev all_of_it : List ℕ
+  all_of_it = t.text.items ++ text_left t.scribe None r.frames r.left r.end
 
-    pub last_broken : (f : WaveFault) (c : Option (List ℕ)) → ((before : Option (List Datum)) → BreaksOff f b' c (t'.text.items ++ text_left t'.scribe before [] ms' end)) → BreaksOff f a c (text_in m is ss r)
-    last_broken f c k = subst (BreaksOff f a c) in_whole (behind_piece f a b' c (head_in m is ss ++ over.went.piece) (t'.text.items ++ text_left t'.scribe over.before [] ms' end) frames_told (k over.before))
+  abbrev last : List ℕ
+  last = t'.text.items ++ text_left t'.scribe over.before [] ms' end
 
-    pub all_told : (c : Option (List ℕ)) → ((before : Option (List Datum)) → Appends b' c (t'.text.items ++ text_left t'.scribe before [] ms' end)) → Appends a c (text_in m is ss r)
-    all_told c k = subst (Appends a c) in_whole (told_both a b' c (head_in m is ss ++ over.went.piece) (t'.text.items ++ text_left t'.scribe over.before [] ms' end) frames_told (k over.before))
+  all_seen : HaveSeen (pictures None r.frames) ms ms'
+  all_seen = over.went.seen ms' (no_more [] ms')
 
-    -- memory ran out behind the whole text
-    pub reports_broken : (f : WaveFault) (c : Option (List ℕ)) → f ≡ OutOfMemory → ((before : Option (List Datum)) → Appends b' c (t'.text.items ++ text_left t'.scribe before [] ms' end))
-        → BreaksOff f a c (text_in m is ss r)
-    reports_broken f c o k = subst (BreaksOff f a c) (append-nil (text_in m is ss r)) (all_of f a c (text_in m is ss r) [] o (all_told c k))
+  pub last_broken : (f : WaveFault) (c : Option (List ℕ)) → ((before : Option (List Datum)) → BreaksOff f b' c (t'.text.items ++ text_left t'.scribe before [] ms' end))
+      → BrokeOff (going t None ms r b rp) f c ms'
+  last_broken f c k = record { text = subst (BreaksOff f b c) (sym over.went.text) (behind_piece f b b' c over.went.piece last over.went.told (k over.before)); seen = all_seen }
 
-    since_all : over.went.since ≡ r.frames
-    since_all = sym (append-nil over.went.since) ∙ sym over.went.frames
+  pub all_told : (c : Option (List ℕ)) → ((before : Option (List Datum)) → Appends b' c (t'.text.items ++ text_left t'.scribe before [] ms' end)) → Appends b c all_of_it
+  all_told c k = subst (Appends b c) (sym over.went.text) (told_both b b' c over.went.piece last over.went.told (k over.before))
 
-    pub ended_so : end ≡ r.end
-    ended_so = sym over.went.end
+  -- memory ran out behind the whole text
+  pub reports_broken : (f : WaveFault) (c : Option (List ℕ)) → f ≡ OutOfMemory → ((before : Option (List Datum)) → Appends b' c (t'.text.items ++ text_left t'.scribe before [] ms' end))
+      → BrokeOff (going t None ms r b rp) f c ms'
+  reports_broken f c o k = record { text = subst (BreaksOff f b c) (append-nil all_of_it) (all_of f b c all_of_it [] o (all_told c k)); seen = all_seen }
 
-    pub failed_so : (now : Bool) → t.failed ≡ false → now ≡ t'.failed → now ≡ any_failed r
-    failed_so now z e =
-        e ∙ over.went.failed ∙ ap (λ (f : Bool). f || list_any (λ (x : Frame). has_failed x.outcomes) over.went.since) z ∙ ap (list_any (λ (x : Frame). has_failed x.outcomes)) since_all
+  since_all : over.went.since ≡ r.frames
+  since_all = sym (append-nil over.went.since) ∙ sym over.went.frames
 
-    pub left_so : ms' ≡ r.left
-    left_so = sym over.went.left
+  pub ended_so : end ≡ r.end
+  ended_so = sym over.went.end
 
-    pub reported_so : (rp'' : List ℕ) (xs : List Member) → xs ≡ ms' → rp'' ≡ rp' ++ flat_map report_of xs → rp'' ≡ rp ++ all_reports r
-    reported_so rp'' xs x e =
-        let done : over.went.done ≡ r.done = sym (append-nil over.went.done) ∙ sym over.went.reported in
-        e ∙ ap (λ l. l ++ flat_map report_of xs) (over.went.reports ∙ ap (λ l. rp ++ l) done) ∙ append_assoc rp r.done (flat_map report_of xs)
-        ∙ ap (λ (ys : List Member). rp ++ (r.done ++ flat_map report_of ys)) (x ∙ left_so)
+  pub failed_so : (now : Bool) → now ≡ t'.failed → now ≡ (t.failed || any_failed r)
+  failed_so now e = e ∙ over.went.failed ∙ ap (λ (fs : List Frame). t.failed || list_any (λ (x : Frame). has_failed x.outcomes) fs) since_all
+
+  pub left_so : ms' ≡ r.left
+  left_so = sym over.went.left
+
+  pub reported_so : (rp'' : List ℕ) (xs : List Member) → xs ≡ ms' → rp'' ≡ rp' ++ flat_map report_of xs → rp'' ≡ rp ++ all_reports r
+  reported_so rp'' xs x e =
+      let done : over.went.done ≡ r.done = sym (append-nil over.went.done) ∙ sym over.went.reported in
+      e ∙ ap (λ l. l ++ flat_map report_of xs) (over.went.reports ∙ ap (λ l. rp ++ l) done) ∙ append_assoc rp r.done (flat_map report_of xs)
+      ∙ ap (λ (ys : List Member). rp ++ (r.done ++ flat_map report_of ys)) (x ∙ left_so)

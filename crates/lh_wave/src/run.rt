@@ -1,5 +1,5 @@
 //! A run shown to watchers, with its text going to a sink as its frames come.
-ghost use Rattle.std.specs.Prelude.{◌≡◌, ◌<◌, ◌≤◌, ◌++◌, None, List, ℕ, IfOk, IfErr, OnOk, OnErr, IsErrOf, map};
+ghost use Rattle.std.specs.Prelude.{◌≡◌, ◌||◌, ◌<◌, ◌≤◌, ◌++◌, None, List, ℕ, IfOk, IfErr, OnOk, OnErr, IsErrOf, map};
 ghost use Rattle.std.specs.List.{flat_map};
 ghost use Rattle.lh_io.specs.Streams.{Rose, Appends};
 ghost use Rattle.lh_unit.specs.Arena.{contents};
@@ -12,6 +12,7 @@ ghost use Rattle.lh_elab.specs.Answer.{IsDesignOf};
 ghost use Rattle.lh_kernel.specs.Simulation.{StandsFor};
 ghost use Rattle.lh_wave.specs.HeadText.{signals_in};
 ghost use Rattle.lh_wave.specs.ShownRun.{shown_from_first, all_reports, any_failed};
+ghost use Rattle.lh_wave.specs.Going.{KeepsSignals, IsBehind, BrokeOff, going, text_left};
 ghost use Rattle.lh_wave.specs.RunText.{text_in, head_in};
 ghost use Rattle.lh_wave.specs.BrokenOff.{HaveSeen, BreaksOff};
 ghost use Rattle.lh_wave.specs.declared.run.WaveFault.TheVariants.{WriteFault, OutOfMemory};
@@ -103,6 +104,34 @@ pub fn run_wave<K: Sink, W: Watcher>(
 {
     write_head(alloc, mode, sim.design(), m, out)?;
     let mut teller = Teller::new(alloc, mode);
+    tell_run(&mut teller, sim, steps, ws, out, reports)
+}
+
+/// Shows the run to watchers, writes its text behind the head, and appends the reports.
+fn tell_run<K: Sink, W: Watcher>(
+    teller: &mut Teller,
+    sim: &mut Sim<'_>,
+    steps: u32,
+    ws: &mut Vec<W>,
+    out: &mut K,
+    reports: &mut Vec<u8>,
+) -> Result<Ending, WaveFault>
+    requires steady { KeepsSignals teller.old.scribe }
+    requires behind { IsBehind teller.old.scribe None }
+    requires fresh { StandsFor sim.old (first_world (contents sim.old.arena) (design_text sim.old.arena sim.old.design)) }
+    ensures ending { let s = shown_from_first (contents sim.old.arena) (design_text sim.old.arena sim.old.design) steps (map W.member ws.old.items) in
+        IfOk result (λ e. (e.end ≡ s.end) × (e.failed ≡ teller.old.failed || any_failed s)) }
+    ensures text { let s = shown_from_first (contents sim.old.arena) (design_text sim.old.arena sim.old.design) steps (map W.member ws.old.items) in
+        OnOk result (Appends (K.written out.old) (K.written out.new) (teller.old.text.items ++ text_left teller.old.scribe None s.frames s.left s.end)) }
+    ensures members { let s = shown_from_first (contents sim.old.arena) (design_text sim.old.arena sim.old.design) steps (map W.member ws.old.items) in
+        OnOk result (map W.member ws.new.items ≡ s.left) }
+    ensures reports { let s = shown_from_first (contents sim.old.arena) (design_text sim.old.arena sim.old.design) steps (map W.member ws.old.items) in
+        OnOk result (reports.new.items ≡ reports.old.items ++ all_reports s) }
+    ensures fault { let ms = map W.member ws.old.items in let s = shown_from_first (contents sim.old.arena) (design_text sim.old.arena sim.old.design) steps ms in
+        IfErr result (λ e. BrokeOff (going teller.old None ms s (K.written out.old) reports.old.items) e (K.written out.new) (map W.member ws.new.items)) }
+    ensures rose { IsErrOf result WaveFault.WriteFault → Rose (K.faults out.old) (K.faults out.new) }
+    ensures never_fall { K.faults out.old ≤ K.faults out.new }
+{
     let end = teller.show_frames(sim, steps, ws, out, reports)?;
     teller.finish(end, ws, out)?;
     put_reports(ws, reports)?;

@@ -1,6 +1,6 @@
 //! Lines with their tokens, taken from the definition of the language by hand.
 use lh_lex::TokenKind::*;
-use lh_lex::{LexFault, Token, TokenKind, first_bad, line};
+use lh_lex::{LexFault, Token, TokenKind, line};
 use std::alloc::Global;
 
 fn t(kind: TokenKind, from: u32, to: u32) -> Token {
@@ -42,7 +42,7 @@ fn lines_have_these_tokens(rt: HostRuntime) {
 
 /// Whether this byte of a line of fewer than 100 bytes is its first bad one.
 fn is_first_bad(alloc: Global, text: &[u8], place: u32) -> bool {
-    if text.len() >= 100 || first_bad(text) != Some(place as usize) {
+    if text.len() >= 100 {
         return false;
     }
     matches!(line(alloc, text), Err(LexFault::BadByte(at)) if at == place)

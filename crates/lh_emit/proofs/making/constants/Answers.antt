@@ -3,6 +3,7 @@ use Rattle.lh_types.specs.ValueOf.{datum_of}
 use Rattle.lh_term.specs.Tree.{constant}
 use Rattle.lh_term.specs.Arena.{StandsForTree}
 use Rattle.lh_types.specs.declared.val.Val.{Val}
+use Rattle.lh_term.proofs.Swaps.{grows_on}
 use Rattle.lh_emit.proofs.Composing.{constants-next, constants-end}
 use Rattle.lh_emit.proofs.making.constants.Goals as goal
 
@@ -15,3 +16,15 @@ loop-left-preserved c =
 
 pub returns-clause-made : goal.returns-clause-made
 returns-clause-made c = constants-end c.args.terms.now c.args.values.now c.loop-left.terms c.loop-left.list c.loop-left.left.now c.loop-left.invariant c.in_default.len_below
+
+pub returns-in_err-copy-clause-kept : goal.returns-in_err-copy-clause-kept
+returns-in_err-copy-clause-kept c = c.loop-left.invariant.grows
+
+pub returns-in_err-id-clause-kept : goal.returns-in_err-id-clause-kept
+returns-in_err-id-clause-kept c = grows_on c.args.terms.now c.loop-left.terms c.konst.new.self c.loop-left.invariant.grows c.konst.ensures.kept
+
+pub returns-in_err-push-clause-kept : goal.returns-in_err-push-clause-kept
+returns-in_err-push-clause-kept c = grows_on c.args.terms.now c.loop-left.terms c.konst.new.self c.loop-left.invariant.grows c.konst.ensures.kept
+
+pub returns-clause-kept : goal.returns-clause-kept
+returns-clause-kept c = c.loop-left.invariant.grows

@@ -1,10 +1,11 @@
 use Rattle.std.proofs.Common.{length, refl, ◌+◌, Vec, take, sym, subst}
-use Rattle.std.proofs.lemmas.Option.{slice_get_read}
+use Rattle.std.proofs.lemmas.Option.{slice_get_read, slice_get_within}
 use Rattle.std.specs.Global.{Global}
 use Rattle.lh_states.specs.declared.state.InstState.{InstState}
-use Rattle.lh_kernel.specs.Moves.{IsMove, SensesAsBefore}
+use Rattle.lh_unit.proofs.Lists.{Each-item}
+use Rattle.lh_kernel.specs.Moves.{IsMove, SensesFit, SensesAsBefore}
 use Rattle.lh_kernel.specs.declared.noted.Move.{Move}
-use Rattle.lh_kernel.proofs.Moving.{AreKnownMoves, moves_none, moves_next, moves_still, moves_all, read_item}
+use Rattle.lh_kernel.proofs.Moving.{AreKnownMoves, moves_none, moves_next, moves_still, moves_all, read_item, left_read, entered_read}
 use Rattle.lh_kernel.proofs.moves.moves_of.Goals as goal
 use Rattle.lh_kernel.proofs.moves.moves_of.Goals.{then-not-senses_as_before+in_ok-move_of+in_ok-push, else-not-senses_as_before}
 
@@ -51,3 +52,29 @@ returns-clause-moves c = (moves_all c.args.design.now.signals.items c.args.probe
 pub returns-clause-known : goal.returns-clause-known
 returns-clause-known c = (moves_all c.args.design.now.signals.items c.args.probes.now c.args.states.now c.args.acts.now c.loop-done.done-index
     c.loop-done.moves.items c.loop-done-test.false c.loop-done.invariant).1
+
+pub move_of-requires-clause-left : goal.move_of-requires-clause-left
+move_of-requires-clause-left c =
+    let r = read_item c.args.design.now.signals.items c.args.probes.now c.args.states.now (length c.args.design.now.init) c.args.acts.now c.loop-done.done-index
+    c.done-item.result c.index-probes-k.result c.index-states-k.result c.loop-done-test.true c.done-item.is c.requires.fit in
+    left_read c.args.design.now.signals.items c.args.probes.now c.args.states.now (length c.args.design.now.init) c.done-item.result c.index-probes-k.result c.index-states-k.result r
+    c.index-probes-k.is c.index-states-k.is
+
+pub move_of-requires-clause-entered : goal.move_of-requires-clause-entered
+move_of-requires-clause-entered c =
+    let r = read_item c.args.design.now.signals.items c.args.probes.now c.args.states.now (length c.args.design.now.init) c.args.acts.now c.loop-done.done-index
+    c.done-item.result c.index-probes-k.result c.index-states-k.result c.loop-done-test.true c.done-item.is c.requires.fit in
+    entered_read c.args.design.now.signals.items c.args.probes.now c.args.states.now (length c.args.design.now.init) c.done-item.result c.index-probes-k.result c.index-states-k.result
+    c.next-new.result.now r c.index-probes-k.is c.next-new.ensures
+
+pub bounds-probes-k : goal.bounds-probes-k
+bounds-probes-k c =
+    let f = Each-item (SensesFit (length c.args.design.now.init) c.args.probes.now c.args.states.now) c.args.acts.now c.loop-done.done-index c.done-item.result
+    c.requires.fit c.loop-done-test.true c.done-item.is in
+    slice_get_within c.args.probes.now c.done-item.result.instance f.probed f.is_probed
+
+pub bounds-states-k : goal.bounds-states-k
+bounds-states-k c =
+    let f = Each-item (SensesFit (length c.args.design.now.init) c.args.probes.now c.args.states.now) c.args.acts.now c.loop-done.done-index c.done-item.result
+    c.requires.fit c.loop-done-test.true c.done-item.is in
+    slice_get_within c.args.states.now c.done-item.result.instance f.state f.is_kept

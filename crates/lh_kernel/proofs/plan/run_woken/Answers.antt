@@ -1,9 +1,11 @@
-use Rattle.std.proofs.Common.{List, length, sym, subst}
+use Rattle.std.proofs.Common.{List, length, refl, sym, subst}
 use Rattle.lh_states.specs.declared.state.InstState.{InstState}
 use Rattle.lh_kernel.specs.States.{StatesFit}
 use Rattle.lh_kernel.specs.Phases.{awake_in}
 use Rattle.lh_kernel.proofs.Next.{none_by, some_by}
-use Rattle.lh_kernel.proofs.Looking.{looked_width, looked_fit, all_awake, some_awake, rises_awake, known_awake, ran_by, tally_by, err_by}
+use Rattle.lh_kernel.proofs.Looking.{looked_width, looked_fit, all_awake, some_awake, rises_awake, known_awake, ran_by, tally_by, err_by, are_asleep}
+use Rattle.lh_kernel.proofs.Noting.{on_err}
+use Rattle.lh_kernel.proofs.Tallies.{rises_none}
 use Rattle.lh_kernel.proofs.plan.run_woken.Goals as goal
 
 pub run_all-requires-clause-width : goal.run_all-requires-clause-width
@@ -94,3 +96,18 @@ returns-in_ok-woken-clause-err_tally g c =
     c.deref-else-is_none-2.ensures.value c.in_ok-woken.ensures in
     err_by (g.T.Tally.count c.args.tally.now) (g.T.Tally.count c.run_all-else-is_none.new.tally) (awake_in c.args.x.now c.args.at)
     c.as_slice.result.now c.run_all-else-is_none.result e c.run_all-else-is_none.ensures.err
+
+pub returns-in_err-all-clause-err_tally : goal.returns-in_err-all-clause-err_tally
+returns-in_err-all-clause-err_tally g c =
+    on_err c.from_residual.result (rises_none (awake_in c.args.x.now c.args.at) (g.T.Tally.count c.args.tally.now) (g.T.Tally.count c.args.tally.now) refl)
+
+pub returns-in_err-woken-clause-err_tally : goal.returns-in_err-woken-clause-err_tally
+returns-in_err-woken-clause-err_tally g c =
+    on_err c.from_residual-in_err-woken.result (rises_none (awake_in c.args.x.now c.args.at) (g.T.Tally.count c.args.tally.now) (g.T.Tally.count c.args.tally.now) refl)
+
+pub woken-requires-clause-asleep : goal.woken-requires-clause-asleep
+woken-requires-clause-asleep g c = (
+  c.args.x.now.«module».now,
+  are_asleep c.args.x.now c.args.at c.args.touched.now c.deref-else-is_none.result.now c.deref-else-is_none-2.result.now c.requires.looked
+      c.deref-else-is_none.ensures.value c.deref-else-is_none-2.ensures.value,
+)

@@ -1,7 +1,9 @@
-use Rattle.std.proofs.Common.{◌≡◌, ℕ, ◌<◌, ◌≤◌, length, slice_index_or, refl, ap, sym, subst}
+use Rattle.std.proofs.Common.{◌≡◌, ℕ, List, None, ◌<◌, ◌≤◌, length, slice_index_or, refl, ap, sym, subst, arith, ◌∙◌}
+use Rattle.std.proofs.lemmas.List.{take_all}
 use Rattle.std.proofs.lemmas.Option.{slice_get_read}
 use Rattle.lh_types.specs.Raised.{raised}
 use Rattle.lh_elab.specs.Answer.{InstanceIs}
+use Rattle.lh_kernel.specs.Ran.{AllRan}
 use Rattle.lh_kernel.proofs.Running.{in-place, known-at, turn-on, turn-off, turn-sound, tally-more, tally-off, tally-some, on-err}
 use Rattle.lh_kernel.proofs.Places.{as_many, fit_at}
 use Rattle.lh_kernel.proofs.run.run_all.Goals as goal
@@ -91,3 +93,13 @@ loop-instance-preserved g c =
       tally = tally-more (g.T.Tally.count c.args.tally.now) (g.T.Tally.count c.loop-instance.tally) (g.T.Tally.count c.run_instance.new.tally) j
           c.loop-instance.invariant.tally c.run_instance.ensures.tick;
     }
+
+pub returns-clause-ran : goal.returns-clause-ran
+returns-clause-ran g c = λ ps q.
+    subst (λ (ks : List ℕ). AllRan c.args.m.now c.args.now.now c.args.at c.args.design.now.instances.items ps ks c.loop-instance.acts.items None)
+    (take_all c.loop-instance.instance-index c.args.woken.now c.loop-instance-test.false) (c.loop-instance.invariant.ran ps q)
+
+pub returns-clause-tally : goal.returns-clause-tally
+returns-clause-tally g c =
+    let e : c.loop-instance.instance-index ≡ length c.args.woken.now = omega arith in
+    c.loop-instance.invariant.tally ∙ ap (raised (g.T.Tally.count c.args.tally.now)) e

@@ -1,7 +1,8 @@
 use Rattle.std.proofs.Common.{arith, length, ap, List, sym, subst}
 use Rattle.lh_types.specs.declared.part.Range.{Range}
+use Rattle.lh_elab.specs.Probed.{AreProbes}
 use Rattle.lh_states.specs.declared.state.InstState.{InstState}
-use Rattle.lh_kernel.specs.Noted.{SensedWithin}
+use Rattle.lh_kernel.specs.Noted.{SensedWithin, IsNotedFor}
 use Rattle.lh_kernel.proofs.Places.{as_many}
 use Rattle.lh_kernel.proofs.Starting.{sensed_within}
 use Rattle.lh_kernel.proofs.start.begin_all.Goals as goal
@@ -17,3 +18,10 @@ noted_for-requires-clause-within c =
     let P : List InstState → Type 0 = λ xs. SensedWithin (length c.args.d.now.init) xs c.in_ok-probes.probes.items in
     let Q : List (List Range) → Type 0 = λ xs. SensedWithin (length c.args.d.now.init) c.deref.result.now xs in
     subst Q (sym c.deref-2.ensures.value) (subst P (sym c.deref.ensures.value) w)
+
+pub returns-clause-noted : goal.returns-clause-noted
+returns-clause-noted c =
+    let a = c.args.m.now in
+    let is = c.args.d.now.instances.items in
+    subst (λ (ss : List InstState). IsNotedFor a is c.args.d.now.signals.items ss c.in_ok-noted.noted) c.deref.ensures.value
+    (c.in_ok-noted.ensures a (subst (AreProbes a is) (sym c.deref-2.ensures.value) c.in_ok-probes.ensures.probes))

@@ -29,8 +29,8 @@ returns-in-Err-clause-loads g c =
     let fault = subst P (ap (λ (a : Arena). contents a) c.in-Err.ensures.0) c.refused.ensures in
     of_source (λ t. Loads t (Err c.refused.result)) _ _ c.in_ok-bytes.bytes.items bytes.whole (Loads-faulty _ (contents c.in_ok-module.module) c.refused.result few reads fault)
 
-pub returns-clause-loads : goal.returns-clause-loads
-returns-clause-loads g c =
+pub returns-in-Ok-clause-loads : goal.returns-in-Ok-clause-loads
+returns-in-Ok-clause-loads g c =
     let bytes = c.in_ok-bytes.ensures in
     let few : length c.in_ok-bytes.bytes.items ≤ source_limit = omega (arith, bytes.count.0) in
     let text : c.deref.result.now ≡ c.in_ok-bytes.bytes.items = c.deref.ensures.value in

@@ -15,12 +15,12 @@ returns-in_err-write_all-clause-shows g c =
     let p = err_from_is_err_and c.from_residual-in_err-write_all.result c.from_residual-in_err-write_all.ensures.1 in
     let mode = c.mode_of-mode.ensures in
     let e = c.in_ok-ending.ensures in
-    let reports = rw c.new-reports.ensures.items at (c.deref.ensures.value ∙ e.reports) in
+    let reports = rw c.requires.no_reports at (c.deref.ensures.value ∙ e.reports) in
     rw (p.1, p.2) (ShowsRun-unreported c.args.asked.now.vcd _ _ _ _ _ _ _ _ _ (rw mode at e.text) e.members (rw reports at c.in_err-write_all.ensures.failed) c.in_err-write_all.ensures.rose)
 
 pub returns-clause-shows : goal.returns-clause-shows
 returns-clause-shows g c =
     let mode = c.mode_of-mode.ensures in
     let e = c.in_ok-ending.ensures in
-    let reports = rw c.new-reports.ensures.items at (c.deref.ensures.value ∙ e.reports) in
+    let reports = rw c.requires.no_reports at (c.deref.ensures.value ∙ e.reports) in
     ShowsRun-whole c.args.asked.now.vcd _ _ _ _ _ _ _ _ e.ending.0 e.ending.1 (rw mode at e.text) (rw reports at c.in_ok-write_all.ensures.ok) e.members

@@ -23,3 +23,9 @@ returns c =
           and-made ns ms ms os ps c.args.value c.args.at c.args.cond c.in_ok-test.test c.in_ok-both.both c.value_at.ensures.kept (grows-none ms) c.requires.cond
           (test-condition ns ms ps c.args.value c.args.at c.in_ok-test.test c.requires.test c.in_ok-test.ensures.term) c.in_ok-test.ensures.term c.in_ok-both.ensures.made;
     }
+
+pub returns-in_err-test-clause-kept : goal.returns-in_err-test-clause-kept
+returns-in_err-test-clause-kept c = c.value_at.ensures.kept
+
+pub returns-in_err-both-clause-kept : goal.returns-in_err-both-clause-kept
+returns-in_err-both-clause-kept c = grows_on c.args.terms.now c.value_at.new.terms c.and.new.terms c.value_at.ensures.kept c.and.ensures.kept

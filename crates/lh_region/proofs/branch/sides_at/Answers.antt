@@ -48,3 +48,19 @@ returns c =
           c.in_ok-zero.ensures.made);
       one = and-made ns ms ks os ps v at c.args.cond t c.in_ok-one.one to_ks from_ms c.requires.cond d c.in_ok-test.ensures.term c.in_ok-one.ensures.made;
     }
+
+pub returns-in_err-test-clause-kept : goal.returns-in_err-test-clause-kept
+returns-in_err-test-clause-kept c = c.value_at.ensures.kept
+
+pub returns-in_err-opposite-clause-kept : goal.returns-in_err-opposite-clause-kept
+returns-in_err-opposite-clause-kept c = grows_on c.args.terms.now c.value_at.new.terms c.not.new.terms c.value_at.ensures.kept c.not.ensures.kept
+
+pub returns-in_err-zero-clause-kept : goal.returns-in_err-zero-clause-kept
+returns-in_err-zero-clause-kept c =
+    let ns = c.args.terms.now in let ms = c.value_at.new.terms in let ls = c.not.new.terms in
+    grows_on ns ls c.and.new.terms (grows_on ns ms ls c.value_at.ensures.kept c.not.ensures.kept) c.and.ensures.kept
+
+pub returns-in_err-one-clause-kept : goal.returns-in_err-one-clause-kept
+returns-in_err-one-clause-kept c =
+    let ns = c.args.terms.now in let ms = c.value_at.new.terms in let ls = c.not.new.terms in let ks = c.and.new.terms in
+    grows_on ns ks c.and-2.new.terms (grows_on ns ls ks (grows_on ns ms ls c.value_at.ensures.kept c.not.ensures.kept) c.and.ensures.kept) c.and-2.ensures.kept

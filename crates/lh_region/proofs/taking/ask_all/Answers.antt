@@ -2,6 +2,7 @@ use Rattle.std.proofs.Common.{◌+◌, List, [], take, sym, subst}
 use Rattle.lh_term.specs.declared.term.TermId.{TermId}
 use Rattle.std.proofs.lemmas.List.{take_more, take_all}
 use Rattle.lh_region.specs.declared.taking.PlaceValue.{PlaceValue}
+use Rattle.lh_term.proofs.Swaps.{grows_on}
 use Rattle.lh_region.proofs.Gathering.{AskSoFar, ask-none, ask-in, ask-told, ask-next, ask-end}
 use Rattle.lh_region.proofs.taking.ask_all.Goals as goal
 
@@ -32,3 +33,9 @@ returns c = record {
   still = c.loop-ask.invariant.still;
   terms = ask-end _ _ _ _ c.args.asks.now (take c.loop-ask.ask-index c.args.asks.now) _ (take_all c.loop-ask.ask-index c.args.asks.now c.loop-ask-test.false) c.loop-ask.invariant;
 }
+
+pub returns-in_err-value-clause-kept : goal.returns-in_err-value-clause-kept
+returns-in_err-value-clause-kept c = grows_on c.args.terms.now c.loop-ask.terms c.value_at.new.terms c.loop-ask.invariant.grows c.value_at.ensures.kept
+
+pub returns-in_err-push-clause-kept : goal.returns-in_err-push-clause-kept
+returns-in_err-push-clause-kept c = grows_on c.args.terms.now c.loop-ask.terms c.value_at.new.terms c.loop-ask.invariant.grows c.value_at.ensures.kept

@@ -7,6 +7,7 @@ use Rattle.lh_term.specs.declared.term.TermId.{TermId}
 use Rattle.lh_term.proofs.Swaps.{grows_on}
 use Rattle.lh_region.specs.declared.taking.PlaceValue.{PlaceValue}
 use Rattle.lh_region.specs.Taken.{asks_at, CanAskAll, AreTold, StillToldAll}
+use Rattle.lh_joins.proofs.Conditions.{grows-none}
 use Rattle.lh_region.proofs.Gathering.{operands-asked, operands-in, operands-fit, operated-is, operated-still}
 use Rattle.lh_region.proofs.taking.operate.Goals as goal
 
@@ -45,3 +46,12 @@ returns c =
           operated-is ns ms ps c.args.at c.args.op c.args.args.now c.in_ok-operands.operands c.requires.operation m os c.in_ok-made.made
           (subst (λ (ts : List TermId). StandsForTree os c.in_ok-made.made (make_operation c.args.op (trees_at ms ts))) c.as_slice-3.ensures c.in_ok-made.ensures.made);
     }
+
+pub returns-in_err-asks-clause-kept : goal.returns-in_err-asks-clause-kept
+returns-in_err-asks-clause-kept c = grows-none c.args.terms.now
+
+pub returns-in_err-operands-clause-kept : goal.returns-in_err-operands-clause-kept
+returns-in_err-operands-clause-kept c = c.ask_all.ensures.kept
+
+pub returns-in_err-made-clause-kept : goal.returns-in_err-made-clause-kept
+returns-in_err-made-clause-kept c = grows_on c.args.terms.now c.ask_all.new.terms c.op.new.self c.ask_all.ensures.kept c.op.ensures.kept

@@ -6,6 +6,7 @@ use Rattle.lh_places.specs.Asked.{edges_at, IsJoin, CanJoin, IsJoined}
 use Rattle.lh_region.specs.Taken.{phi_asks, NamesEach, CanAskAll, AreTold, StillToldAll}
 use Rattle.lh_places.proofs.Placing.{same-length}
 use Rattle.lh_places.proofs.Telling.{selected-same}
+use Rattle.lh_joins.proofs.Conditions.{grows-none}
 use Rattle.lh_region.proofs.Phiing.{phi-asked, phi-joins, phi-merged, phi-still}
 use Rattle.lh_region.proofs.taking.phi_at.Goals as goal
 
@@ -54,3 +55,12 @@ returns c =
           phi-merged ns ms ps qs c.args.at c.args.operands.now ts c.in_ok-values.ensures.same c.ask_all.ensures.kept s m os c.in_ok-merged.merged
           (subst (λ (us : List TermId). IsJoined ms (edges_at qs c.args.at) us os c.in_ok-merged.merged) c.as_slice-2.ensures c.in_ok-merged.ensures.made);
     }
+
+pub returns-in_err-asks-clause-kept : goal.returns-in_err-asks-clause-kept
+returns-in_err-asks-clause-kept c = grows-none c.args.terms.now
+
+pub returns-in_err-values-clause-kept : goal.returns-in_err-values-clause-kept
+returns-in_err-values-clause-kept c = c.ask_all.ensures.kept
+
+pub returns-in_err-merged-clause-kept : goal.returns-in_err-merged-clause-kept
+returns-in_err-merged-clause-kept c = grows_on c.args.terms.now c.ask_all.new.terms c.merged_at.new.terms c.ask_all.ensures.kept c.merged_at.ensures.kept

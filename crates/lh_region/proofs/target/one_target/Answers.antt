@@ -1,4 +1,5 @@
-use Rattle.std.proofs.Common.{◌≡◌, ◌∙◌, ◌∷◌, ◌-◌, List, true, false, length, take, drop, sym, ap, subst}
+use Rattle.std.proofs.Common.{◌≡◌, ◌∙◌, ◌∷◌, ◌-◌, List, true, false, length, take, drop, refl, sym, ap, subst, arith}
+use Rattle.std.proofs.lemmas.Grind.{common_steps}
 use Rattle.lh_cover.specs.Runs.{IsCover}
 use Rattle.lh_rows.specs.Regions as texts
 use Rattle.lh_region.specs.declared.rows.EndRow.{EndRow}
@@ -24,3 +25,9 @@ returns c =
     let e : ends ≡ f ∷ os = sym c.as_slice.ensures ∙ head-tail f all c.in-len1-up.len_at_least ∙ ap (λ (x : EndRow). x ∷ os) (sym c.first-item.is) in
     let waits = c.in-Some.ensures.target in
     sym (answer-is ends f os n e waits true (sym c.loop-end.invariant ∙ alike-end n (first_way ends) os c.loop-end.end-index c.loop-end-test.false))
+
+pub loop-end-init : goal.loop-end-init
+loop-end-init c = refl
+
+pub loop-end-preserved : goal.loop-end-preserved
+loop-end-preserved c = grind (arith, common_steps)

@@ -5,12 +5,12 @@ use Rattle.lh_shape.proofs.merge.join.Goals as goal
 
 pub choice-requires-clause-fits : goal.choice-requires-clause-fits
 choice-requires-clause-fits c =
-    join-chooses c.args.terms.now c.selector.new.terms c.args.first c.args.second.now c.in_ok-beyond.beyond c.selector.ensures.kept c.requires.first_fits c.requires.second_fits c.requires.alike
+    join-chooses c.args.terms.now c.selector.new.terms c.args.first.now c.args.second.now c.in_ok-beyond.beyond c.selector.ensures.kept c.requires.first_fits c.requires.second_fits c.requires.alike
     c.in_ok-beyond.ensures.made
 
 pub or-requires-clause-a_holds : goal.or-requires-clause-a_holds
 or-requires-clause-a_holds c =
-    condition-grown c.args.terms.now c.choice.new.self c.args.first.cond (grows_on c.args.terms.now c.selector.new.terms c.choice.new.self c.selector.ensures.kept c.choice.ensures.kept)
+    condition-grown c.args.terms.now c.choice.new.self c.args.first.now.cond (grows_on c.args.terms.now c.selector.new.terms c.choice.new.self c.selector.ensures.kept c.choice.ensures.kept)
     c.requires.first_fits.cond
 
 pub or-requires-clause-b_holds : goal.or-requires-clause-b_holds
@@ -20,7 +20,8 @@ or-requires-clause-b_holds c =
 
 pub returns-clause-is : goal.returns-clause-is
 returns-clause-is c =
-    join-is c.args.terms.now c.selector.new.terms c.choice.new.self c.or.new.terms c.args.first c.args.second.now c.in_ok-beyond.beyond c.in_ok-value.value c.in_ok-cond.cond c.selector.ensures.kept
+    join-is c.args.terms.now c.selector.new.terms c.choice.new.self c.or.new.terms c.args.first.now c.args.second.now c.in_ok-beyond.beyond c.in_ok-value.value c.in_ok-cond.cond
+    c.selector.ensures.kept
     c.choice.ensures.kept c.or.ensures.kept
     c.requires.first_fits c.requires.second_fits c.in_ok-beyond.ensures.made c.in_ok-value.ensures.made c.in_ok-cond.ensures.made
 
@@ -28,7 +29,7 @@ pub choice-requires-clause-c_in : goal.choice-requires-clause-c_in
 choice-requires-clause-c_in c = c.in_ok-beyond.ensures.made.is_in
 
 pub choice-requires-clause-f_in : goal.choice-requires-clause-f_in
-choice-requires-clause-f_in c = in_grown c.args.terms.now c.selector.new.terms c.selector.ensures.kept c.args.first.value c.requires.first_fits.value_in
+choice-requires-clause-f_in c = in_grown c.args.terms.now c.selector.new.terms c.selector.ensures.kept c.args.first.now.value c.requires.first_fits.value_in
 
 pub choice-requires-clause-t_in : goal.choice-requires-clause-t_in
 choice-requires-clause-t_in c = in_grown c.args.terms.now c.selector.new.terms c.selector.ensures.kept c.args.second.now.value c.requires.second_fits.value_in

@@ -6,6 +6,7 @@ use Rattle.lh_term.specs.declared.term.TermId.{TermId}
 use Rattle.lh_term.proofs.Swaps.{if_ok_along}
 use Rattle.lh_joins.specs.Joins.{IsConditionAt}
 use Rattle.lh_joins.specs.declared.edge.Edge.{Edge}
+use Rattle.lh_joins.proofs.Conditions.{grows-none}
 use Rattle.lh_shape.proofs.Merged.{beyond-all, one-edge, beyond-conditions}
 use Rattle.lh_shape.proofs.merge.selector.Goals as goal
 
@@ -25,3 +26,12 @@ returns-clause-made c =
     let told : trees_at ns c.in_ok-others.others ≡ beyond-all (tree_at (trees ns) c.args.first) (tree_at (trees ns) c.args.second) =
     c.in_ok-others.ensures.others (edge_of c.args.first ∷ []) c.in_ok-had.ensures ∙ one-edge (tree_at (trees ns) c.args.first) (conjuncts_of (tree_at (trees ns) c.args.second)) in
     if_ok_along c.conjunction.result _ _ _ (ap conjunction (ap (trees_at ns) c.as_slice.ensures ∙ told)) c.conjunction.ensures.made
+
+pub returns-in_err-had-clause-kept : goal.returns-in_err-had-clause-kept
+returns-in_err-had-clause-kept c = grows-none c.args.terms.now
+
+pub returns-in_err-others-clause-kept : goal.returns-in_err-others-clause-kept
+returns-in_err-others-clause-kept c = grows-none c.args.terms.now
+
+pub returns-clause-kept : goal.returns-clause-kept
+returns-clause-kept c = c.conjunction.ensures.kept

@@ -4,6 +4,7 @@ use Rattle.lh_shape.specs.ByIds.{parts_on, drives_at, later_drives}
 use Rattle.lh_shape.specs.Answers.{AreRegisters}
 use Rattle.lh_shape.specs.declared.kinds.Shape.TheVariants as kind
 use Rattle.lh_shape.specs.declared.shape.Registers.{Registers}
+use Rattle.lh_joins.proofs.Conditions.{grows-none}
 use Rattle.lh_shape.proofs.Merged.{drives-fit-grown, drives-at-grown}
 use Rattle.lh_shape.proofs.Edging.{shape-by, conditions-left, conditions-shape}
 use Rattle.lh_shape.proofs.shape.by_conditions.Goals as goal
@@ -43,3 +44,6 @@ returns-in_err-shape-in-Rows-clause-kept c = grows_on c.args.terms.now c.later_r
 
 pub returns-in_ok-shape-in-Rows-clause-kept : goal.returns-in_ok-shape-in-Rows-clause-kept
 returns-in_ok-shape-in-Rows-clause-kept c = grows_on c.args.terms.now c.later_registers.new.terms c.by_target.new.terms c.later_registers.ensures.kept c.by_target.ensures.kept
+
+pub returns-in_err-waited-clause-kept : goal.returns-in_err-waited-clause-kept
+returns-in_err-waited-clause-kept c = grows-none c.args.terms.now

@@ -1,7 +1,5 @@
-use Rattle.std.proofs.Common.{rules, ◌≡◌, sym, ap, ◌∙◌, subst, IfOk, arith}
-use Rattle.lh_types.specs.Types.{TypeTree, tuple_type, row_of}
-use Rattle.lh_types.specs.Values.{data_row}
-use Rattle.lh_types.specs.Faults.{made, tuple_fault}
+use Rattle.std.proofs.Common.{rules, sym, ap, arith}
+use Rattle.lh_types.specs.Types.{tuple_type}
 use Rattle.lh_types.proofs.DatumRows.{part-datum_count}
 use Rattle.lh_term.proofs.Values.{if_ok_eq, all_types, whole_array}
 use Rattle.lh_term.proofs.types.+value_type.Goals as goal

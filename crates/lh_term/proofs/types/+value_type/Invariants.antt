@@ -1,4 +1,4 @@
-use Rattle.std.proofs.Common.{◌≡◌, ◌+◌, ◌*◌, take, map}
+use Rattle.std.proofs.Common.{◌≡◌, take, map}
 use Rattle.lh_types.specs.Values.{datum_count, datum_count_row, data_row}
 use Rattle.lh_types.specs.ValueOf.{datum_of}
 use Rattle.lh_term.specs.Types.{value_type}

@@ -7,6 +7,7 @@ use Rattle.lh_places.specs.Asked.{SamePlaces, IsWithAt}
 use Rattle.lh_region.specs.Gives.{GivesTerm}
 use Rattle.lh_walk.specs.Lines.{IsThat, GivesWhere}
 use Rattle.lh_places.proofs.Placing.{with-same}
+use Rattle.lh_joins.proofs.Conditions.{grows-none}
 use Rattle.lh_walk.proofs.GivingWhere.{gives-that}
 use Rattle.lh_walk.proofs.lines.give_constant.Goals as goal
 
@@ -22,3 +23,12 @@ returns-clause-gives c =
     let st = subst (λ (d : Datum). StandsForTree ms c.in_ok-term.term (constant d)) c.in_ok-value.ensures c.in_ok-term.ensures.made in
     on_ok_weaker {P = GivesTerm ps c.args.at c.args.to c.in_ok-term.term qs} {Q = GivesWhere (IsThat y) ns ps c.args.at c.args.to ms qs} c.give.result
     (gives-that ns ms ps qs c.args.at c.args.to c.in_ok-term.term y c.konst.ensures.kept st) c.give.ensures.gives
+
+pub returns-in_err-value-clause-kept : goal.returns-in_err-value-clause-kept
+returns-in_err-value-clause-kept c = grows-none c.args.terms.now
+
+pub returns-in_err-term-clause-kept : goal.returns-in_err-term-clause-kept
+returns-in_err-term-clause-kept c = c.konst.ensures.kept
+
+pub returns-clause-kept : goal.returns-clause-kept
+returns-clause-kept c = c.konst.ensures.kept

@@ -1,3 +1,7 @@
+use Rattle.lh_places.specs.Asked.{IsWithAt}
+use Rattle.lh_region.specs.Gives.{GivesTerm}
+use Rattle.lh_walk.specs.Merges.{TakesPhi}
+use Rattle.lh_walk.proofs.Answered.{ok-both}
 use Rattle.lh_walk.proofs.Choosing.{phi-merges, phi-within, takes-phi}
 use Rattle.lh_walk.proofs.opening.take_phi.Goals as goal
 
@@ -9,8 +13,11 @@ phi_at-requires-clause-merge c = phi-merges c.args.terms.now c.args.places.now.i
 
 pub returns-clause-taken : goal.returns-clause-taken
 returns-clause-taken c =
-    takes-phi c.args.terms.now c.phi_at.new.terms c.args.places.now.items c.phi_at.new.places.items c.give.new.places.items c.args.at c.args.gives.0 c.args.operands.now c.in_ok-merged.merged
-    c.phi_at.ensures.kept c.in_ok-merged.ensures.same c.in_ok-merged.ensures.still c.in_ok-merged.ensures.made c.in_ok-give.ensures.with_term c.in_ok-give.ensures.gives
+    let ns = c.args.terms.now in let ms = c.phi_at.new.terms in let ps = c.args.places.now.items in let qs = c.phi_at.new.places.items in
+    let rs = c.give.new.places.items in let m = c.in_ok-merged.merged in
+    ok-both c.give.result (IsWithAt qs c.args.at c.args.gives.0 m rs) (GivesTerm qs c.args.at c.args.gives.0 m rs) (TakesPhi ns ps c.args.at c.args.gives.0 c.args.operands.now ms rs)
+    (takes-phi ns ms ps qs rs c.args.at c.args.gives.0 c.args.operands.now m c.phi_at.ensures.kept c.in_ok-merged.ensures.same c.in_ok-merged.ensures.still c.in_ok-merged.ensures.made)
+    c.give.ensures.with_term c.give.ensures.gives
 
 pub returns-in_err-merged-clause-kept : goal.returns-in_err-merged-clause-kept
 returns-in_err-merged-clause-kept c = c.phi_at.ensures.kept

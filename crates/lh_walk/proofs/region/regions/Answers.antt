@@ -2,6 +2,7 @@ use Rattle.std.proofs.Common.{arith, ◌^◌, ◌≡◌, ◌<◌, List, false, l
 use Rattle.std.proofs.lemmas.Option.{same_Some}
 use Rattle.lh_flat.specs.declared.flat.FlatBlock.{FlatBlock}
 use Rattle.lh_region.specs.Heads.{begins_with_phi}
+use Rattle.lh_joins.proofs.Conditions.{grows-none}
 use Rattle.lh_walk.proofs.BothRegions.{block-read, answer-phi}
 use Rattle.lh_walk.proofs.HavingSteps.{has-steps}
 use Rattle.lh_walk.proofs.Forming.{head-within, blocks-there}
@@ -44,3 +45,12 @@ new-requires c =
   where
     few : length c.args.flat.now.args < 2 ^ 32
     few = omega (arith, c.len-2.ensures, c.if-len-2.false)
+
+pub returns-in_err-parts-clause-kept : goal.returns-in_err-parts-clause-kept
+returns-in_err-parts-clause-kept c = grows-none c.args.terms.now
+
+pub returns-clause-kept : goal.returns-clause-kept
+returns-clause-kept c = c.both_regions.ensures.kept
+
+pub returns-then-begins_with_phi-clause-kept : goal.returns-then-begins_with_phi-clause-kept
+returns-then-begins_with_phi-clause-kept c = grows-none c.args.terms.now

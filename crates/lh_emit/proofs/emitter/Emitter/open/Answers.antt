@@ -3,6 +3,7 @@ use Rattle.lh_emit.specs.Making.{AreMade}
 use Rattle.lh_emit.specs.Underway.{tops}
 use Rattle.lh_emit.specs.Values.{value_in}
 use Rattle.lh_emit.specs.declared.tasks.Task.TheVariants.{Need}
+use Rattle.lh_joins.proofs.Conditions.{grows-none}
 use Rattle.lh_emit.proofs.Going.{go-there, go-open, go-no-memory, go-cause, goes-not-open, need-in}
 use Rattle.lh_emit.proofs.emitter.Emitter.open.Goals as goal
 
@@ -37,3 +38,18 @@ pub returns-in_err-push_needs-clause-gone : goal.returns-in_err-push_needs-claus
 returns-in_err-push_needs-clause-gone c =
     go-no-memory c.args.terms.now c.args.origin.now c.args.self.now (Need c.args.t ∷ tops c.args.tasks.now.items) c.made_of.new.terms c.args.self.now (tops c.push_needs.new.tasks.items)
     c.from_residual-in_err-push_needs.result c.from_residual-in_err-push_needs.ensures.1
+
+pub returns-then-is_some-clause-kept : goal.returns-then-is_some-clause-kept
+returns-then-is_some-clause-kept c = grows-none c.args.terms.now
+
+pub returns-in_err-push-clause-kept : goal.returns-in_err-push-clause-kept
+returns-in_err-push-clause-kept c = grows-none c.args.terms.now
+
+pub returns-in_err-of-clause-kept : goal.returns-in_err-of-clause-kept
+returns-in_err-of-clause-kept c = c.made_of.ensures.kept
+
+pub returns-in_err-push_needs-clause-kept : goal.returns-in_err-push_needs-clause-kept
+returns-in_err-push_needs-clause-kept c = c.made_of.ensures.kept
+
+pub returns-clause-kept : goal.returns-clause-kept
+returns-clause-kept c = c.made_of.ensures.kept

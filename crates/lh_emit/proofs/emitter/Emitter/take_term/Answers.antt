@@ -1,6 +1,7 @@
 use Rattle.std.proofs.Common.{◌≡◌, ◌∙◌, [], ◌∷◌, List, length, refl, sym, arith}
 use Rattle.lh_term.proofs.Swaps.{grows_on}
 use Rattle.lh_emit.specs.declared.tasks.Task.{Task}
+use Rattle.lh_joins.proofs.Conditions.{grows-none}
 use Rattle.lh_emit.proofs.Going.{gone-first, can-step, gone-next, less-left, step-cause, nothing-left, takes-term, term-valued, term-cause, term-no-memory}
 use Rattle.lh_emit.proofs.emitter.Emitter.take_term.Goals as goal
 
@@ -55,3 +56,9 @@ returns-clause-taken c =
 pub returns-in_err-tasks-clause-taken : goal.returns-in_err-tasks-clause-taken
 returns-in_err-tasks-clause-taken c =
     term-no-memory c.args.terms.now c.args.origin.now c.args.self.now c.args.term c.args.terms.now c.args.self.now c.from_residual.result c.from_residual.ensures.1
+
+pub returns-in_err-tasks-clause-kept : goal.returns-in_err-tasks-clause-kept
+returns-in_err-tasks-clause-kept c = grows-none c.args.terms.now
+
+pub returns-clause-kept : goal.returns-clause-kept
+returns-clause-kept c = c.loop-task.invariant.grows

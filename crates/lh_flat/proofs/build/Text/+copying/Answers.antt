@@ -1,4 +1,4 @@
-use Rattle.std.proofs.Common.{◌≡◌, ◌+◌, drop, get_or, OnOk, ap, sym, ◌∙◌, subst, arith}
+use Rattle.std.proofs.Common.{◌≡◌, ◌+◌, drop, get_or, OnOk, refl, ap, sym, ◌∙◌, subst, arith}
 use Rattle.std.proofs.lemmas.List.{drop_all, drop_more}
 use Rattle.lh_unit.specs.declared.inst.InstId.{InstId}
 use Rattle.lh_unit.specs.declared.table.Line.{Line}
@@ -6,9 +6,8 @@ use Rattle.lh_flat.specs.declared.build.Text.{Text}
 use Rattle.lh_flat.specs.Graph.{callee_of}
 use Rattle.lh_flat.specs.Building.{line_of, put, taken, line_added, insts_added, blocks_added, call_added}
 use Rattle.lh_flat.proofs.Reading.{placed-at}
-use Rattle.lh_flat.proofs.Building.{call_added-none, call_added-is}
+use Rattle.lh_flat.proofs.Building.{call_added-none, call_added-is, copy_added}
 use Rattle.lh_flat.proofs.build.Text.+copying.Goals as goal
-use Rattle.lh_flat.proofs.build.Text.+copying.Goals.{add_block-in-None+in_ok-inst-in-None+in_ok-take-in-None, add_block-in-Some+in_ok-add_call-in-Some}
 
 pub add_call-returns-then-depth-eq0 : goal.add_call-returns-then-depth-eq0
 add_call-returns-then-depth-eq0 t c =
@@ -17,10 +16,18 @@ add_call-returns-then-depth-eq0 t c =
 
 pub add_call-returns : goal.add_call-returns
 add_call-returns t c =
-    call_added-is c.args.depth c.args.copy.now.view.module.now c.in_ok-called.called.view.module.now c.args.function c.in_ok-called.called.view.unit c.args.copy.now.ids c.in_ok-called.called.ids
-    (line_of c.args.copy.now.view.module.now c.args.copy.now.view.unit.0 c.args.id)
-    c.args.self.now c.enter.new.self c.add_unit.new.self c.merge-2.new.self c.in_ok-merge.merge
-    c.if-depth-eq0.false c.in_ok-called.ensures.of c.in_ok-called.ensures.unit c.in_ok-called.ensures.ids c.in_ok-merge.ensures c.in_ok-enter.ensures c.in_ok-add_unit.ensures c.merge-2.ensures
+    let a = c.args.copy.now.view.module.now in
+    let l = line_of a c.args.copy.now.view.unit.0 c.args.id in
+    let r = c.args.copy.now.ids in
+    let d = c.in_ok-called.called in
+    let whole = call_added-is c.args.depth a d.view.module.now c.args.function d.view.unit r d.ids l c.args.self.now _ _ _ _ c.if-depth-eq0.false c.in_ok-called.ensures.of c.in_ok-called.ensures.unit
+    c.in_ok-called.ensures.ids refl refl refl refl in
+    subst (λ (x : Text). OnOk c.add_copy-added.result (c.add_copy-added.new.self ≡ x)) whole c.add_copy-added.ensures
+
+pub add_copy-returns : goal.add_copy-returns
+add_copy-returns t c =
+    copy_added c.args.depth c.args.called.now.view.unit.0 c.args.called.now.view.module.now c.args.called.now.ids _ _ _ _ _ _ c.merge-2.ensures c.in_ok-merge.ensures c.in_ok-add_unit.ensures
+    c.in_ok-enter.ensures
 
 pub add_unit-add_block-requires : goal.add_unit-add_block-requires
 add_unit-add_block-requires t c = (
@@ -47,13 +54,7 @@ add_block-loop-id-preserved t c =
     let items = c.insts-id-items.result.now in
     let id : InstId = get_or items c.loop-id.id-index (record { 0 = 0 }) in
     let called = call_added c.args.depth a in
-    let l : Line = line_of a u id in
-    let k : c.callee.result ≡ callee_of a l.inst = c.callee.ensures.callee ∙ ap (callee_of a) c.inst.ensures.inst in
-    let step : c.match-callee.self ≡ line_added called r l (callee_of a l.inst) c.loop-id.self = (elim c.match-callee.branch [
-      | add_block-in-None+in_ok-inst-in-None+in_ok-take-in-None w ↦ w.self-is ∙ w.in_ok-take-in-None.ensures ∙ ap (λ x. taken x c.loop-id.self) w.in_ok-inst-in-None.ensures
-          ∙ ap (λ o. line_added called r l o c.loop-id.self) (sym w.in-None.is ∙ k)
-      | add_block-in-Some+in_ok-add_call-in-Some w ↦ w.self-is ∙ w.in_ok-add_call-in-Some.ensures ∙ ap (λ o. line_added called r l o c.loop-id.self) (sym w.in-Some.is ∙ k)
-    ]) in
+    let step : c.add_inst.new.self ≡ line_added called r (line_of a u id) (callee_of a (line_of a u id).inst) c.loop-id.self = c.in_ok-add_inst.ensures in
     ap (insts_added called a u r (drop (c.loop-id.id-index + 1) items)) step
     ∙ sym (ap (λ is. insts_added called a u r is c.loop-id.self) (drop_more items c.loop-id.id-index (record { 0 = 0 }) c.loop-id-test.true)) ∙ c.loop-id.invariant
 
@@ -64,3 +65,20 @@ add_block-returns t c =
     let all = sym (ap (λ is. insts_added (call_added c.args.depth a) a u c.args.copy.now.ids is c.loop-id.self) (drop_all c.loop-id.id-index c.insts-id-items.result.now c.loop-id-test.false))
     ∙ c.loop-id.invariant in
     subst (λ (x : Text). OnOk c.put.result (c.put.new.self ≡ put x)) all c.put.ensures
+
+pub add_inst-returns-in_ok-inst-in-None : goal.add_inst-returns-in_ok-inst-in-None
+add_inst-returns-in_ok-inst-in-None t c =
+    let a = c.args.copy.now.view.module.now in
+    let l : Line = line_of a c.args.copy.now.view.unit.0 c.args.id in
+    let called = call_added c.args.depth a in
+    let k : c.callee.result ≡ callee_of a l.inst = c.callee.ensures.callee ∙ ap (callee_of a) c.inst.ensures.inst in
+    subst (λ (x : Text). OnOk c.take.result (c.take.new.self ≡ x))
+    (ap (λ x. taken x c.args.self.now) c.in_ok-inst-in-None.ensures ∙ ap (λ o. line_added called c.args.copy.now.ids l o c.args.self.now) (sym c.in-None.is ∙ k)) c.take.ensures
+
+pub add_inst-returns-in-Some : goal.add_inst-returns-in-Some
+add_inst-returns-in-Some t c =
+    let a = c.args.copy.now.view.module.now in
+    let l : Line = line_of a c.args.copy.now.view.unit.0 c.args.id in
+    let called = call_added c.args.depth a in
+    let k : c.callee.result ≡ callee_of a l.inst = c.callee.ensures.callee ∙ ap (callee_of a) c.inst.ensures.inst in
+    subst (λ (x : Text). OnOk c.add_call.result (c.add_call.new.self ≡ x)) (ap (λ o. line_added called c.args.copy.now.ids l o c.args.self.now) (sym c.in-Some.is ∙ k)) c.add_call.ensures

@@ -4,13 +4,19 @@ use Rattle.lh_flat.specs.Building.{insts_added, blocks_added, call_added, unit_a
 use Rattle.lh_flat.proofs.build.Text.+copying.Given as goal
 
 abbrev pub decreases-add_block : goal.decreases-add_block
-decreases-add_block l = 3 * l.depth + 1
+decreases-add_block l = 5 * l.depth + 2
 
 abbrev pub decreases-add_call : goal.decreases-add_call
-decreases-add_call l = 3 * l.depth
+decreases-add_call l = 5 * l.depth
+
+abbrev pub decreases-add_inst : goal.decreases-add_inst
+decreases-add_inst l = 5 * l.depth + 1
+
+abbrev pub decreases-add_copy : goal.decreases-add_copy
+decreases-add_copy l = 5 * l.depth + 4
 
 abbrev pub decreases-add_unit : goal.decreases-add_unit
-decreases-add_unit l = 3 * l.depth + 2
+decreases-add_unit l = 5 * l.depth + 3
 
 abbrev pub invariant-add_block-loop-id : goal.invariant-add_block-loop-id
 invariant-add_block-loop-id l =

@@ -1,11 +1,14 @@
-use Rattle.std.proofs.Common.{◌≡◌, ℕ, List, Option, Some, None, refl, ap, ◌∙◌, subst}
+use Rattle.std.proofs.Common.{◌≡◌, ℕ, List, Option, Some, None, false, refl, ap, sym, ◌∙◌, subst}
 use Rattle.lh_kernel.specs.declared.noted.Move.{Move}
 use Rattle.lh_kernel.specs.Ran.{states_after}
-use Rattle.lh_kernel.specs.Moves.{HasLeft}
+use Rattle.lh_queue.specs.Queued.{QueuedWish}
+use Rattle.lh_kernel.specs.Moves.{HasLeft, MovesKnown}
+use Rattle.lh_kernel.specs.Simulation.{simulation_of}
 use Rattle.lh_kernel.specs.declared.machine.SimState.{SimState}
 use Rattle.lh_types.specs.Raised.{raised}
 use Rattle.lh_unit.specs.Frames.{activated_count}
 use Rattle.lh_kernel.specs.Phases.{awake_in, looked_at}
+use Rattle.lh_kernel.proofs.Noting.{on_err}
 use Rattle.lh_kernel.proofs.Tallies.{tally_woken}
 use Rattle.lh_kernel.proofs.Framing.{is_taken, there_ahead, can_taken, kept_same, kept_runaway, back_same, kept_frame, frame_ends, frame_goes_on}
 use Rattle.lh_kernel.proofs.machine.SimState.frame.Goals as goal
@@ -23,6 +26,9 @@ pub returns-in_err-frame-clause-kept : goal.returns-in_err-frame-clause-kept
 returns-in_err-frame-clause-kept g c =
     let h = c.in_err-frame.ensures.err in
     kept_same c.args.self.now c.ahead.new.self c.requires.kept c.ahead.ensures.same h.0 h.1 h.2
+
+pub returns-in_err-frame-clause-err_tally : goal.returns-in_err-frame-clause-err_tally
+returns-in_err-frame-clause-err_tally g c = on_err c.from_residual.result c.in_err-frame.ensures.err_tally
 
 pub returns-in-Some-clause-kept : goal.returns-in-Some-clause-kept
 returns-in-Some-clause-kept g c =
@@ -84,3 +90,15 @@ returns-in-None-clause-tally g c =
     c.take_due.ensures.left c.take_due.ensures.bits c.take_due.ensures.values c.take_due.ensures.holds in
     tally_woken c.args.self.now c.args.at c.take_due.new.now None (g.T.Tally.count c.args.tally.now) (g.T.Tally.count c.ahead.new.tally) c.requires.kept c.requires.next t.bits t.values
     (c.in_ok-frame.ensures.tally ∙ ap (λ (r : Option ℕ). raised (g.T.Tally.count c.args.tally.now) (activated_count r (awake_in (looked_at c.args.self.now c.args.at) c.args.at))) c.in-None.is)
+
+pub returns-in_err-frame-clause-err : goal.returns-in_err-frame-clause-err
+returns-in_err-frame-clause-err g c =
+    on_err c.from_residual.result
+    (ap (λ (m : SimState). simulation_of m false) {y = record c.args.self.now { looked = c.ahead.new.self.looked; queue = c.ahead.new.self.queue; noted = c.ahead.new.self.noted }}
+    c.ahead.ensures.same ∙ ap (λ (h : List QueuedWish). record (simulation_of c.args.self.now false) { held = h }) c.in_err-frame.ensures.err.1)
+
+pub commit-requires-clause-known : goal.commit-requires-clause-known
+commit-requires-clause-known g c =
+    let signals = c.args.self.now.design.signals.items in
+    let ok = c.in_ok-frame.ensures.ok in
+    (signals, ok.noted.long ∙ c.requires.kept.noted.long, subst (MovesKnown signals) (sym c.deref-in-None.ensures.value) ok.plan.known)

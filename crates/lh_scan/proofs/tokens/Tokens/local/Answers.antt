@@ -1,6 +1,5 @@
 use Rattle.std.proofs.Common.{◌≡◌, false, None, rules, ap, ◌∙◌}
-use Rattle.lh_unit.specs.Lexemes.{begins}
-use Rattle.lh_lex.specs.Front.{lexemes_in}
+use Rattle.lh_lex.specs.Front.{lexemes_to_bad, begins_local}
 use Rattle.lh_scan.specs.Pieces.{local_at}
 use Rattle.lh_scan.proofs.Fronts.{other-local}
 use Rattle.lh_scan.proofs.tokens.Tokens.local.Goals as goal
@@ -8,6 +7,6 @@ use Rattle.lh_scan.proofs.tokens.Tokens.local.Goals as goal
 pub returns-in_err-bytes : goal.returns-in_err-bytes
 returns-in_err-bytes c =
     let r : c.from_residual.result ≡ None = search rules in
-    let o : begins 37 c.self.inside.rest.now ≡ false = search rules in
-    let v : lexemes_in c.self.inside.rest.now ≡ c.args.self.now = search rules in
-    r ∙ other-local c.self.inside.rest.now c.self.invariant.1 c.self.invariant.0 o ∙ ap local_at v
+    let o : begins_local c.self.inside.rest.now ≡ false = search rules in
+    let v : lexemes_to_bad c.self.inside.rest.now ≡ c.args.self.now = search rules in
+    r ∙ other-local c.self.inside.rest.now c.self.invariant o ∙ ap local_at v

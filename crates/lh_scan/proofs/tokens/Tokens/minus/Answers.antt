@@ -1,6 +1,6 @@
 use Rattle.std.proofs.Common.{◌≡◌, false, rules, ap, ◌∙◌}
 use Rattle.lh_unit.specs.Lexemes.{begins}
-use Rattle.lh_lex.specs.Front.{lexemes_in}
+use Rattle.lh_lex.specs.Front.{lexemes_to_bad}
 use Rattle.lh_scan.specs.Pieces.{minus_at}
 use Rattle.lh_scan.proofs.Fronts.{other-minus}
 use Rattle.lh_scan.proofs.tokens.Tokens.minus.Goals as goal
@@ -8,5 +8,5 @@ use Rattle.lh_scan.proofs.tokens.Tokens.minus.Goals as goal
 pub returns-then-not-begins_dashed : goal.returns-then-not-begins_dashed
 returns-then-not-begins_dashed c =
     let o : begins 45 c.self.inside.rest.now ≡ false = search rules in
-    let v : lexemes_in c.self.inside.rest.now ≡ c.args.self.now = search rules in
-    other-minus c.self.inside.rest.now c.self.invariant.1 c.self.invariant.0 o ∙ ap minus_at v
+    let v : lexemes_to_bad c.self.inside.rest.now ≡ c.args.self.now = search rules in
+    other-minus c.self.inside.rest.now c.self.invariant o ∙ ap minus_at v

@@ -1,4 +1,4 @@
-use Rattle.lh_term.proofs.Arenas.{keeps_at, grows_at, stands_at}
+use Rattle.lh_term.proofs.Arenas.{keeps_at, stands_at}
 use Rattle.lh_term.proofs.terms.Terms.intern.Goals as goal
 
 pub invariant_of-self-2 : goal.invariant_of-self-2

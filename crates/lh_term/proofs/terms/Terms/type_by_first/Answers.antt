@@ -1,4 +1,4 @@
-use Rattle.std.proofs.Common.{◌≡◌, sym, ap, ◌∙◌}
+use Rattle.std.proofs.Common.{sym, ap, ◌∙◌}
 use Rattle.lh_types.specs.Types.{array_type}
 use Rattle.lh_term.specs.Tree.{tree_row}
 use Rattle.lh_term.specs.Types.{type_by_first, type_of, types_of}

@@ -3,7 +3,7 @@ use Rattle.std.specs.Bool.{if◌then◌else◌}
 use Rattle.std.proofs.lemmas.List.{length_push}
 use Rattle.lh_term.specs.Arena.{tree_at, trees}
 use Rattle.lh_term.proofs.Arenas.{ids_more}
-use Rattle.lh_term.proofs.Walks.{start_at, popped, open_within, pop_seen, pop_joined, pop_one, pop_leaf, not_found, two_more, one_found, fewer, fewer_but_two, walk_ends, unset, marks, marks_none, marks_get, marks_set, set_again, marked_so, was_there, was_not}
+use Rattle.lh_term.proofs.Walks.{start_at, popped, open_within, pop_seen, pop_joined, pop_one, pop_leaf, not_found, two_more, one_found, fewer, fewer_but_two, unset, marks, marks_none, marks_get, marks_set, set_again, marked_so, was_there, was_not}
 use Rattle.lh_term.proofs.terms.Terms.walk.Goals as goal
 
 pub loop-x-init : goal.loop-x-init

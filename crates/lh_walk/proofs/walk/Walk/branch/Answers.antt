@@ -49,3 +49,12 @@ returns-clause-cause c =
     (λ x h. high-not ns ms r w p at v first second c.in_ok-sides.sides.zero c.in_ok-sides.sides.one c.sides_at.ensures.kept c.in_ok-sides.ensures.same c.in_ok-sides.ensures.still refl refl refl refl
     c.in_ok-sides.ensures.zero c.in_ok-sides.ensures.one q c.in_ok-lead_on.ensures.led x h)
     c.lead_on-2.ensures.cause
+
+pub returns-in_err-sides-clause-kept : goal.returns-in_err-sides-clause-kept
+returns-in_err-sides-clause-kept c = c.sides_at.ensures.kept
+
+pub returns-in_err-lead_on-clause-kept : goal.returns-in_err-lead_on-clause-kept
+returns-in_err-lead_on-clause-kept c = c.sides_at.ensures.kept
+
+pub returns-clause-kept : goal.returns-clause-kept
+returns-clause-kept c = c.sides_at.ensures.kept

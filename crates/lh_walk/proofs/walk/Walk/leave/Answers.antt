@@ -57,3 +57,15 @@ returns-in_default c =
       left = else-ends c.args.terms.now c.args.region.now c.args.self.now c.args.at c.args.line.now c.args.self.now c.requires.last d.not-Br d.not-Branch d.not-Wait d.not-Halt;
       cause = tt;
     }
+
+pub returns-in-Br-clause-kept : goal.returns-in-Br-clause-kept
+returns-in-Br-clause-kept c = grows-none c.args.terms.now
+
+pub returns-in-Branch-clause-kept : goal.returns-in-Branch-clause-kept
+returns-in-Branch-clause-kept c = c.branch-self.ensures.kept
+
+pub returns-in-Wait-clause-kept : goal.returns-in-Wait-clause-kept
+returns-in-Wait-clause-kept c = grows-none c.args.terms.now
+
+pub returns-in-Halt-clause-kept : goal.returns-in-Halt-clause-kept
+returns-in-Halt-clause-kept c = grows-none c.args.terms.now

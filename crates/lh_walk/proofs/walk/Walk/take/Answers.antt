@@ -42,3 +42,18 @@ returns-in-Call-clause-taken c =
     (λ same still rows f name before h insts b done rest m i. assert-next c.args.terms.now f name c.args.region.now c.args.self.now c.args.at before h insts b done rest m c.args.line.now i ms q _ _
     c.in-Call.args c.in-Call.is c.requires.can.below c.assert_at.ensures.kept (record { ahead = refl; counted = refl; sources = refl }) same still rows)
     c.assert_at.ensures.same c.assert_at.ensures.still c.assert_at.ensures.rows
+
+pub returns-in-St-clause-kept : goal.returns-in-St-clause-kept
+returns-in-St-clause-kept c = c.give_value.ensures.kept
+
+pub returns-in-Call-clause-kept : goal.returns-in-Call-clause-kept
+returns-in-Call-clause-kept c = c.assert_at.ensures.kept
+
+pub returns-in-Prb-clause-kept : goal.returns-in-Prb-clause-kept
+returns-in-Prb-clause-kept c = c.take_probe.ensures.kept
+
+pub returns-in-Drv-clause-kept : goal.returns-in-Drv-clause-kept
+returns-in-Drv-clause-kept c = c.take_drive.ensures.kept
+
+pub returns-in_default-clause-kept : goal.returns-in_default-clause-kept
+returns-in_default-clause-kept c = c.take_given.ensures.kept

@@ -59,3 +59,15 @@ returns-in-Var-clause-taken c =
     c.give_value.new.terms q c.in-Var.of c.in-Some.result c.in-Var.is c.in-Some.is c.requires.can.below c.give_value.ensures.kept (record { ahead = refl; counted = refl; sources = refl }) refl
     same gives)
     c.give_value.ensures.same c.give_value.ensures.gives
+
+pub returns-in_default-clause-kept : goal.returns-in_default-clause-kept
+returns-in_default-clause-kept c = grows-none c.args.terms.now
+
+pub returns-in-Const-clause-kept : goal.returns-in-Const-clause-kept
+returns-in-Const-clause-kept c = c.give_constant.ensures.kept
+
+pub returns-in-Pure-clause-kept : goal.returns-in-Pure-clause-kept
+returns-in-Pure-clause-kept c = c.take_operation.ensures.kept
+
+pub returns-in-Var-clause-kept : goal.returns-in-Var-clause-kept
+returns-in-Var-clause-kept c = c.give_value.ensures.kept

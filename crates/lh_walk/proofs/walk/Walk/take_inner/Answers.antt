@@ -2,6 +2,7 @@ use Rattle.std.proofs.Common.{◌∙◌, ◌+◌, ◌++◌, ◌∷◌, [], List,
 use Rattle.std.proofs.lemmas.List.{take_more, take_all}
 use Rattle.lh_flat.specs.declared.flat.FlatInst.{FlatInst}
 use Rattle.lh_walk.specs.Merges.{TakesLines}
+use Rattle.lh_term.proofs.Swaps.{grows_on}
 use Rattle.lh_walk.proofs.Treated.{lines-none, lines-next, lines-can, line-inner}
 use Rattle.lh_walk.proofs.walk.Walk.take_inner.Goals as goal
 
@@ -26,3 +27,9 @@ pub returns-clause-taken : goal.returns-clause-taken
 returns-clause-taken c =
     subst (λ (ls : List FlatInst). TakesLines c.args.terms.now c.args.region.now c.args.self.now c.args.at ls c.loop-line.terms c.loop-line.self)
     (take_all c.loop-line.line-index c.args.lines.now c.loop-line-test.false) c.loop-line.invariant.takes
+
+pub returns-in_err-take-clause-kept : goal.returns-in_err-take-clause-kept
+returns-in_err-take-clause-kept c = grows_on c.args.terms.now c.loop-line.terms c.take.new.terms c.loop-line.invariant.grows c.take.ensures.kept
+
+pub returns-clause-kept : goal.returns-clause-kept
+returns-clause-kept c = c.loop-line.invariant.grows

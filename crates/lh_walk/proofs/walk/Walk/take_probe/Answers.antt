@@ -9,6 +9,7 @@ use Rattle.lh_region.specs.Gives.{GivesTerm}
 use Rattle.lh_walk.specs.declared.walk.Walk.{Walk}
 use Rattle.lh_walk.specs.Walked.{TakesLine}
 use Rattle.lh_places.proofs.Placing.{with-same}
+use Rattle.lh_joins.proofs.Conditions.{grows-none}
 use Rattle.lh_walk.proofs.GivingWhere.{gives-that}
 use Rattle.lh_walk.proofs.TakingLines.{probed-part, prb-next, prb-none}
 use Rattle.lh_walk.proofs.Answered.{ok-both}
@@ -44,3 +45,15 @@ returns-in-None-clause-taken c = λ f name before h insts b done rest m i.
     let q : Walk = record { places = c.args.self.now.places; ahead = c.args.self.now.ahead; insts = c.args.self.now.insts; rows = c.probe.new.rows; sources = c.args.self.now.sources } in
     prb-none c.args.terms.now f name c.args.region.now c.args.self.now c.args.at before h insts b done rest m c.args.line.now i c.probe.new.terms q c.in-Prb.signal c.in_ok-part.part c.in-Prb.is
     c.in-None.is c.requires.can.below c.in_ok-part.ensures c.probe.ensures.kept (record { ahead = refl; counted = refl; sources = refl }) refl c.in_ok-term.ensures.rows
+
+pub returns-in_err-part-clause-kept : goal.returns-in_err-part-clause-kept
+returns-in_err-part-clause-kept c = grows-none c.args.terms.now
+
+pub returns-in_err-term-clause-kept : goal.returns-in_err-term-clause-kept
+returns-in_err-term-clause-kept c = c.probe.ensures.kept
+
+pub returns-in-Some-clause-kept : goal.returns-in-Some-clause-kept
+returns-in-Some-clause-kept c = c.probe.ensures.kept
+
+pub returns-in-None-clause-kept : goal.returns-in-None-clause-kept
+returns-in-None-clause-kept c = c.probe.ensures.kept

@@ -1,5 +1,6 @@
 use Rattle.std.proofs.Common.{◌≡◌, ◌∙◌, ◌+◌, ℕ, List, get_or, ap, subst}
 use Rattle.std.proofs.lemmas.Result.{err_from_is_err_and, IfErr-weaker, on_ok_weaker}
+use Rattle.std.proofs.lemmas.Option.{slice_get_within}
 use Rattle.lh_flat.specs.declared.flat.FlatBlock.{FlatBlock}
 use Rattle.lh_walk.specs.Merges.{EndsLines, EndsLinesFor}
 use Rattle.lh_walk.specs.Walked.{Treats, TreatsNot}
@@ -56,3 +57,7 @@ pub returns-in_err-take_merges-clause-cause : goal.returns-in_err-take_merges-cl
 returns-in_err-take_merges-clause-cause c =
     let p = err_from_is_err_and c.from_residual.result c.from_residual.ensures.1 in
     rw (p.1, p.2) (no-memory c.args.terms.now c.args.region.now c.args.self.now c.args.at)
+
+pub bounds-as_slice-at : goal.bounds-as_slice-at
+bounds-as_slice-at c =
+    rw c.as_slice.ensures (slice_get_within c.args.region.now.flat.now.blocks c.args.at.block c.requires.block c.requires.opened.stands.block)

@@ -9,7 +9,7 @@ use Rattle.lh_read.specs.Steps.{step}
 use Rattle.lh_read.specs.Building.{Steps}
 use Rattle.lh_read.specs.InOrder.{state_of}
 use Rattle.lh_read.proofs.Stepping.{empty-taken}
-use Rattle.lh_read.proofs.reader.Reader.take.Goals as goal
+use Rattle.lh_read.proofs.reader.Reader.take_any.Goals as goal
 
 -- what an arm answers
 told : (o : Result (Unit {0}) LineFault) (s t : ReadState) (i j : LineItem) → i ≡ j → Steps o (step s j) t → Steps o (step s i) t

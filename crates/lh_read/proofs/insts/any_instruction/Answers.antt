@@ -5,7 +5,7 @@ use Rattle.lh_unit.specs.declared.inst.UnitId.{UnitId}
 use Rattle.lh_unit.specs.declared.inst.Inst.{Inst}
 use Rattle.lh_phrase.specs.SyntaxOf.{operand_of, trigger_of, edge_of, inst_of}
 use Rattle.lh_read.specs.Placing.{InstPlacedAs}
-use Rattle.lh_read.proofs.insts.instruction.Goals as goal
+use Rattle.lh_read.proofs.insts.any_instruction.Goals as goal
 
 -- what an arm answers
 told : {E : Type 0} (r : Result Inst E) (old new : Arena) (u : UnitId) (x y : InstText) → x ≡ y → IfOk r (λ i. InstPlacedAs old new u i y) → IfOk r (λ i. InstPlacedAs old new u i x)
