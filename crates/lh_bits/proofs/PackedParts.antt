@@ -1,13 +1,14 @@
 -- All the bits after a write of a part, or of one bit.
 use Rattle.std.proofs.Common.{◌≡◌, ℕ, ◌+◌, ◌-◌, ◌<◌, ◌≤◌, Bool, nat_eq, List, ◌∷◌, ◌++◌, length, take, drop, set, refl, ap, sym, ◌∙◌, arith, append_assoc}
 use Rattle.std.proofs.Math.Seq.{set-append_seam}
-use Rattle.std.proofs.Common.{◌*◌, ◌%◌, ◌/◌, ◌^◌, true, false, Vec, Some, subst, replicate}
-use Rattle.std.specs.Vec.{with_items}
+use Rattle.std.proofs.Common.{◌*◌, ◌%◌, ◌/◌, ◌^◌, true, false, Some, subst, replicate}
+use Rattle.smallvec.specs.SmallVec.{SmallVec, small_vec_len, with_items}
+use Rattle.smallvec.proofs.SmallVecLemmas.{items-with_items}
 use mir.Val.{bool_byte}
 use Rattle.std.specs.List.{slice_get}
 use Rattle.std.specs.Int.{bit_at}
 use Rattle.std.proofs.Math.ListN.{drop_of_length-le}
-use Rattle.std.proofs.lemmas.List.{with_items_is, length-replicate, length-append, length-take, length-drop, append-nil}
+use Rattle.std.proofs.lemmas.List.{length-replicate, length-append, length-take, length-drop, append-nil}
 use Rattle.std.proofs.lemmas.Nat.Bits.{bit_at_lowest}
 use Rattle.lh_bits.specs.Flags.{word_bit, flags}
 use Rattle.lh_types.specs.Parts.{bits_within, bits_with}
@@ -63,51 +64,51 @@ pub part_in_words : (n lo len : ℕ) (ws us : List ℕ) (bs : List Bool) → ws 
 part_in_words n lo len ws us bs s p e h = omega (arith, p.sized, length_view n 0 us bs e, ap length s)
 
 -- a write of bits that are there leaves the words packed
-pub packed_kept : {Z : Type 0} (v : Vec ℕ Z) (n k : ℕ) (us ws : List ℕ) (bs : List Bool) → us ≡ v.items → IsPacked n v.items → flags n 0 v.items ≡ bs → k ≤ length bs → length ws ≡ length us
+pub packed_kept : (v : SmallVec ℕ) (n k : ℕ) (us ws : List ℕ) (bs : List Bool) → us ≡ v.items → IsPacked n v.items → flags n 0 v.items ≡ bs → k ≤ length bs → length ws ≡ length us
     → ((i : ℕ) → k ≤ i → word_bit ws i ≡ word_bit us i) → IsPacked n (with_items v ws).items
 packed_kept v n k us ws bs s p e h l after =
-    let w : length ws ≡ v.len = omega (arith, l, ap length s, v.ok.0) in
+    let w : length ws ≡ small_vec_len v = l ∙ ap length s in
     let t : IsPacked n ws = record {
       narrow = p.narrow;
       sized = l ∙ ap length s ∙ p.sized;
       clear = λ i b. after i (omega (arith, length_view n 0 v.items bs e)) ∙ ap (λ xs. word_bit xs i) s ∙ p.clear i b;
     } in
-    subst (λ xs. IsPacked n xs) (sym (with_items_is v ws w)) t
+    subst (λ xs. IsPacked n xs) (sym (items-with_items v ws w)) t
 
 -- all the bits after a run was put
-pub run_put : {Z : Type 0} (v : Vec ℕ Z) (n lo len : ℕ) (us ws : List ℕ) (bs new : List Bool) → us ≡ v.items → flags n 0 v.items ≡ bs → lo + len ≤ length bs → length ws ≡ length us
+pub run_put : (v : SmallVec ℕ) (n lo len : ℕ) (us ws : List ℕ) (bs new : List Bool) → us ≡ v.items → flags n 0 v.items ≡ bs → lo + len ≤ length bs → length ws ≡ length us
     → ((i : ℕ) → i < lo → word_bit ws i ≡ word_bit us i) → flags len lo ws ≡ new → ((i : ℕ) → lo + len ≤ i → word_bit ws i ≡ word_bit us i) → flags n 0 (with_items v ws).items ≡ bits_with lo new bs
 run_put v n lo len us ws bs new s e h l before is after =
-    let w : length ws ≡ v.len = omega (arith, l, ap length s, v.ok.0) in
+    let w : length ws ≡ small_vec_len v = l ∙ ap length s in
     let g : flags n 0 us ≡ bs = ap (λ xs. flags n 0 xs) s ∙ e in
     let a : lo + len ≤ n = omega (arith, length_view n 0 v.items bs e) in
-    ap (λ xs. flags n 0 xs) (with_items_is v ws w)
+    ap (λ xs. flags n 0 xs) (items-with_items v ws w)
     ∙ run_written n lo len ws us new a before is after
     ∙ ap (λ xs. bits_with lo new xs) g
 
 -- all the bits after one was put
-pub bit_put : {Z : Type 0} (v : Vec ℕ Z) (n i x : ℕ) (b : Bool) (us ws : List ℕ) (bs : List Bool) → us ≡ v.items → flags n 0 v.items ≡ bs → i < length bs → length ws ≡ length us → x < 2
+pub bit_put : (v : SmallVec ℕ) (n i x : ℕ) (b : Bool) (us ws : List ℕ) (bs : List Bool) → us ≡ v.items → flags n 0 v.items ≡ bs → i < length bs → length ws ≡ length us → x < 2
     → nat_eq x 1 ≡ b → ((j : ℕ) → j < i → word_bit ws j ≡ word_bit us j) → ((j : ℕ) → j < 1 → word_bit ws (i + j) ≡ bit_at x j) → ((j : ℕ) → i + 1 ≤ j → word_bit ws j ≡ word_bit us j)
     → flags n 0 (with_items v ws).items ≡ set bs i b
 bit_put v n i x b us ws bs s e h l q t before each after =
-    let w : length ws ≡ v.len = omega (arith, l, ap length s, v.ok.0) in
+    let w : length ws ≡ small_vec_len v = l ∙ ap length s in
     let g : flags n 0 us ≡ bs = ap (λ xs. flags n 0 xs) s ∙ e in
     let a : i < n = omega (arith, length_view n 0 v.items bs e) in
     let z : i ≡ i + 0 = omega arith in
     let r : x % 2 ≡ x = omega arith in
     let o : nat_eq (word_bit ws i) 1 ≡ b = ap (λ k. nat_eq k 1) (ap (λ k. word_bit ws k) z ∙ each 0 (omega arith) ∙ bit_at_lowest x ∙ r) ∙ t in
-    ap (λ xs. flags n 0 xs) (with_items_is v ws w)
+    ap (λ xs. flags n 0 xs) (items-with_items v ws w)
     ∙ bit_written n i b ws us a before o after
     ∙ ap (λ xs. set xs i b) g
 
 -- all the bits after some were added at the end
-pub run_pushed : {Z : Type 0} (v : Vec ℕ Z) (n len : ℕ) (us ws old : List ℕ) (bs new : List Bool) → us ≡ v.items → ((i : ℕ) → word_bit v.items i ≡ word_bit old i) → flags n 0 old ≡ bs
+pub run_pushed : (v : SmallVec ℕ) (n len : ℕ) (us ws old : List ℕ) (bs new : List Bool) → us ≡ v.items → ((i : ℕ) → word_bit v.items i ≡ word_bit old i) → flags n 0 old ≡ bs
     → length ws ≡ length us → ((i : ℕ) → i < n → word_bit ws i ≡ word_bit us i) → flags len n ws ≡ new → flags (n + len) 0 (with_items v ws).items ≡ bs ++ new
 run_pushed v n len us ws old bs new s same e l before is =
-    let k : length ws ≡ v.len = omega (arith, l, ap length s, v.ok.0) in
+    let k : length ws ≡ small_vec_len v = l ∙ ap length s in
     let z : 0 + n ≡ n = omega arith in
     let a : flags n 0 ws ≡ bs = flags-same n 0 0 ws old (λ j b. before (0 + j) (omega arith) ∙ ap (λ xs. word_bit xs (0 + j)) s ∙ same (0 + j)) ∙ e in
-    ap (λ xs. flags (n + len) 0 xs) (with_items_is v ws k)
+    ap (λ xs. flags (n + len) 0 xs) (items-with_items v ws k)
     ∙ flags-add n len 0 ws
     ∙ rw (z, a, is) refl
 

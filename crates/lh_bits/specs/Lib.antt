@@ -1,4 +1,5 @@
 pub mod Flags
 pub mod Packed
 pub mod Laws
+pub mod MostlyOne
 pub mod Writes

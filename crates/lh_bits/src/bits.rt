@@ -8,13 +8,14 @@ ghost use Rattle.lh_bits.specs.Packed.{IsPacked};
 use crate::run::{copy_run, differing_run, grow, number_run, put_number_run, same_run};
 use crate::word::{put_window, window};
 use lh_types::ty::NoMemory;
+use smallvec::{SmallVec, smallvec};
 use std::alloc::Global;
 use std::marker::Model;
 
-/// A list of bits, fewer than 2^32 of them.
+/// A list of bits, fewer than 2^32 of them. Up to 128 lie in place, without memory of their own.
 #[derive(Drop)]
 pub struct Bits {
-    words: Vec<u64>,
+    words: SmallVec<u64, 2>,
     len: u32,
 }
 
@@ -35,7 +36,7 @@ impl Bits {
     pub fn zeros(alloc: Global, len: u32) -> Result<Bits, NoMemory>
         ensures { IfOk result (λ b. b ≡ replicate len false) }
     {
-        let words = vec![in alloc; 0; (len as usize).div_ceil(64)]?;
+        let words = smallvec![in alloc; 0; (len as usize).div_ceil(64)]?;
         Ok(Bits { words, len })
     }
 
@@ -43,7 +44,7 @@ impl Bits {
     pub fn copy(&self) -> Result<Bits, NoMemory>
         ensures { IfOk result (λ b. b ≡ self.now) }
     {
-        let words = Vec::from_slice(*self.words.allocator(), self.words.as_slice())?;
+        let words = SmallVec::from_slice(*self.words.allocator(), self.words.as_slice())?;
         Ok(Bits {
             words,
             len: self.len,

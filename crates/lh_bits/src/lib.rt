@@ -5,6 +5,7 @@ pub mod bit_run;
 pub mod bits;
 pub mod laws;
 pub mod layout;
+pub mod mostly_one;
 mod run;
 mod word;
 pub mod writes;

@@ -1,11 +1,13 @@
 //! Runs of bits of machine words, a word at a time.
-ghost use Rattle.std.specs.Prelude.{◌≡◌, ℕ, ◌+◌, ◌*◌, ◌/◌, ◌^◌, ◌<◌, ◌≤◌, ◌-◌, ◌%◌, ◌↔◌, IsTrue, OnOk, OnErr, length, min, vec_len};
+ghost use Rattle.std.specs.Prelude.{◌≡◌, ℕ, ◌+◌, ◌*◌, ◌/◌, ◌^◌, ◌<◌, ◌≤◌, ◌-◌, ◌%◌, ◌↔◌, IsTrue, OnOk, OnErr, length, min};
+ghost use Rattle.smallvec.specs.SmallVec.{small_vec_len};
 ghost use Rattle.std.specs.Int.{bit_at};
 ghost use Rattle.lh_types.specs.Bits.{differing};
 ghost use Rattle.lh_bits.specs.Flags.{word_bit, flags};
 
 use crate::word::{ones_below, put_window, window};
 use lh_types::ty::NoMemory;
+use smallvec::SmallVec;
 
 /// How many of the next `rest` bits from bit `at` on lie in one word.
 fn in_word(at: u32, rest: u32) -> u32
@@ -114,9 +116,9 @@ pub(crate) fn put_number_run(words: &mut [u64], at: u32, width: u32, number: u12
 }
 
 /// Adds words that are 0 up to so many; for want of memory the words stay as they were.
-pub(crate) fn grow(words: &mut Vec<u64>, wanted: usize) -> Result<(), NoMemory>
-    requires { vec_len words.old ≤ wanted }
-    ensures len { OnOk result (vec_len words.new ≡ wanted) }
+pub(crate) fn grow(words: &mut SmallVec<u64, 2>, wanted: usize) -> Result<(), NoMemory>
+    requires { small_vec_len words.old ≤ wanted }
+    ensures len { OnOk result (small_vec_len words.new ≡ wanted) }
     ensures same { OnOk result ((i : ℕ) → word_bit words.new.items i ≡ word_bit words.old.items i) }
     ensures err { OnErr result (words.new.items ≡ words.old.items) }
 {

@@ -4,8 +4,8 @@ ghost use Rattle.lh_bits.specs.Writes.{numbered, bits_of, written, BitsWithin};
 
 use crate::bit_run::BitRun;
 use crate::bits::Bits;
+use crate::mostly_one::MostlyOne;
 use lh_time::Instant;
-use lh_types::list::ListOf;
 use lh_types::ty::NoMemory;
 use std::alloc::Global;
 use std::marker::Model;
@@ -13,7 +13,7 @@ use std::marker::Model;
 /// A list of bits to be written: the number of a bit, and what it becomes. Bits in a row are kept as one run.
 #[derive(Drop)]
 pub struct BitWrites {
-    runs: Vec<BitRun>,
+    runs: MostlyOne<BitRun>,
     len: usize,
 }
 
@@ -23,9 +23,9 @@ impl Model for BitWrites {
 
     ghost Value = { List (ℕ × Bool) };
 
-    ghost view = { λ w. bits_of w.runs.items };
+    ghost view = { λ w. bits_of w.runs };
 
-    ghost invariant = { λ w. AreCounted w.len w.runs.items };
+    ghost invariant = { λ w. AreCounted w.len w.runs };
 }
 
 impl BitWrites {
@@ -34,7 +34,7 @@ impl BitWrites {
         ensures { result ≡ [] }
     {
         BitWrites {
-            runs: Vec::new(alloc),
+            runs: MostlyOne::new(alloc),
             len: 0,
         }
     }
@@ -67,7 +67,7 @@ impl BitWrites {
         ensures err { OnErr result (self.new ≡ self.old) }
     {
         let (bit, value) = write;
-        let bits = one_bit(*self.runs.allocator(), value)?;
+        let bits = one_bit(self.runs.allocator(), value)?;
         self.push_run(bit, bits)
     }
 
@@ -126,4 +126,4 @@ fn write_at(runs: &[BitRun], k: usize) -> (u32, bool)
 }
 
 /// A list of instants with the bits to be written when each is due.
-pub type DueWrites = ListOf<(Instant, BitWrites)>;
+pub type DueWrites = MostlyOne<(Instant, BitWrites)>;

@@ -172,6 +172,10 @@ found_point hi bit i ss xs e f h n p =
 pub there : (ss xs : List Signal) (k : ℕ) (s : Signal) → xs ≡ ss → k < length ss → s ≡ get_or xs k s → slice_get ss k ≡ Some s
 there ss xs k s v l e = ap (λ (ys : List Signal). slice_get ys k) (sym v) ∙ slice_get_read xs (length ss) k s (ap length (sym v)) l e
 
+-- the same of one that was looked up
+pub looked_up : (ss xs : List Signal) (k : ℕ) (s : Signal) → xs ≡ ss → s ≡ get_or xs k s → k < length xs → slice_get ss k ≡ Some s
+looked_up ss xs k s v e l = there ss xs k s v (subst (λ (ys : List Signal). k < length ys) v l) e
+
 pub fits_there : (hi : ℕ) (ss xs : List Signal) (k : ℕ) (s : Signal) → FillFrom 0 ss hi → xs ≡ ss → k < length ss → s ≡ get_or xs k s → IsData s.ty × (s.lo + bit_count s.ty ≤ hi)
 fits_there hi ss xs k s f v l e = at_signal 0 hi ss k s f (there ss xs k s v l e)
 

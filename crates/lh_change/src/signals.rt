@@ -1,5 +1,5 @@
 //! Which signals have which bits.
-ghost use Rattle.std.specs.Prelude.{◌≡◌, ◌+◌, ◌<◌, ◌≤◌, length, IfOk};
+ghost use Rattle.std.specs.Prelude.{◌≡◌, ◌+◌, ◌<◌, ◌≤◌, length, IfOk, IsTrue};
 ghost use Rattle.lh_bits.specs.Writes.{BitsWithin};
 ghost use Rattle.lh_unit.specs.World.{bits_from, bit_numbers};
 ghost use Rattle.lh_design.specs.Filling.{SignalsFill};
@@ -12,6 +12,9 @@ use lh_types::part::Range;
 use lh_types::ty::{NoMemory, bits};
 use std::alloc::Global;
 
+/// So many signals are looked at before all are searched.
+const NEAR: u32 = 4;
+
 /// The number of the signal that has a bit.
 pub fn signal_at(design: &Design, bit: u32) -> u32
     requires fill { SignalsFill design.now }
@@ -22,18 +25,37 @@ pub fn signal_at(design: &Design, bit: u32) -> u32
     (after - 1) as u32
 }
 
-/// The number of the signal that has a bit: the one of this number is looked at first.
+/// The number of the signal that has a bit: a few from this number on are looked at before all are searched.
 fn signal_near(design: &Design, near: u32, bit: u32) -> u32
     requires fill { SignalsFill design.now }
     requires within { bit < length design.now.init }
-    requires signal { near < length design.now.signals.items }
     ensures { HasBit design.now.signals.items result bit }
 {
-    let signal = &design.signals()[near as usize];
-    if signal.lo <= bit && bit - signal.lo < bits(&signal.ty) {
-        return near;
+    for number in near..near.saturating_add(NEAR) {
+        if has_bit(design, number, bit) {
+            return number;
+        }
     }
     signal_at(design, bit)
+}
+
+/// Whether there is a signal of this number that has a bit.
+fn has_bit(design: &Design, number: u32, bit: u32) -> bool
+    requires { SignalsFill design.now }
+    ensures { IsTrue result → HasBit design.now.signals.items number bit }
+{
+    match design.signals().get(number as usize) {
+        Some(signal) => signal.lo <= bit && bit - signal.lo < bits(&signal.ty),
+        None => false,
+    }
+}
+
+/// The last of some numbers, or 0.
+fn last_of(numbers: &[u32]) -> u32 {
+    match numbers.last() {
+        Some(&number) => number,
+        None => 0,
+    }
 }
 
 /// Exactly the signals that have a bit of the parts.
@@ -78,7 +100,8 @@ pub fn touch(touched: &mut Rising, design: &Design, lo: u32, len: u32) -> Result
         return Ok(());
     }
     let end = end_of(design, lo, len);
-    let first = signal_at(design, lo);
+    // Most drives of a frame come in the order of their signals.
+    let first = signal_near(design, last_of(touched.as_slice()), lo);
     let last = signal_near(design, first, end - 1);
     for signal in first..last + 1 {
         touched.enter(signal)?;

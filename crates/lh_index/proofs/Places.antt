@@ -191,11 +191,15 @@ place_behind xs n r some below = λ sorted. (
 pub place_within : (items now sought : List ℕ) (n i : ℕ) → items ≡ now → sought ≡ items → IsRising items → IsBinarySearchResult (λ y. nat_cmp y n) sought (Err i) → i ≤ length items
 place_within items now sought n i v w r s = (found items n (Err i) r (subst (λ z. IsBinarySearchResult (λ y. nat_cmp y n) z (Err i)) w s)).0
 
+-- a number is not there, where the last one is below
+pub none_above : (items now sought : List ℕ) (n : ℕ) → items ≡ now → sought ≡ items → IsRising items → 0 < length sought → get_or sought (length sought - 1) 0 < n → IsOneOf n now → ⊥
+none_above items now sought n v w r some below = found_missing items now sought n (length sought) v w r (place_behind sought n (subst IsRising (sym w) r) some below)
+
 -- the number is put in at the end, where the last one is below
 pub put_last : (items now sought new : List ℕ) (n : ℕ) → items ≡ now → sought ≡ items → IsRising items → 0 < length sought → get_or sought (length sought - 1) 0 < n → new ≡ items ++ n ∷ [] →
     (IsRising new × HasOneMore now n new) × (IsOneOf n now → ⊥)
 put_last items now sought new n v w r some below e =
     let s = place_behind sought n (subst IsRising (sym w) r) some below in (
       found_in items now sought new n (length sought) v w r s (put_behind n (length sought) items new (ap (λ (xs : List ℕ). length xs) w) e),
-      found_missing items now sought n (length sought) v w r s,
+      none_above items now sought n v w r some below,
     )

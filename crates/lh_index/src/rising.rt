@@ -49,6 +49,10 @@ impl Rising {
     pub fn has(&self, n: u32) -> bool
         ensures { (result ≡ true) ↔ IsOneOf n self.now }
     {
+        // Most numbers come in order.
+        if is_above(self.numbers.as_slice(), n) {
+            return false;
+        }
         match self.numbers.binary_search(&n) {
             Ok(_) => true,
             Err(_) => false,
@@ -127,9 +131,14 @@ fn comes_last(numbers: &[u32], room: usize, n: u32) -> bool
     ensures last { IsTrue result → get_or numbers.now (length numbers.now - 1) 0 < n }
     ensures room { IsTrue result → length numbers.now < room }
 {
+    numbers.len() < room && is_above(numbers, n)
+}
+
+/// Whether there is a last number, and a number is greater.
+fn is_above(numbers: &[u32], n: u32) -> bool
+    ensures some { IsTrue result → 0 < length numbers.now }
+    ensures last { IsTrue result → get_or numbers.now (length numbers.now - 1) 0 < n }
+{
     let len = numbers.len();
-    if len == 0 || len >= room {
-        return false;
-    }
-    numbers[len - 1] < n
+    len > 0 && numbers[len - 1] < n
 }

@@ -7,10 +7,14 @@ use Rattle.lh_queue.specs.Queued.{QueuedWish, with_held, wish_cmp, NoneCompetes,
 use Rattle.lh_queue.specs.Holds.{HoldsMore}
 use Rattle.lh_kernel.specs.declared.run.Activation.{Activation}
 
+-- what an instance wished for one instant
+abbrev pub wish_by : (made : Instant) → (instance : ℕ) → Instant × List (ℕ × Bool) → Wish
+wish_by made instance d = record { made = made; instance = instance; due = d.0; bits = d.1 }
+
 -- the wishes that an instance made, by the instants at which they are due
 abbrev pub wishes_by : (made : Instant) → (instance : ℕ) → List (Instant × List (ℕ × Bool)) → List Wish
 wishes_by made instance [] = []
-wishes_by made instance (d ∷ more) = record { made = made; instance = instance; due = d.0; bits = d.1 } ∷ wishes_by made instance more
+wishes_by made instance (d ∷ more) = wish_by made instance d ∷ wishes_by made instance more
 
 -- the wishes that activations made
 abbrev pub wishes_ran : (made : Instant) → List Activation → List Wish

@@ -3,10 +3,12 @@ ghost use Rattle.std.specs.Prelude.{◌≡◌, ◌<◌, ◌≤◌, ◌+◌, leng
 ghost use Rattle.lh_unit.specs.Within.{Each};
 ghost use Rattle.lh_kernel.specs.declared.run.Activation as ran;
 ghost use Rattle.lh_kernel.specs.Ran.{states_after};
-ghost use Rattle.lh_kernel.specs.Puts.{wishes_by, wishes_ran, WerePut, CanBePut};
+ghost use Rattle.lh_queue.specs.Queued.{NoneCompetes, NamesOnce};
+ghost use Rattle.lh_kernel.specs.Puts.{wish_by, wishes_by, wishes_ran, WasPut, WerePut, CanBePut};
 
 use crate::run::Activation;
-use lh_bits::writes::DueWrites;
+use lh_bits::mostly_one::Items;
+use lh_bits::writes::{BitWrites, DueWrites};
 use lh_queue::queue::Queue;
 use lh_queue::wish::Wish;
 use lh_states::state::InstState;
@@ -48,12 +50,38 @@ fn put_wishes(queue: &mut Queue, at: Instant, instance: u32, wishes: DueWrites)
     ensures put { WerePut queue.old.held (wishes_by at instance wishes) queue.new.held }
     ensures spare { queue.old.spare ≤ queue.new.spare + length wishes }
 {
-    for (due, bits) in wishes.into_vec() {
-        queue.put(Wish {
-            made: at,
-            instance,
-            due,
-            bits,
-        });
+    match wishes.into_items() {
+        Items::Empty => {}
+        Items::One([wish]) => put_wish(queue, at, instance, wish),
+        Items::Many(wishes) => put_many(queue, at, instance, wishes),
     }
+}
+
+/// The same of any wishes.
+fn put_many(queue: &mut Queue, at: Instant, instance: u32, wishes: Vec<(Instant, BitWrites)>)
+    requires can { CanBePut queue.old.held (wishes_by at instance wishes.items) }
+    requires room { length wishes.items ≤ queue.old.spare }
+    ensures put { WerePut queue.old.held (wishes_by at instance wishes.items) queue.new.held }
+    ensures spare { queue.old.spare ≤ queue.new.spare + length wishes.items }
+{
+    for wish in wishes {
+        put_wish(queue, at, instance, wish);
+    }
+}
+
+/// Puts what an instance wished at an instant for one at which it is due.
+fn put_wish(queue: &mut Queue, at: Instant, instance: u32, wish: (Instant, BitWrites))
+    requires room { 0 < queue.old.spare }
+    requires apart { NoneCompetes (wish_by at instance wish) queue.old.held }
+    requires once { NamesOnce wish.1 }
+    ensures put { WasPut queue.old.held (wish_by at instance wish) queue.new.held }
+    ensures spare { queue.old.spare ≤ queue.new.spare + 1 }
+{
+    let (due, bits) = wish;
+    queue.put(Wish {
+        made: at,
+        instance,
+        due,
+        bits,
+    });
 }

@@ -147,6 +147,7 @@ impl Queue {
         while self.starts_at(at) {
             let wish = self.take_first();
             wish.set(now);
+            drop(wish);
         }
     }
 

@@ -14,6 +14,7 @@ use crate::places::triggers_of;
 use crate::quiet::quiet;
 use crate::state::{EntState, state_after};
 use lh_bits::bits::Bits;
+use lh_bits::mostly_one::MostlyOne;
 use lh_bits::writes::DueWrites;
 use lh_eval::begin::begin;
 use lh_eval::instance::Instance;
@@ -85,7 +86,7 @@ fn run_entity(
     if let Some(next) = quiet(state, now)? {
         return Ok(EntAct {
             next,
-            wishes: ListOf::new(alloc),
+            wishes: MostlyOne::new(alloc),
         });
     }
     run_each(alloc, m, unit, args, sigs, now, state, at)

@@ -1,5 +1,6 @@
 pub mod ValueWalks
 pub mod WireLemmas
+pub mod Nibbles
 pub mod CodeLemmas
 pub mod FrameLemmas
 pub mod Recording

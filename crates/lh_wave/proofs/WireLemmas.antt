@@ -1,9 +1,9 @@
 -- The bits of a value, written lowest first.
-use Rattle.std.proofs.Common.{◌≡◌, ℕ, ◌+◌, ◌-◌, ◌<◌, ◌≤◌, ◌/◌, ◌%◌, suc, Bool, true, false, List, [], ◌∷◌, ◌++◌, length, get_or, set, take, drop, map, refl, ap, sym, ◌∙◌, append_assoc, cond, arith, eq-eqb, subst}
+use Rattle.std.proofs.Common.{◌≡◌, ℕ, ◌+◌, ◌-◌, ◌<◌, ◌≤◌, ◌/◌, ◌%◌, suc, Bool, true, false, List, [], ◌∷◌, ◌++◌, length, get_or, take, drop, map, refl, ap, sym, ◌∙◌, append_assoc, cond, arith, eq-eqb, subst}
 use Rattle.std.specs.Prelude.{codes, reverse, nat_eq}
-use Rattle.std.proofs.lemmas.List.{append-nil, drop_all, drop-set, length-take, length-map, length-append, reverse-append, map-append}
+use Rattle.std.proofs.lemmas.List.{drop_all, length-map, length-append, reverse-append, map-append}
 use Rattle.std.proofs.lemmas.Bool.Decides.{nat_tests}
-use Rattle.std.proofs.Math.Seq.{take-append_seam, drop-append_seam, take-set-lt}
+use Rattle.std.proofs.Math.Seq.{take-append_seam, drop-append_seam}
 use Rattle.lh_text.specs.Writing.{Written, Writes, Leaves}
 use Rattle.lh_text.proofs.Parts.{all-left, less-left, none-left, two-written}
 use Rattle.lh_types.specs.Values.{Datum, data_row}
@@ -100,48 +100,6 @@ pub number_end : (start to : Written) (w number k n : ℕ) → w ≤ k → Numbe
 number_end start to w number k n h e =
     let none : w - k ≡ 0 = omega arith in
     none-left start to (map bit_byte (number_bits (w - k) n)) (map bit_byte (number_bits w number)) (ap (λ m. map bit_byte (number_bits m n)) none) e
-
-turned_more : (b : Bool) (bits : List Bool) → bits_text (b ∷ bits) ≡ bits_text bits ++ bit_byte b ∷ []
-turned_more b bits = ap (map bit_byte) (reverse-append (b ∷ []) bits) ∙ map-append bit_byte (reverse bits) (b ∷ [])
-
--- the digits of a number, written from the lowest bit on at the places from the highest down
-abbrev pub DigitsAt : (w n : ℕ) → (digits : List ℕ) → (i rest : ℕ) → Type 0
-DigitsAt w n digits i rest = bits_text (number_bits (w - i) rest) ++ drop (w - i) (take w digits) ≡ bits_text (number_bits w n)
-
-digits_more : (w n m left rest : ℕ) (digits : List ℕ) → left ≡ suc m → left ≤ w → w ≤ length digits → bits_text (number_bits left rest) ++ drop left (take w digits) ≡ bits_text (number_bits w n)
-    → bits_text (number_bits m (rest / 2)) ++ drop m (take w (set digits m (bit_byte (nat_eq (rest % 2) 1)))) ≡ bits_text (number_bits w n)
-digits_more w n m left rest digits e l d h =
-    let b = nat_eq (rest % 2) 1 in
-    let bits = number_bits m (rest / 2) in
-    let inside : m < length (take w digits) = omega (arith, length-take w digits) in
-    let next : m + 1 ≡ left = omega arith in
-    ap (λ x. bits_text bits ++ drop m x) (take-set-lt w digits m (bit_byte b) (omega arith))
-    ∙ ap (λ x. bits_text bits ++ x) (drop-set (take w digits) m (bit_byte b) inside)
-    ∙ ap (λ k. bits_text bits ++ bit_byte b ∷ drop k (take w digits)) next
-    ∙ sym (append_assoc (bits_text bits) (bit_byte b ∷ []) (drop left (take w digits)))
-    ∙ ap (λ x. x ++ drop left (take w digits)) (sym (turned_more b bits))
-    ∙ ap (λ k. bits_text (number_bits k rest) ++ drop left (take w digits)) (sym e) ∙ h
-
-pub DigitsAt-next : (w n : ℕ) (digits : List ℕ) (i rest place byte : ℕ) → DigitsAt w n digits i rest → i < w → w ≤ length digits → place ≡ w - 1 - i → byte ≡ bit_byte (nat_eq (rest % 2) 1)
-    → DigitsAt w n (set digits place byte) (i + 1) (rest / 2)
-DigitsAt-next w n digits i rest place byte h l d p b =
-    let left : w - i ≡ suc (w - (i + 1)) = omega arith in
-    let at : place ≡ w - (i + 1) = omega arith in
-    ap (λ k. bits_text (number_bits (w - (i + 1)) (rest / 2)) ++ drop (w - (i + 1)) (take w (set digits k byte))) at
-    ∙ ap (λ x. bits_text (number_bits (w - (i + 1)) (rest / 2)) ++ drop (w - (i + 1)) (take w (set digits (w - (i + 1)) x))) b
-    ∙ digits_more w n (w - (i + 1)) (w - i) rest digits left (omega arith) d h
-
-pub DigitsAt-end : (w n : ℕ) (digits : List ℕ) (i rest : ℕ) → DigitsAt w n digits i rest → w ≤ i → take w digits ≡ bits_text (number_bits w n)
-DigitsAt-end w n digits i rest h past =
-    let none : 0 ≡ w - i = omega arith in
-    ap (λ k. bits_text (number_bits k rest) ++ drop k (take w digits)) none ∙ h
-
-pub DigitsAt-start : (w n : ℕ) (digits : List ℕ) → DigitsAt w n digits 0 n
-DigitsAt-start w n digits =
-    let all : w - 0 ≡ w = omega arith in
-    ap (λ k. bits_text (number_bits k n) ++ drop k (take w digits)) all
-    ∙ ap (λ l. bits_text (number_bits w n) ++ l) (drop_all w (take w digits) (let short : length (take w digits) ≤ w = omega (arith, length-take w digits) in short))
-    ∙ append-nil (bits_text (number_bits w n))
 
 -- a vector of some other number of bits than one
 pub many_marked : (w n : ℕ) → (w ≡ 1 → ⊥) → codes "b" ++ bits_text (number_bits w n) ++ codes " " ≡ marked_bits (number_bits w n)

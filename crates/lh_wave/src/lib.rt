@@ -3,6 +3,7 @@
 
 mod changed;
 pub mod code;
+mod digits;
 pub mod ending;
 pub mod head;
 mod lines;

@@ -1,12 +1,13 @@
 //! Values and times of a waveform.
-ghost use Rattle.std.specs.Prelude.{◌≡◌, ◌≢◌, ◌≤◌, ◌∷◌, [], map, take};
+ghost use Rattle.std.specs.Prelude.{◌≢◌, ◌≤◌, ◌≡◌, ◌∷◌, [], map};
 ghost use Rattle.lh_text.specs.Writing.{Writes};
 ghost use Rattle.lh_types.specs.Values.{data_row};
 ghost use Rattle.lh_types.specs.ValueOf.{datum_of};
 ghost use Rattle.lh_types.specs.Bits.{value_bits, row_bits, number_bits};
-ghost use Rattle.lh_wave.specs.WaveText.{bit_byte, bits_text, marked_bits, value_line, time_line};
+ghost use Rattle.lh_wave.specs.WaveText.{bit_byte, marked_bits, value_line, time_line};
 
 use crate::code::put_code;
+use crate::digits::digits_of;
 use lh_text::Text;
 use lh_types::val::{Val, ValList};
 
@@ -39,22 +40,8 @@ fn put_vector(to: &mut Text, width: u32, number: u128)
 {
     let digits = digits_of(width, number);
     to.put(b"b");
-    to.put(&digits[..width as usize]);
+    to.put(&digits[128 - width as usize..]);
     to.put(b" ");
-}
-
-// The lowest `width` bits of a number, highest first, in front.
-fn digits_of(width: u32, number: u128) -> [u8; 128]
-    requires { width ≤ 128 }
-    ensures { take width result ≡ bits_text (number_bits width number) }
-{
-    let mut digits = [b'0'; 128];
-    let mut rest = number;
-    for i in 0..width as usize {
-        digits[width as usize - 1 - i] = bit_digit(rest % 2 == 1);
-        rest /= 2;
-    }
-    digits
 }
 
 // Puts the bits of a value of parts: first lowest first, and where they are not one, the `b` behind them; then all turned round.

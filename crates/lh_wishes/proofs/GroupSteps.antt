@@ -1,5 +1,5 @@
 -- Runs by instants are in order of their instants, and none of the lists is empty.
-use Rattle.std.proofs.Common.{◌≡◌, ℕ, ◌+◌, ◌<◌, List, [], ◌∷◌, ◌++◌, Bool, true, refl, ap, sym, ◌∙◌, subst, append_assoc}
+use Rattle.std.proofs.Common.{◌≡◌, ℕ, ◌+◌, ◌<◌, List, [], ◌∷◌, ◌++◌, Bool, true, Result, Ok, Err, IfOk, refl, ap, sym, ◌∙◌, subst, append_assoc}
 use Rattle.std.proofs.lemmas.List.{append-nil, map-append}
 use Rattle.std.specs.declared.cmp.Ordering.{Ordering}
 use Rattle.std.specs.declared.cmp.Ordering.TheVariants.{Less, Equal, Greater}
@@ -111,3 +111,7 @@ grouped-of (d ∷ e ∷ more) a s = (
   first-before d.0 e.0 d.1 e.1 (writes_wish more) a.0 (apart-first e more a.2) a.1 s,
   grouped-of (e ∷ more) a.2 (ordered-right (bits_due d.0 d.1) (writes_wish (e ∷ more)) s),
 )
+
+pub grouped-result : {E : Type 0} (r : Result (List (Instant × List (ℕ × Bool))) E) (w : Wish) → IsInOrder w → IfOk r (λ ws. writes_wish ws ≡ w) → IfOk r Apart → IfOk r IsGrouped
+grouped-result (Ok ws) w s e a = grouped-of ws a (subst IsInOrder (sym e) s)
+grouped-result (Err e) w s p a = p

@@ -5,8 +5,6 @@ use Rattle.std.specs.Ordering.{is_lt}
 use Rattle.lh_time.specs.declared.Instant.{Instant}
 use Rattle.lh_types.specs.Wish.{DueBit, Wish, due_bit, due_bit_cmp, IsInOrder}
 use Rattle.lh_wishes.specs.declared.run.WishRun.{WishRun}
-use Rattle.lh_wishes.specs.declared.runs.RunList.{RunList}
-use Rattle.lh_wishes.specs.declared.runs.RunList.TheVariants.{Empty, One, Many}
 use Rattle.lh_wishes.specs.Grouped.{is_filled}
 
 -- bits in a row, from a lowest one on
@@ -22,12 +20,6 @@ run_wish r = row_wish r.due r.lo r.bits
 abbrev pub runs_wish : List WishRun → Wish
 runs_wish [] = []
 runs_wish (r ∷ more) = run_wish r ++ runs_wish more
-
--- the runs of a list, in order
-abbrev pub runs_in : RunList → List WishRun
-runs_in Empty = []
-runs_in (One r) = r ∷ []
-runs_in (Many rs) = rs.items
 
 -- an entry is below a key
 abbrev pub is_below : DueBit → DueBit × Bool → Bool

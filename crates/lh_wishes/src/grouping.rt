@@ -1,37 +1,53 @@
 //! Runs by the instants at which they are due.
 ghost use Rattle.std.specs.Prelude.{◌≡◌, ◌∷◌, ◌++◌, [], true, IfOk, OnOk};
 ghost use Rattle.lh_types.specs.Wish.{writes_wish};
+ghost use Rattle.lh_bits.specs.MostlyOne.{items_in};
 ghost use Rattle.lh_bits.specs.Writes.{numbered};
 ghost use Rattle.lh_wishes.specs.Grouped.{is_filled, Apart};
-ghost use Rattle.lh_wishes.specs.Runs.{run_wish, runs_wish, runs_in};
+ghost use Rattle.lh_wishes.specs.Runs.{run_wish, runs_wish};
 
 use crate::run::WishRun;
-use crate::runs::RunList;
-use lh_bits::writes::BitWrites;
+use lh_bits::mostly_one::{Items, MostlyOne};
+use lh_bits::writes::{BitWrites, DueWrites};
 use lh_time::Instant;
 use lh_types::ty::NoMemory;
 use std::alloc::Global;
 
 /// Runs by their instants.
-pub(crate) fn grouped(alloc: Global, runs: RunList) -> Result<Vec<(Instant, BitWrites)>, NoMemory>
-    ensures wish { IfOk result (λ all. writes_wish all.items ≡ runs_wish (runs_in runs)) }
-    ensures apart { IfOk result (λ all. Apart all.items) }
+pub(crate) fn grouped(alloc: Global, runs: Items<WishRun>) -> Result<DueWrites, NoMemory>
+    ensures wish { IfOk result (λ all. writes_wish all ≡ runs_wish (items_in runs)) }
+    ensures apart { IfOk result (λ all. Apart all) }
 {
     match runs {
-        RunList::Empty => Ok(Vec::new(alloc)),
-        RunList::One(run) => group_of(alloc, run),
-        RunList::Many(runs) => groups_of(alloc, runs),
+        Items::Empty => Ok(MostlyOne::new(alloc)),
+        Items::One([run]) => alone(alloc, run),
+        Items::Many(runs) => {
+            let all = groups_of(alloc, runs)?;
+            Ok(MostlyOne::from_vec(all))
+        }
     }
 }
 
-/// One run by its instant.
-fn group_of(alloc: Global, run: WishRun) -> Result<Vec<(Instant, BitWrites)>, NoMemory>
-    ensures wish { IfOk result (λ all. writes_wish all.items ≡ runs_wish (run ∷ [])) }
-    ensures apart { IfOk result (λ all. Apart all.items) }
+/// One run at its instant, in place; nothing where it is empty.
+fn alone(alloc: Global, run: WishRun) -> Result<DueWrites, NoMemory>
+    ensures wish { IfOk result (λ all. writes_wish all ≡ runs_wish (run ∷ [])) }
+    ensures apart { IfOk result (λ all. Apart all) }
 {
-    let mut all = Vec::with_capacity(alloc, 1)?;
-    add(alloc, &mut all, run)?;
-    Ok(all)
+    if run.bits.len() == 0 {
+        return Ok(MostlyOne::new(alloc));
+    }
+    let due = run.due;
+    let writes = writes_of(alloc, run)?;
+    Ok(MostlyOne::one(alloc, (due, writes)))
+}
+
+/// What a run writes.
+fn writes_of(alloc: Global, run: WishRun) -> Result<BitWrites, NoMemory>
+    ensures { IfOk result (λ writes. writes ≡ numbered run.lo run.bits) }
+{
+    let mut writes = BitWrites::new(alloc);
+    writes.push_run(run.lo, run.bits)?;
+    Ok(writes)
 }
 
 /// Many runs by their instants.
@@ -88,9 +104,9 @@ fn push_new(
 ) -> Result<(), NoMemory>
     ensures { OnOk result (all.new.items ≡ all.old.items ++ (run.due, numbered run.lo run.bits) ∷ []) }
 {
-    let mut writes = BitWrites::new(alloc);
-    writes.push_run(run.lo, run.bits)?;
-    push_due(all, run.due, writes)
+    let due = run.due;
+    let writes = writes_of(alloc, run)?;
+    push_due(all, due, writes)
 }
 
 fn push_due(

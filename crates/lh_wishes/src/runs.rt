@@ -1,41 +1,48 @@
 //! Runs in order of their instants and of their bits, and what a drive makes of them.
 ghost use Rattle.std.specs.Prelude.{◌≡◌, ◌+◌, ◌<◌, ◌≤◌, ◌^◌, [], ◌∷◌, ◌++◌, length, take, drop, true, IsTrue, IfOk, OnOk};
 ghost use Rattle.lh_types.specs.Wish.{with_bits, due_bit};
+ghost use Rattle.lh_bits.specs.MostlyOne.{items_in};
 ghost use Rattle.lh_wishes.specs.Grouped.{is_filled};
-ghost use Rattle.lh_wishes.specs.Runs.{run_wish, runs_wish, runs_in, below, above, AllBelow, AllFrom, EachFilled, AreRuns};
+ghost use Rattle.lh_wishes.specs.Runs.{run_wish, runs_wish, below, above, AllBelow, AllFrom, EachFilled, AreRuns};
 
 use crate::run::WishRun;
+use lh_bits::mostly_one::Items;
 use lh_time::Instant;
 use lh_types::ty::NoMemory;
 use std::alloc::Global;
 
-/// Runs in order. One alone takes no memory for the list.
-#[derive(Drop)]
-pub(crate) enum RunList {
-    Empty,
-    One(WishRun),
-    Many(Vec<WishRun>),
-}
-
 /// The list with one run more; it replaces what the runs have for its bits at its instant.
-pub(crate) fn with_more(alloc: Global, runs: RunList, run: WishRun) -> Result<RunList, NoMemory>
-    requires runs { AreRuns (runs_in runs) }
+pub(crate) fn with_more(
+    alloc: Global,
+    runs: Items<WishRun>,
+    run: WishRun,
+) -> Result<Items<WishRun>, NoMemory>
+    requires runs { AreRuns (items_in runs) }
     requires filled { is_filled run.bits ≡ true }
     requires fits { run.lo + length run.bits < 2 ^ 32 }
-    ensures wish { IfOk result (λ rs. runs_wish (runs_in rs) ≡ with_bits (runs_wish (runs_in runs)) run.due run.lo run.bits) }
-    ensures filled { IfOk result (λ rs. EachFilled (runs_in rs)) }
+    ensures wish { IfOk result (λ rs. runs_wish (items_in rs) ≡ with_bits (runs_wish (items_in runs)) run.due run.lo run.bits) }
+    ensures filled { IfOk result (λ rs. EachFilled (items_in rs)) }
 {
     match runs {
-        RunList::Empty => Ok(RunList::One(run)),
-        RunList::One(first) => {
-            if is_covered(&first, &run) {
-                return Ok(RunList::One(run));
-            }
-            let runs = alone(alloc, first)?;
-            Ok(RunList::Many(with_run(alloc, runs, run)?))
-        }
-        RunList::Many(runs) => Ok(RunList::Many(with_run(alloc, runs, run)?)),
+        Items::Empty => Ok(Items::One([run])),
+        Items::One([first]) => with_second(alloc, first, run),
+        Items::Many(runs) => Ok(Items::Many(with_run(alloc, runs, run)?)),
     }
+}
+
+/// The list of one run with one run more.
+fn with_second(alloc: Global, first: WishRun, run: WishRun) -> Result<Items<WishRun>, NoMemory>
+    requires runs { AreRuns (first ∷ []) }
+    requires filled { is_filled run.bits ≡ true }
+    requires fits { run.lo + length run.bits < 2 ^ 32 }
+    ensures wish { IfOk result (λ rs. runs_wish (items_in rs) ≡ with_bits (runs_wish (first ∷ [])) run.due run.lo run.bits) }
+    ensures filled { IfOk result (λ rs. EachFilled (items_in rs)) }
+{
+    if is_covered(&first, &run) {
+        return Ok(Items::One([run]));
+    }
+    let runs = alone(alloc, first)?;
+    Ok(Items::Many(with_run(alloc, runs, run)?))
 }
 
 /// A run alone, with room for one more.

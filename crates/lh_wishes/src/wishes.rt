@@ -5,11 +5,11 @@ ghost use Rattle.lh_wishes.specs.Grouped.{IsGrouped};
 
 use crate::grouping::grouped;
 use crate::run::WishRun;
-use crate::runs::{RunList, with_more};
+use crate::runs::with_more;
 use lh_bits::bits::Bits;
+use lh_bits::mostly_one::Items;
 use lh_bits::writes::DueWrites;
 use lh_time::Instant;
-use lh_types::list::ListOf;
 use lh_types::ty::NoMemory;
 use std::alloc::Global;
 use std::marker::Model;
@@ -19,7 +19,7 @@ use std::mem;
 #[derive(Drop)]
 pub struct Wishes {
     // In order of the instants, then of the bits; no two of them overlap, and none is empty.
-    runs: RunList,
+    runs: Items<WishRun>,
     alloc: Global,
 }
 
@@ -31,11 +31,12 @@ impl Model for Wishes {
 
     ghost coded = { Prim.hlevel codes };
 
-    ghost use Rattle.lh_wishes.specs.Runs.{runs_wish, runs_in, AreRuns};
+    ghost use Rattle.lh_bits.specs.MostlyOne.{items_in};
+    ghost use Rattle.lh_wishes.specs.Runs.{runs_wish, AreRuns};
 
-    ghost view = { λ w. runs_wish (runs_in w.runs) };
+    ghost view = { λ w. runs_wish (items_in w.runs) };
 
-    ghost invariant = { λ w. AreRuns (runs_in w.runs) };
+    ghost invariant = { λ w. AreRuns (items_in w.runs) };
 }
 
 impl Wishes {
@@ -44,7 +45,7 @@ impl Wishes {
         ensures { result ≡ no_wish }
     {
         Wishes {
-            runs: RunList::Empty,
+            runs: Items::Empty,
             alloc,
         }
     }
@@ -57,7 +58,7 @@ impl Wishes {
         if bits.len() == 0 {
             return Ok(());
         }
-        let runs = mem::replace(&mut self.runs, RunList::Empty);
+        let runs = mem::replace(&mut self.runs, Items::Empty);
         self.runs = with_more(self.alloc, runs, WishRun { due, lo, bits })?;
         Ok(())
     }
@@ -68,7 +69,6 @@ impl Wishes {
         ensures wish { IfOk result (λ w. writes_wish w ≡ self) }
         ensures grouped { IfOk result IsGrouped }
     {
-        let all = grouped(self.alloc, self.runs)?;
-        Ok(ListOf::from_vec(all))
+        grouped(self.alloc, self.runs)
     }
 }

@@ -8,7 +8,7 @@ pub loop-words-preserved : goal.loop-words-preserved
 loop-words-preserved c = record {
   short = omega (arith, c.in-Ok.ensures.len);
   long = omega (arith, c.in-Ok.ensures.len);
-  front = ap (λ ws. take c.len-held.result ws) c.in-Ok.ensures.items ∙ take-append-le c.len-held.result c.loop-words.words.items (0 ∷ []) (omega (arith, c.loop-words.words.ok.0))
+  front = ap (λ ws. take c.len-held.result ws) c.in-Ok.ensures.ok ∙ take-append-le c.len-held.result c.loop-words.words.items (0 ∷ []) (c.loop-words.invariant.long)
       ∙ c.loop-words.invariant.front;
-  same = λ i. ap (λ ws. word_bit ws i) c.in-Ok.ensures.items ∙ word_bit-zero_after c.loop-words.words.items i ∙ c.loop-words.invariant.same i;
+  same = λ i. ap (λ ws. word_bit ws i) c.in-Ok.ensures.ok ∙ word_bit-zero_after c.loop-words.words.items i ∙ c.loop-words.invariant.same i;
 }

@@ -9,11 +9,11 @@ overflow_add-signal-end c =
     omega (arith, n)
 
 pub loop-signal-preserved : goal.loop-signal-preserved
-loop-signal-preserved c = entered_more c.args.touched.now c.loop-signal.touched c.enter.new.self c.signal_at-first.result c.loop-signal.signal c.loop-signal.auto.signal c.loop-signal.invariant
+loop-signal-preserved c = entered_more c.args.touched.now c.loop-signal.touched c.enter.new.self c.signal_near-first.result c.loop-signal.signal c.loop-signal.auto.signal c.loop-signal.invariant
     c.in_ok-enter.ensures.has
 
 pub returns : goal.returns
 returns c =
-    row_entered (length c.args.design.now.init) c.args.design.now.signals.items c.args.lo c.args.len c.end_of-end.result c.signal_at-first.result c.signal_near-last.result c.loop-signal.signal
+    row_entered (length c.args.design.now.init) c.args.design.now.signals.items c.args.lo c.args.len c.end_of-end.result c.signal_near-first.result c.signal_near-last.result c.loop-signal.signal
     c.args.touched.now c.loop-signal.touched
-    c.requires.fill (omega arith) c.end_of-end.ensures c.signal_at-first.ensures c.signal_near-last.ensures c.loop-signal-test.false c.loop-signal.auto.signal-end c.loop-signal.invariant
+    c.requires.fill (omega arith) c.end_of-end.ensures c.signal_near-first.ensures c.signal_near-last.ensures c.loop-signal-test.false c.loop-signal.auto.signal-end c.loop-signal.invariant

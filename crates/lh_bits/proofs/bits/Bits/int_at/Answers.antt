@@ -6,9 +6,9 @@ pub number_run-requires-clause-fits : goal.number_run-requires-clause-fits
 number_run-requires-clause-fits c = part_fits c.self.inside.len c.args.lo c.args.width c.self.inside.words.items c.args.self.now c.self.invariant c.self.view_is c.requires.within
 
 pub number_run-requires-clause-within : goal.number_run-requires-clause-within
-number_run-requires-clause-within c = part_in_words c.self.inside.len c.args.lo c.args.width c.as_slice.result.now c.self.inside.words.items c.args.self.now c.as_slice.ensures.value c.self.invariant
+number_run-requires-clause-within c = part_in_words c.self.inside.len c.args.lo c.args.width c.as_slice.result.now c.self.inside.words.items c.args.self.now c.as_slice.ensures c.self.invariant
     c.self.view_is c.requires.within
 
 pub returns : goal.returns
-returns c = rw (part_run c.self.inside.len c.args.lo c.args.width c.as_slice.result.now c.self.inside.words.items c.args.self.now c.as_slice.ensures.value c.self.view_is c.requires.within)
+returns c = rw (part_run c.self.inside.len c.args.lo c.args.width c.as_slice.result.now c.self.inside.words.items c.args.self.now c.as_slice.ensures c.self.view_is c.requires.within)
     (run_number c.args.width c.args.lo c.number_run.result c.as_slice.result.now c.number_run.ensures.small c.number_run.ensures.each)

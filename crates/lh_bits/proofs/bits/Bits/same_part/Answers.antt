@@ -5,16 +5,16 @@ pub same_run-requires-clause-fits : goal.same_run-requires-clause-fits
 same_run-requires-clause-fits c = part_fits c.self.inside.len c.args.lo c.args.len c.self.inside.words.items c.args.self.now c.self.invariant c.self.view_is c.requires.within
 
 pub same_run-requires-clause-a_within : goal.same_run-requires-clause-a_within
-same_run-requires-clause-a_within c = part_in_words c.self.inside.len c.args.lo c.args.len c.as_slice.result.now c.self.inside.words.items c.args.self.now c.as_slice.ensures.value c.self.invariant
+same_run-requires-clause-a_within c = part_in_words c.self.inside.len c.args.lo c.args.len c.as_slice.result.now c.self.inside.words.items c.args.self.now c.as_slice.ensures c.self.invariant
     c.self.view_is c.requires.within
 
 pub same_run-requires-clause-b_within : goal.same_run-requires-clause-b_within
-same_run-requires-clause-b_within c = part_in_words c.other.inside.len c.args.lo c.args.len c.as_slice-2.result.now c.other.inside.words.items c.args.other.now c.as_slice-2.ensures.value
+same_run-requires-clause-b_within c = part_in_words c.other.inside.len c.args.lo c.args.len c.as_slice-2.result.now c.other.inside.words.items c.args.other.now c.as_slice-2.ensures
     c.other.invariant c.other.view_is c.requires.other_within
 
 pub returns : goal.returns
 returns c = rw (
-  part_run c.self.inside.len c.args.lo c.args.len c.as_slice.result.now c.self.inside.words.items c.args.self.now c.as_slice.ensures.value c.self.view_is c.requires.within,
-  part_run c.other.inside.len c.args.lo c.args.len c.as_slice-2.result.now c.other.inside.words.items c.args.other.now c.as_slice-2.ensures.value c.other.view_is c.requires.other_within,
+  part_run c.self.inside.len c.args.lo c.args.len c.as_slice.result.now c.self.inside.words.items c.args.self.now c.as_slice.ensures c.self.view_is c.requires.within,
+  part_run c.other.inside.len c.args.lo c.args.len c.as_slice-2.result.now c.other.inside.words.items c.args.other.now c.as_slice-2.ensures c.other.view_is c.requires.other_within,
 )
     c.same_run.ensures
