@@ -1,5 +1,5 @@
 //! What a process keeps between its activations.
-ghost use Rattle.std.specs.Prelude.{◌≡◌, IfOk};
+ghost use Rattle.std.specs.Prelude.{◌≡◌, Ok, IfOk};
 ghost use Rattle.std.specs.Option.{option_copied};
 ghost use Rattle.lh_exec.specs.States.{waited_on};
 
@@ -82,7 +82,7 @@ pub struct ProcState {
 impl ProcState {
     /// The state of a process that has not run yet. This takes no memory.
     pub fn start(_alloc: Global, _module: &Module, _unit: UnitId) -> Result<ProcState, NoMemory>
-        ensures { IfOk result (λ s. s.stand ≡ Stand.New) }
+        ensures { result ≡ Ok (record { stand = Stand.New }) }
     {
         Ok(ProcState { stand: Stand::New })
     }

@@ -3,7 +3,6 @@
 ghost use Rattle.std.specs.Prelude.{◌<◌};
 
 use lh_time::Instant;
-use lh_types::ty::NoMemory;
 use std::alloc::Global;
 use std::collections::VecDeque;
 
@@ -33,10 +32,9 @@ impl Hints {
         }
     }
 
-    /// Makes room for the keys of so many more buckets.
-    pub fn make_room(&mut self, n: usize) -> Result<(), NoMemory> {
-        self.keys.reserve(n)?;
-        Ok(())
+    /// Makes room for the keys of so many more buckets, where there is memory: what does not fit is not known.
+    pub fn make_room(&mut self, n: usize) {
+        let _ = self.keys.reserve(n);
     }
 
     /// The key that is known of the bucket of this number, for a wish that is due then.

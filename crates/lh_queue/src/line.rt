@@ -1,5 +1,5 @@
 //! The buckets of a queue in a row, of which the first is taken without moving the others.
-ghost use Rattle.std.specs.Prelude.{◌≡◌, ◌≤◌, ◌<◌, ◌+◌, [], length, drop, OnOk, Some, slice_get, slice_set};
+ghost use Rattle.std.specs.Prelude.{◌≡◌, ◌≤◌, ◌<◌, ◌+◌, [], length, drop, OnOk, OnErr, Some, slice_get, slice_set};
 ghost use Rattle.std.specs.List.{insert};
 
 use crate::queue::Bucket;
@@ -40,9 +40,10 @@ impl Line {
         }
     }
 
-    /// Makes room for so many more buckets.
+    /// Makes room for so many more buckets. It is refused only where there is no room for them already.
     pub fn reserve(&mut self, n: usize) -> Result<(), NoMemory>
         ensures ok { OnOk result (n ≤ self.new.spare) }
+        ensures full { OnErr result (self.old.spare < n) }
         ensures items { self.new.items ≡ self.old.items }
         ensures spare { self.old.spare ≤ self.new.spare }
     {

@@ -1,5 +1,5 @@
 //! A queue of wishes in buckets, a bucket for each physical time, with the wishes themselves in a slab.
-ghost use Rattle.std.specs.Prelude.{◌≡◌, ◌≢◌, ◌≤◌, ◌<◌, ◌+◌, ◌∷◌, ℕ, [], length, IsSome, None, OnOk, slice_get, option_copied};
+ghost use Rattle.std.specs.Prelude.{◌≡◌, ◌≢◌, ◌≤◌, ◌<◌, ◌+◌, ◌∷◌, ℕ, [], length, IsSome, None, OnOk, OnErr, slice_get, option_copied};
 ghost use Rattle.lh_types.specs.History.{values_by};
 ghost use Rattle.lh_queue.specs.Queued.{QueuedWish, with_held, wish_at, due_later, NoneDueBefore, NoneCompetes, NamesOnce, EachWithin, IsLeastDue, AreInOrder, KeysDiffer};
 ghost use Rattle.lh_queue.specs.Holds.{entries, HoldsFor, AreBitsAt, HoldsOn, HoldsMore, IsSoonestDue};
@@ -83,15 +83,18 @@ impl Queue {
 
     /// Makes room, so that `n` more wishes can be put without memory.
     ///
-    /// The answer is `NoMemory` only for want of memory. Whatever it answers, the wishes, their keys and the buckets stay.
+    /// The answer is `NoMemory` only for want of memory, and never where there is room for them already. Whatever it answers, the wishes, their keys
+    /// and the buckets stay.
     pub fn reserve(&mut self, n: usize) -> Result<(), NoMemory>
         ensures ok { OnOk result (n ≤ self.new.spare) }
+        ensures full { OnErr result (self.old.spare < n) }
         ensures held { self.new.held ≡ self.old.held }
         ensures spare { self.old.spare ≤ self.new.spare }
     {
+        let _ = self.links.capacity();
         self.links.reserve(n)?;
         self.buckets.reserve(n)?;
-        self.hints.make_room(n)?;
+        self.hints.make_room(n);
         Ok(())
     }
 

@@ -1,5 +1,5 @@
 //! What an entity keeps between its runs.
-ghost use Rattle.std.specs.Prelude.{◌≡◌, List, Bool, None, Some, IfOk, IfSome, IsTrue};
+ghost use Rattle.std.specs.Prelude.{◌≡◌, List, Bool, None, Some, Ok, IfOk, IfSome, IsTrue};
 ghost use Rattle.std.specs.Option.{option_copied};
 ghost use Rattle.std.specs.Rc.{rc_value};
 ghost use Rattle.lh_react.specs.State.{values_of, state_of};
@@ -49,7 +49,7 @@ impl Model for EntState {
 impl EntState {
     /// The state of an entity that has not run yet. This takes no memory.
     pub fn start(_alloc: Global, _module: &Module, _unit: UnitId) -> Result<EntState, NoMemory>
-        ensures { IfOk result (λ s. s ≡ record { memory = None; triggers = None }) }
+        ensures { result ≡ Ok (record { memory = None; triggers = None }) }
     {
         Ok(EntState { stage: Stage::New })
     }

@@ -1,6 +1,7 @@
-use Rattle.std.proofs.Common.{ap, refl}
-use Rattle.slab.specs.Slab.{Slab}
+use Rattle.std.proofs.Common.{◌≡◌, ◌≤◌, ◌<◌, ◌+◌, ◌-◌, min, ap, refl, sym, arith, rules}
+use Rattle.slab.specs.Slab.{Slab, slab_len}
 use Rattle.lh_queue.specs.declared.queue.Linked.{Linked}
+use Rattle.lh_queue.specs.Queued.{Waiting}
 use Rattle.lh_queue.proofs.Storage.{stored, stored_same, seen}
 use Rattle.lh_queue.proofs.queue.Queue.reserve.Goals as goal
 
@@ -45,17 +46,10 @@ returns-clause-held c =
     (stored_same c.self.inside.links c.reserve.new.self c.self.inside.buckets.items _ c.args.self.now.held s (ap (λ (x : Slab Linked). x.slots) c.reserve.ensures.rest_kept)
     c.reserve-2.ensures.items)
 
-pub invariant_of-self-in_err-make_room : goal.invariant_of-self-in_err-make_room
-invariant_of-self-in_err-make_room c =
-    let s = stored c.self.inside.links c.self.inside.buckets.items _ c.args.self.now c.self.invariant c.self.view_is in (
-      c.args.self.now.held,
-      stored_same c.self.inside.links c.reserve.new.self c.self.inside.buckets.items _ c.args.self.now.held s (ap (λ (x : Slab Linked). x.slots) c.reserve.ensures.rest_kept)
-          c.reserve-2.ensures.items,
-    )
-
-pub returns-in_err-make_room-clause-held : goal.returns-in_err-make_room-clause-held
-returns-in_err-make_room-clause-held c =
-    let s = stored c.self.inside.links c.self.inside.buckets.items _ c.args.self.now c.self.invariant c.self.view_is in
-    seen c.reserve.new.self _ c.args.self.now.held
-    (stored_same c.self.inside.links c.reserve.new.self c.self.inside.buckets.items _ c.args.self.now.held s (ap (λ (x : Slab Linked). x.slots) c.reserve.ensures.rest_kept)
-    c.reserve-2.ensures.items)
+pub returns-in_err-reserve-clause-full : goal.returns-in_err-reserve-clause-full
+returns-in_err-reserve-clause-full c =
+    let e : c.args.self.now.spare ≡ min (c.self.inside.links.capacity - slab_len c.self.inside.links) c.self.inside.buckets.spare =
+    sym (ap (λ (w : Waiting). w.spare) c.self.view_is) in
+    let n : slab_len c.self.inside.links + c.args.n ≤ c.self.inside.links.capacity → ⊥ = λ h. search (rules, c.in_err-reserve.ensures.succeeds h) in
+    let full : c.args.self.now.spare < c.args.n = omega (arith, e, n, c.capacity.ensures.holds_all) in
+    search (rules, full)
