@@ -6,12 +6,13 @@ use Rattle.std.proofs.lemmas.List.{map-append, take-append-drop}
 use Rattle.std.proofs.Math.Bool.{or-true}
 use Rattle.lh_types.specs.Types.{TypeTree}
 use Rattle.lh_types.proofs.Tests.{some_once}
-use Rattle.lh_unit.specs.Contents.{ArgText, UnitText, ItemText, unit_text, new_unit, last_unit, change_last, with_arg, with_result, defines_value}
+use Rattle.lh_unit.specs.Contents.{ArgText, UnitText, ItemText, unit_text, new_unit, last_unit, change_last, with_arg, with_result, defines_unit, defines_value}
 use Rattle.lh_unit.specs.Spells.{TypedName}
-use Rattle.lh_unit.specs.Arena.{Arena, Grows, OfOpen, IsOpen, contents, unit_count}
-use Rattle.lh_unit.specs.Builders.{HasContents, AddsArg, SetsResult}
+use Rattle.lh_unit.specs.Arena.{Arena, Grows, OfOpen, IsOpen, contents, unit_count, unit_name_at, unit_text_at}
+use Rattle.lh_unit.specs.Builders.{HasContents, FindsUnit, BeginsUnit, AddsArg, SetsResult}
 use Rattle.lh_unit.specs.Reads.{headed_unit, args_repeat}
 use Rattle.lh_unit.specs.declared.inst.UnitId.{UnitId}
+use Rattle.lh_unit.specs.declared.inst.ValueId.{ValueId}
 use Rattle.lh_names.specs.declared.name.UnitName.{UnitName}
 use Rattle.lh_unit.specs.declared.inst.UnitKind.{UnitKind}
 use Rattle.lh_unit.specs.declared.inst.UnitKind.TheVariants as kind
@@ -20,7 +21,10 @@ use Rattle.lh_unit.specs.declared.inst.UnitFault.TheVariants as fault
 use Rattle.lh_read.specs.declared.faults.LineFault.{LineFault}
 use Rattle.lh_read.specs.declared.faults.LineFault.TheVariants as line
 use Rattle.lh_read.specs.FaultOf.{fault_of}
+use Rattle.lh_read.specs.Mentions.{one_value, EachNamed, EntersOnly}
+use Rattle.lh_read.specs.Placing.{ValuePlaced}
 use Rattle.lh_read.specs.Building.{arg_of, UnitBegunOrFault, AddsArgs, Heads, with_args, args_again}
+use Rattle.lh_read.proofs.NamedEntries.{named-changed, named-still, named-begun, with_arg-extends, with_result-extends, with_arg-names}
 use Rattle.lh_read.proofs.LastUnit.{last_unit-is, last_unit-has, change_last-twice, change_last-none, with_args-none, with_args-push, with_args-both, args_again-push, args_again-both, args_again-repeat}
 use Rattle.lh_unit.proofs.ContentsLemmas.{last_unit-push, change_last-push, new_unit-blocks, new_unit-args}
 use Rattle.lh_unit.proofs.ModuleLaws.{last_unit-change_last}
@@ -118,6 +122,7 @@ adds-both (Ok _) old mid new u xs ys a b =
       b.1 ∙ ap (change_last (with_args ys)) a.1 ∙ change_last-twice (with_args xs) (with_args ys) (with_args (xs ++ ys)) (contents old) t.0 t.1 (with_args-both xs ys t.0),
       b.2,
       b.3,
+      λ e. b.4 (a.4 e),
     )
 adds-both (Err line.DuplicateName) old mid new u xs ys a b =
     let t = last_unit-is (last_unit (contents old)) a.0 in
@@ -143,6 +148,23 @@ pub adds-begun : (old new : Arena) (u : UnitId) (xs : List ArgText) → AddsArgs
 adds-begun old new u xs a =
     let t = last_unit-is (last_unit (contents old)) a.0 in
     last_unit-has (λ _. ⊤) (last_unit (contents new)) (with_args xs t.0) (ap last_unit a.1 ∙ last_unit-change_last (with_args xs) (contents old) t.0 t.1) tt
+
+-- one more argument names what was entered for it
+pub arg-named : (now mid new : Arena) (u : UnitId) (v : ValueId) (n : List ℕ) (g : ArgText) → g.name ≡ n → EachNamed now → ValuePlaced now mid u v n → IsOpen mid u
+    → HasContents mid new u (change_last (with_arg g) (contents mid)) → EachNamed new
+arg-named now mid new u v n g e named q o s =
+    named-changed now mid new u (one_value g.name) (with_arg g) (with_arg-extends g) named q.grows (subst (λ x. EntersOnly (one_value x) now mid u.0) (sym e) q.only) o s
+    (λ m h. with_arg-names g (unit_text_at mid u.0) m h)
+
+-- a unit whose entry was found or made is begun
+pub unit-begun : (old now new : Arena) (u : UnitId) (n : UnitName) (k : UnitKind) → FindsUnit (Ok u) old now n → BeginsUnit (Ok tt) now new u k → UnitBegunOrFault (Ok u) old new n k
+unit-begun old now new u n k f h = (
+  ap (defines_unit n) (sym f.0.grows.says) ∙ ap (λ x. defines_unit x (contents now)) (sym f.2) ∙ h.0,
+  h.1.says ∙ ap (λ items. items ++ unit_text (new_unit (unit_name_at now u.0) k) ∷ []) f.0.grows.says ∙ ap (λ x. contents old ++ unit_text (new_unit x k) ∷ []) f.2,
+  h.1.is_open,
+  omega (arith, f.1, h.1.entries.units),
+  named-begun old now new u n k f h.1,
+)
 
 -- the unit that was just begun
 begun_unit : (items : List ItemText) (x t : UnitText) → last_unit (items ++ unit_text x ∷ []) ≡ Some t → t ≡ x
@@ -182,6 +204,7 @@ heads-ok u old mid new n k args b a = (
   args_said u old mid new n k args b a ∙ ap (λ t. contents old ++ unit_text t ∷ []) (headed n k args),
   a.2,
   a.3,
+  λ e. a.4 (b.4 e),
 )
 
 -- a function has its result from then on
@@ -200,6 +223,7 @@ heads-function u old mid now new n args ty b a s = (
   s.says ∙ ap (change_last (with_result ty)) (args_said u old mid now n kind.Func args b a) ∙ change_last-push (with_result ty) (contents old) (with_args args (new_unit n kind.Func)),
   s.is_open,
   omega (arith, a.3, s.entries.units),
+  λ e. named-still now new u (with_result ty) (with_result-extends ty) a.2 s (a.4 (b.4 e)),
 )
 
 pub heads-err : (e : LineFault) (u : UnitId) (old mid new after : Arena) (n : UnitName) (k : UnitKind) (args : List ArgText) (r : Option TypeTree) → UnitBegunOrFault (Ok u) old mid n k

@@ -7,6 +7,8 @@ pub mod Computed
 mod Rows
 pub mod Progress
 pub mod PlaceLaws
+pub mod Entering
+pub mod NamedEntries
 pub mod Lists
 pub mod Args
 pub mod Headers

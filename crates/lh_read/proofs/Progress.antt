@@ -1,5 +1,6 @@
 -- How far a text is read.
-use Rattle.std.proofs.Common.{Some, None, ◌≡◌, ℕ, ◌+◌, ◌<◌, ◌≤◌, List, [], ◌∷◌, length, Result, Ok, Err, IfOk, IfErr, true, false, refl, sym, subst, inl, inr, arith}
+use Rattle.std.proofs.Common.{Some, None, ◌≡◌, ◌==◌, ℕ, ◌+◌, ◌<◌, ◌≤◌, List, [], ◌∷◌, length, Result, Ok, Err, IfOk, IfErr, true, false, refl, sym, subst, inl, inr, arith}
+use Rattle.lh_types.specs.Same.{nat_eq-is}
 use Rattle.lh_unit.specs.Contents.{ItemText}
 use Rattle.lh_unit.specs.Lexemes.{Lexeme}
 use Rattle.lh_unit.specs.Lines.{lines_of}
@@ -76,6 +77,10 @@ At-fault text rest first more number r line.Syntax s a l b = stopped text rest f
 At-fault text rest first more number r line.UnitTooLarge s a l b = stopped text rest first more number r unit_too_large a l b
 At-fault text rest first more number r line.DuplicateName s a l b = stopped text rest first more number r duplicate_name a l b
 At-fault text rest first more number r line.OutOfMemory s a l b = tt
+
+pub nothing_left : (rest : List ℕ) → true ≡ (length rest == 0) → rest ≡ []
+nothing_left [] e = refl
+nothing_left (b ∷ rest) e = let n : length (b ∷ rest) ≡ 0 = nat_eq-is (length (b ∷ rest)) 0 (sym e) in absurd (omega (arith, n))
 
 pub At-end : (text rest : List ℕ) (number : ℕ) (r : Reader) → At text rest number r → rest ≡ [] → is_inside r.place ≡ false → Reads text (contents r.module)
 At-end text rest number r a e o =

@@ -9,6 +9,7 @@ use Rattle.lh_names.specs.declared.name.UnitName.{UnitName}
 use Rattle.lh_unit.specs.declared.inst.UnitId.{UnitId}
 use Rattle.lh_unit.specs.declared.inst.UnitKind.{UnitKind}
 use Rattle.lh_read.specs.declared.faults.LineFault.{LineFault}
+use Rattle.lh_read.specs.Mentions.{EachNamed}
 use Rattle.lh_read.specs.declared.faults.LineFault.TheVariants as fault
 
 -- an argument on this side
@@ -18,6 +19,7 @@ arg_of output a = record { name = a.name; ty = a.ty; output = output }
 -- a unit is begun, or its name is defined
 abbrev pub UnitBegunOrFault : Result UnitId LineFault → Arena → Arena → UnitName → UnitKind → Type 0
 UnitBegunOrFault (Ok u) old new n k = (defines_unit n (contents old) ≡ false) × (contents new ≡ contents old ++ unit_text (new_unit n k) ∷ []) × IsOpen new u × (u.0 < unit_count new)
+    × (EachNamed old → EachNamed new)
 UnitBegunOrFault (Err fault.DuplicateName) old new n k = defines_unit n (contents old) ≡ true
 UnitBegunOrFault (Err fault.OutOfMemory) old new n k = Unit {0}
 UnitBegunOrFault (Err _) old new n k = ⊥
@@ -33,6 +35,7 @@ args_again t (a ∷ more) = defines_value a.name t || args_again (with_arg a t) 
 -- the open unit u has these arguments more, or one of them is defined again
 abbrev pub AddsArgs : Result (Unit {0}) LineFault → Arena → Arena → UnitId → List ArgText → Type 0
 AddsArgs (Ok _) old new u args = OfOpen old (λ t. args_again t args ≡ false) × (contents new ≡ change_last (with_args args) (contents old)) × IsOpen new u × (u.0 < unit_count new)
+    × (EachNamed old → EachNamed new)
 AddsArgs (Err fault.DuplicateName) old new u args = OfOpen old (λ t. args_again t args ≡ true)
 AddsArgs (Err fault.OutOfMemory) old new u args = Unit {0}
 AddsArgs (Err _) old new u args = ⊥
@@ -40,7 +43,7 @@ AddsArgs (Err _) old new u args = ⊥
 -- a unit is begun as its header says it, or its name or that of an argument is defined again
 abbrev pub Heads : Result UnitId LineFault → Arena → Arena → UnitName → UnitKind → List ArgText → Option TypeTree → Type 0
 Heads (Ok u) old new n k args r = (defines_unit n (contents old) ≡ false) × (args_repeat [] args ≡ false) × (contents new ≡ contents old ++ unit_text (headed_unit k n args r) ∷ []) × IsOpen new u
-    × (u.0 < unit_count new)
+    × (u.0 < unit_count new) × (EachNamed old → EachNamed new)
 Heads (Err fault.DuplicateName) old new n k args r = (defines_unit n (contents old) ≡ true) ⊎ (args_repeat [] args ≡ true)
 Heads (Err fault.OutOfMemory) old new n k args r = Unit {0}
 Heads (Err _) old new n k args r = ⊥

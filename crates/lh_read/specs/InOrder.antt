@@ -11,6 +11,7 @@ use Rattle.lh_read.specs.declared.places.LinePlace.{LinePlace}
 use Rattle.lh_read.specs.declared.places.LinePlace.TheVariants.{Outside, InEntity, BeforeLabels, InEmptyBlock, InBlock}
 use Rattle.lh_read.specs.declared.reader.Reader.{Reader}
 use Rattle.lh_read.specs.Places.{is_inside}
+use Rattle.lh_read.specs.Mentions.{EachNamed}
 
 -- what a module says, and whether a unit is open there
 abbrev pub state_at : Arena → LinePlace → ReadState
@@ -47,6 +48,7 @@ InPlace a (BeforeLabels u) = InUnit a u before_labels
 InPlace a (InEmptyBlock u) = InUnit a u in_empty_block
 InPlace a (InBlock u) = InUnit a u in_block
 
--- the reader is in order
-abbrev pub IsInOrder : Reader → Type 0
-IsInOrder r = InPlace r.module r.place
+-- the reader is in order: its place is that of its module, in which each entry is named by some line
+pub record IsInOrder (r : Reader) : Type 0 where
+  pub place : InPlace r.module r.place
+  pub named : EachNamed r.module

@@ -7,6 +7,7 @@ ghost use Rattle.std.specs.Prelude.{◌≡◌, ◌≤◌, ℕ, List, length, IfO
 ghost use Rattle.lh_unit.specs.Contents.{ItemText};
 ghost use Rattle.lh_unit.specs.Arena.{contents};
 ghost use Rattle.lh_unit.specs.Reads.{Reads};
+ghost use Rattle.lh_read.specs.Mentions.{EachNamed};
 ghost use Rattle.lh_read.specs.Reading.{ModuleOrNoMemory, Names, ModuleOrFault, ReadsOrIsBad, text_fault};
 
 mod faults;
@@ -67,6 +68,8 @@ pub fn read(alloc: Global, text: &[u8]) -> Result<Module, TextFault>
     ensures only { (items : List ItemText) → Reads text.now items → ModuleOrNoMemory result items }
     // A fault names the first faulty line.
     ensures fault { IfErr result (λ e. Names e text.now) }
+    // The module has no entry but those that some line names.
+    ensures named { IfOk result EachNamed }
 {
     read_exact(alloc, text)
 }
@@ -74,7 +77,8 @@ pub fn read(alloc: Global, text: &[u8]) -> Result<Module, TextFault>
 /// Reads the text of a file, or names its first faulty line.
 fn read_exact(alloc: Global, text: &[u8]) -> Result<Module, TextFault>
     requires { length text.now ≤ 67108864 }
-    ensures { ModuleOrFault result text.now }
+    ensures reads { ModuleOrFault result text.now }
+    ensures named { IfOk result EachNamed }
 {
     let mut reader = Reader::new(alloc);
     let mut rest = text;

@@ -1,8 +1,9 @@
 -- What the calls on one unit do to the module.
-use Rattle.std.proofs.Common.{◌≡◌, ℕ, ◌+◌, ◌<◌, ◌≤◌, Bool, true, false, List, [], ◌∷◌, ◌++◌, length, map, get_or, if◌then◌else◌, Option, None, Result, Ok, Err, refl, ap, sym, ◌∙◌, subst, arith, length-append, length-set}
+use Rattle.std.proofs.Common.{◌≡◌, ℕ, ◌+◌, ◌<◌, ◌≤◌, Bool, true, false, List, [], ◌∷◌, ◌++◌, length, map, get_or, slice_get, if◌then◌else◌, Option, Some, None, Result, Ok, Err, inl, inr, refl, ap, sym, ◌∙◌, subst, arith, length-append, length-set}
 use Rattle.std.proofs.lemmas.List.{get_or_append_left, set-get_or}
 use Rattle.std.proofs.lemmas.Option.{get_or_from_slice_get}
 use Rattle.lh_types.specs.Types.{TypeTree}
+use Rattle.lh_types.proofs.Lists.{push_cases}
 use Rattle.lh_types.specs.declared.ty.NoMemory.{NoMemory}
 use Rattle.lh_unit.specs.Contents as text
 use Rattle.lh_unit.specs.Contents.{UnitText, change_last, defines_value, defines_label, line_count}
@@ -11,8 +12,8 @@ use Rattle.lh_unit.specs.TableCalls.{with_value, with_label, with_arg, with_resu
 use Rattle.lh_names.specs.Distinct.{has_name}
 use Rattle.lh_unit.specs.Within.{sizes_of}
 use Rattle.lh_unit.specs.Naming.{Naming, naming_of, line_text, arg_text, label_text, block_text, kind_text, table_text}
-use Rattle.lh_unit.specs.Arena.{Arena, IsArena, IsOpen, OfOpen, KeepsEntries, HasAtMost, HasFewMore, none_more, one_more_in, contents, item_text_at, unit_text_at, naming, table_at, kind_at, unit_count, unit_name_at, value_name_at, label_name_at}
-use Rattle.lh_unit.specs.Builders.{FindsEntry, FindsValue, FindsLabel, HasContents, AddsArg, SetsResult, AddsBlock, AddsLine, HasRoom, HasTwice, line_text_at}
+use Rattle.lh_unit.specs.Arena.{Arena, IsArena, IsOpen, OfOpen, KeepsEntries, HasAtMost, HasFewMore, none_more, one_more_in, contents, item_text_at, unit_text_at, naming, table_at, kind_at, unit_count, value_count, label_count, unit_name_at, value_name_at, label_name_at}
+use Rattle.lh_unit.specs.Builders.{NoneElse, FindsEntry, FindsValue, FindsLabel, HasContents, AddsArg, SetsResult, AddsBlock, AddsLine, HasRoom, HasTwice, line_text_at}
 use Rattle.lh_unit.specs.declared.inst.UnitId.{UnitId}
 use Rattle.lh_unit.specs.declared.inst.ValueId.{ValueId}
 use Rattle.lh_unit.specs.declared.inst.BlockId.{BlockId}
@@ -21,6 +22,8 @@ use Rattle.lh_unit.specs.declared.inst.UnitFault.{UnitFault}
 use Rattle.lh_unit.specs.declared.inst.UnitFault.TheVariants as fault
 use Rattle.lh_unit.specs.declared.inst.Inst.{Inst}
 use Rattle.lh_unit.specs.declared.inst.Arg.{Arg}
+use Rattle.lh_names.proofs.Lists.{before, at, past, trichotomy}
+use Rattle.lh_names.proofs.NameLists.{absent}
 use Rattle.lh_unit.proofs.Lists.{Same, same, other, same_or, nat_eq-refl, map-ext}
 use Rattle.lh_unit.proofs.Tables.{insts_at-more}
 use Rattle.lh_unit.proofs.Arenas.{with_table, table_at-same, table_at-other, open-within, LinesPlaced}
@@ -216,6 +219,37 @@ FindsEntry-with_table a u t h g m e = record {
   few = HasAtMost-by 1 a (with_table a u t) (omega (arith, length-set a.units u t)) (each_table (AtMost 1) (AtMost-refl 1) a u t h m);
 }
 
+-- one more key, which was none of those before: each other one was there
+pub none_else-pushed : {K : Type 0} (ks : List K) (n : K) (k : ℕ) → ((i : ℕ) → slice_get ks i ≡ Some n → ⊥) → slice_get (ks ++ n ∷ []) k ≡ Some n
+    → NoneElse (length ks) (length (ks ++ n ∷ [])) k
+none_else-pushed ks n k fresh s i h =
+    let last : k ≡ length ks = elim (push_cases ks n n k s) [ inl q ↦ absurd (fresh k q) | inr q ↦ q.0 ] in
+    let b : i < length ks + 1 = omega (arith, h, length-append ks (n ∷ [])) in
+    elim (trichotomy (length ks) i) [ before q ↦ inl (omega (arith, b, q)) | at q ↦ inr (omega (arith, q, last)) | past q ↦ inl (omega (arith, b, q)) ]
+
+-- a name that was entered if it was not there
+none_else : (ks new : List (List ℕ)) (n : List ℕ) (k : ℕ) → new ≡ (if has_name ks n then ks else ks ++ n ∷ []) → slice_get new k ≡ Some n → NoneElse (length ks) (length new) k
+none_else ks new n k e s = by (has_name ks n) refl
+  where
+    by : (b : Bool) → has_name ks n ≡ b → NoneElse (length ks) (length new) k
+    by true p = let l : length new ≡ length ks = ap length (e ∙ rw p refl) in λ i h. inl (omega (arith, h, l))
+    by false p = let f : new ≡ ks ++ n ∷ [] = e ∙ rw p refl in
+        subst (λ l. NoneElse (length ks) (length l) k) (sym f) (none_else-pushed ks n k (absent ks n p) (sym (ap (λ l. slice_get l k) f) ∙ s))
+
+value-names : (t : Table) (n : List ℕ) → (with_value t n).values ≡ (if has_name t.values n then t.values else t.values ++ n ∷ [])
+value-names t n = by (has_name t.values n)
+  where
+    by : (b : Bool) → (if b then t else record t { values = t.values ++ n ∷ [] }).values ≡ (if b then t.values else t.values ++ n ∷ [])
+    by true = refl
+    by false = refl
+
+label-names : (t : Table) (n : List ℕ) → (with_label t n).labels ≡ (if has_name t.labels n then t.labels else t.labels ++ n ∷ [])
+label-names t n = by (has_name t.labels n)
+  where
+    by : (b : Bool) → (if b then t else record t { labels = t.labels ++ n ∷ []; bodies = t.bodies ++ None ∷ [] }).labels ≡ (if b then t.labels else t.labels ++ n ∷ [])
+    by true = refl
+    by false = refl
+
 -- a name that is looked up in the unit u
 pub FindsValue-with_table : (r : Result ValueId NoMemory) (a : Arena) (u : UnitId) (t : Table) (n : List ℕ) → IsArena a → u.0 < unit_count a → FindsValueIn r (table_at a u.0) t n
     → FindsValue r a (with_table a u.0 t) u n
@@ -227,6 +261,8 @@ FindsValue-with_table (Ok v) a u t n o h f =
       ap (λ (s : Table). get_or s.values v.0 []) (table_at-same a u.0 t h) ∙ get_or_from_slice_get t.values v.0 n [] f.named,
       few-written a u.0 t (one_more_in u.0) none_more h (omega (arith, l.at_most.values, one-here u.0))
           (omega (arith, ap (λ (s : Table). length s.labels) f.table, ap (λ (x : List (List ℕ)). length x) (value-labels (table_at a u.0) n))),
+      subst (λ (s : Table). NoneElse (value_count a u.0) (length s.values) v.0) (sym (table_at-same a u.0 t h))
+          (none_else (table_at a u.0).values t.values n v.0 (ap (λ (s : Table). s.values) f.table ∙ value-names (table_at a u.0) n) f.named),
     )
 FindsValue-with_table (Err e) a u t n o h f = with_table-old a u.0 t f
 
@@ -240,6 +276,8 @@ FindsLabel-with_table (Ok v) a u t n o h f =
       ap (λ (s : Table). get_or s.labels v.0 []) (table_at-same a u.0 t h) ∙ get_or_from_slice_get t.labels v.0 n [] f.named,
       few-written a u.0 t none_more (one_more_in u.0) h (omega (arith, ap (λ (s : Table). length s.values) f.table, ap (λ (x : List (List ℕ)). length x) (label-values (table_at a u.0) n)))
           (omega (arith, l.at_most.labels, one-here u.0)),
+      subst (λ (s : Table). NoneElse (label_count a u.0) (length s.labels) v.0) (sym (table_at-same a u.0 t h))
+          (none_else (table_at a u.0).labels t.labels n v.0 (ap (λ (s : Table). s.labels) f.table ∙ label-names (table_at a u.0) n) f.named),
     )
 FindsLabel-with_table (Err e) a u t n o h f = with_table-old a u.0 t f
 

@@ -1,5 +1,5 @@
 -- Units that are looked up and begun, and declarations.
-use Rattle.std.proofs.Common.{◌≡◌, ◌≢◌, ℕ, ◌+◌, ◌≤◌, ◌<◌, zero, suc, Bool, true, false, ◌||◌, List, [], ◌∷◌, ◌++◌, length, map, get_or, set, Option, Some, None, IsSome, is_some, Result, Ok, Err, OnOk, OnErr, unwrap_or, slice_get, position, refl, ap, sym, ◌∙◌, subst, arith, length-append, length-set}
+use Rattle.std.proofs.Common.{◌≡◌, ◌≢◌, ℕ, ◌+◌, ◌≤◌, ◌<◌, zero, suc, Bool, true, false, ◌||◌, List, [], ◌∷◌, ◌++◌, length, map, get_or, set, Option, Some, None, IsSome, is_some, Result, Ok, Err, OnOk, OnErr, unwrap_or, slice_get, position, inl, inr, refl, ap, sym, ◌∙◌, subst, arith, length-append, length-set}
 use Rattle.std.specs.List.{list_any}
 use Rattle.std.specs.Result.{IsErr, is_err}
 use Rattle.std.proofs.lemmas.List.{map-append, get_or-set_same, get_or_append_left, get_or_read}
@@ -23,12 +23,12 @@ use Rattle.lh_unit.specs.declared.inst.Declare.{Declare}
 use Rattle.lh_unit.specs.declared.inst.Item.{Item}
 use Rattle.lh_unit.specs.declared.inst.Item.TheVariants as item
 use Rattle.lh_unit.proofs.Lists.{map-same, not_true, or_true}
-use Rattle.lh_names.proofs.Lists.{key_found}
+use Rattle.lh_names.proofs.Lists.{key_found, other_keys}
 use Rattle.lh_unit.proofs.Tables.{missing, IsTable-begun}
 use Rattle.lh_unit.proofs.Arenas.{with_table, with_unit, table_at-unit, same_unit_name-is, same_unit_name-refl, none_some, IsArena-declared, IsArena-begun, LinesPlaced-more}
 use Rattle.lh_unit.proofs.Texts.{table_text-same}
 use Rattle.lh_unit.proofs.ContentsLemmas.{text_with, item_text-other, unit_text-table, unit_text-table_same}
-use Rattle.lh_unit.proofs.BuilderLemmas.{Grown, Grown-refl, Grown-same, AtMost, AtMost-refl, AtMost-same, KeepsEntries-by, HasAtMost-by, HasAtMost-same, each_table, few-written, with_table-old}
+use Rattle.lh_unit.proofs.BuilderLemmas.{Grown, Grown-refl, Grown-same, AtMost, AtMost-refl, AtMost-same, KeepsEntries-by, HasAtMost-by, HasAtMost-same, each_table, few-written, none_else-pushed, with_table-old}
 
 -- the arena with a unit that is begun, whose table is then t
 abbrev pub with_begun : Arena → UnitId → Table → Arena
@@ -181,6 +181,7 @@ found-unit a n i o p = let f = key_found same_unit_name same_unit_name-is same_u
   omega (arith, f.0, o.long),
   get_or_from_slice_get a.names i n no_unit_name f.1,
   record { more_units = omega arith; more_values = λ u. omega arith; more_labels = λ u. omega arith },
+  λ k h. inl h,
 )
 
 few-unit : (a : Arena) (n : UnitName) → HasFewMore 1 none_more none_more a (with_unit a n)
@@ -198,13 +199,20 @@ added-unit a b n m e f g h p =
     λ i. record { names = k i; units = g i; items = h i }
 
 pub added-FindsUnit : (a b : Arena) (n m : UnitName) (i : ℕ) → m ≡ n → b ≡ with_unit a n → IsArena a → i < length b.names → (k : UnitName) × (slice_get b.names i ≡ Some k)
-    × (same_unit_name m k ≡ true) → FindsUnit (Ok (record { 0 = i })) a b n
-added-FindsUnit a b n m i e f o w s = (
+    × (same_unit_name m k ≡ true) → false ≡ list_any (same_unit_name n) a.names → FindsUnit (Ok (record { 0 = i })) a b n
+added-FindsUnit a b n m i e f o w s p = (
   subst (FindsEntry a) (sym f) (FindsEntry-with_unit a n o),
   omega (arith, w, ap (λ z. length z.names) f, ap (λ z. length z.units) f, o.long, length-append a.names (n ∷ []), length-append a.units (no_table ∷ [])),
-  get_or_from_slice_get b.names i n no_unit_name (s.1 ∙ ap Some (sym (same_unit_name-is m s.0 s.2) ∙ e)),
+  get_or_from_slice_get b.names i n no_unit_name stands,
   subst (HasFewMore 1 none_more none_more a) (sym f) (few-unit a n),
+  λ k h. elim (none_else-pushed a.names n i (λ j q. other_keys same_unit_name same_unit_name-is same_unit_name-refl a.names n j p q)
+      (sym (ap (λ (z : Arena). slice_get z.names i) f) ∙ stands) k
+      (omega (arith, h, ap (λ z. length z.units) f, o.long, length-append a.names (n ∷ []), length-append a.units (no_table ∷ []))))
+      [ inl q ↦ inl (omega (arith, q, o.long)) | inr q ↦ inr q ],
 )
+  where
+    stands : slice_get b.names i ≡ Some n
+    stands = s.1 ∙ ap Some (sym (same_unit_name-is m s.0 s.2) ∙ e)
 
 -- one more declaration
 pub AddsDeclare-by : (r : Result (Unit {0}) NoMemory) (a : Arena) (d : Declare) (items : List Item) → OnOk r (items ≡ a.items ++ item.Declare d ∷ []) → OnErr r (items ≡ a.items)

@@ -1,5 +1,5 @@
 -- What each call that builds a module answers, and what it does to the contents.
-use Rattle.std.specs.Prelude.{◌≡◌, ℕ, ◌+◌, ◌<◌, Bool, true, false, List, [], ◌∷◌, ◌++◌, Option, Some, None, Result, Ok, Err}
+use Rattle.std.specs.Prelude.{◌≡◌, ◌⊎◌, ℕ, ◌+◌, ◌<◌, Bool, true, false, List, [], ◌∷◌, ◌++◌, Option, Some, None, Result, Ok, Err}
 use Rattle.lh_types.specs.Types.{TypeTree}
 use Rattle.lh_types.specs.declared.ty.NoMemory.{NoMemory}
 use Rattle.lh_unit.specs.Contents.{ItemText, UnitText, LineText, ArgText, unit_text, declare_text, new_unit, change_last, with_arg, with_result, with_block, with_line, line_count, defines_unit, defines_value, defines_label}
@@ -22,19 +22,26 @@ pub record FindsEntry (old new : Arena) : Type 0 where
   pub grows : Grows old new
   pub few : (n : ℕ) → HasAtMost n old → HasAtMost (n + 1) new
 
+-- of so many entries as there are now, each is one of those before or this one
+abbrev pub NoneElse : (before now this : ℕ) → Type 0
+NoneElse before now this = (k : ℕ) → k < now → (k < before) ⊎ (k ≡ this)
+
 -- the entry of a unit of this name
 abbrev pub FindsUnit : Result UnitId NoMemory → Arena → Arena → UnitName → Type 0
 FindsUnit (Ok u) old new n = FindsEntry old new × (u.0 < unit_count new) × (unit_name_at new u.0 ≡ n) × HasFewMore 1 none_more none_more old new
+    × NoneElse (unit_count old) (unit_count new) u.0
 FindsUnit (Err _) old new n = new ≡ old
 
 -- the entry of a value of this name in the unit u
 abbrev pub FindsValue : Result ValueId NoMemory → Arena → Arena → UnitId → List ℕ → Type 0
 FindsValue (Ok v) old new u n = FindsEntry old new × (v.0 < value_count new u.0) × (value_name_at new u.0 v.0 ≡ n) × HasFewMore 0 (one_more_in u.0) none_more old new
+    × NoneElse (value_count old u.0) (value_count new u.0) v.0
 FindsValue (Err _) old new u n = new ≡ old
 
 -- the entry of a label of this name in the unit u
 abbrev pub FindsLabel : Result BlockId NoMemory → Arena → Arena → UnitId → List ℕ → Type 0
 FindsLabel (Ok b) old new u n = FindsEntry old new × (b.0 < label_count new u.0) × (label_name_at new u.0 b.0 ≡ n) × HasFewMore 0 none_more (one_more_in u.0) old new
+    × NoneElse (label_count old u.0) (label_count new u.0) b.0
 FindsLabel (Err _) old new u n = new ≡ old
 
 -- the contents of new are these, u is open there, and every entry of old has its name; there are no more entries

@@ -4,11 +4,11 @@ use Rattle.lh_unit.specs.Naming.{arg_text}
 use Rattle.lh_unit.specs.Arena.{naming}
 use Rattle.lh_read.specs.Building.{arg_of}
 use Rattle.lh_read.specs.FaultOf.{fault_of}
-use Rattle.lh_read.proofs.Args.{At, At-start, At-grown, At-next, args-refused, adds-err, done_next, done_rest}
+use Rattle.lh_read.proofs.Args.{At, At-start, At-grown, At-next, arg-named, args-refused, adds-err, done_next, done_rest}
 use Rattle.lh_read.proofs.units.add_args.Goals as goal
 
 pub loop-param-init : goal.loop-param-init
-loop-param-init c = At-start c.args.m.now c.args.unit c.requires.within c.requires.opened c.requires.begun
+loop-param-init c = (At-start c.args.m.now c.args.unit c.requires.within c.requires.opened c.requires.begun, λ e. e)
 
 pub returns-in_err-add_arg : goal.returns-in_err-add_arg
 returns-in_err-add_arg c =
@@ -21,7 +21,7 @@ returns-in_err-add_arg c =
     ∙ ap (λ xs. xs ++ map f (drop (i + 1) ps)) (done_next c.args.output ps i p c.loop-param-test.true c.param-item.is) in
     adds-err c.from_residual-in_err-add_arg.result (fault_of e) c.args.m.now c.add_arg.new.self c.args.unit (map f ps) c.from_residual-in_err-add_arg.ensures.1
     (args-refused c.args.m.now mid c.add_arg.new.self c.args.unit (map f (take i ps)) (f p) _ (map f ps) (map f (drop (i + 1) ps)) e
-    (At-grown c.args.m.now c.loop-param.m mid c.args.unit _ c.loop-param.invariant c.in_ok-value.ensures.grows) same all c.in_err-add_arg.ensures)
+    (At-grown c.args.m.now c.loop-param.m mid c.args.unit _ c.loop-param.invariant.0 c.in_ok-value.ensures.grows) same all c.in_err-add_arg.ensures)
 
 pub loop-param-preserved : goal.loop-param-preserved
 loop-param-preserved c =
@@ -31,6 +31,9 @@ loop-param-preserved c =
     let given : ArgText = arg_text (naming mid c.args.unit.0) (record { value = c.in_ok-value.value; ty = c.in_ok-ty.ty; output = c.args.output }) in
     let same : given ≡ f p = λ j. record { name = name j; ty = ty j; output = c.args.output } in
     let done : map f (take i ps) ++ given ∷ [] ≡ map f (take (i + 1) ps) = ap (λ a. map f (take i ps) ++ a ∷ []) same ∙ sym (done_next c.args.output ps i p c.loop-param-test.true c.param-item.is) in
-    subst (At c.args.m.now c.add_arg.new.self c.args.unit) done
-    (At-next c.args.m.now mid c.add_arg.new.self c.args.unit (map f (take i ps)) given
-    (At-grown c.args.m.now c.loop-param.m mid c.args.unit _ c.loop-param.invariant c.in_ok-value.ensures.grows) c.in_ok-add_arg.ensures.0 c.in_ok-add_arg.ensures.1)
+    let now = At-grown c.args.m.now c.loop-param.m mid c.args.unit _ c.loop-param.invariant.0 c.in_ok-value.ensures.grows in (
+      subst (At c.args.m.now c.add_arg.new.self c.args.unit) done
+          (At-next c.args.m.now mid c.add_arg.new.self c.args.unit (map f (take i ps)) given now c.in_ok-add_arg.ensures.0 c.in_ok-add_arg.ensures.1),
+      λ e. arg-named c.loop-param.m mid c.add_arg.new.self c.args.unit c.in_ok-value.value _ given c.in_ok-value.ensures.says (c.loop-param.invariant.1 e) c.in_ok-value.ensures now.is_open
+          c.in_ok-add_arg.ensures.1,
+    )

@@ -1,7 +1,7 @@
 use Rattle.std.proofs.Common.{Ok, sym, ap, subst, ◌∙◌}
 use Rattle.lh_phrase.specs.SyntaxOf.{inst_of}
 use Rattle.lh_read.specs.InOrder.{state_at, InPlace}
-use Rattle.lh_read.proofs.Adding.{line-asked, inst-outside, inst-taken, inst-refused, inst-placed}
+use Rattle.lh_read.proofs.Adding.{line-asked, inst-outside, inst-taken, inst-refused, inst-placed, inst-named}
 use Rattle.lh_read.proofs.reader.Reader.take_inst.Goals as goal
 
 pub returns-in_default-clause-step : goal.returns-in_default-clause-step
@@ -25,5 +25,8 @@ pub returns-clause-order : goal.returns-clause-order
 returns-clause-order c =
     let a = line-asked c.args.self.now c.in-Some.unit c.result_id.new.m c.instruction.new.m c.in-Ok.value c.in_ok-inst.inst c.args.name.now (inst_of c.args.inst) c.requires
     (sym c.block_unit.ensures ∙ c.in-Some.is) c.in-Ok.ensures c.in_ok-inst.ensures in
-    subst (InPlace c.add_inst.new.self) (sym c.behind_inst-self.ensures)
-    (inst-placed c.args.self.now c.in-Some.unit c.instruction.new.m c.add_inst.new.self _ _ a c.in_ok-add_inst.ensures.1)
+    record {
+      place = subst (InPlace c.add_inst.new.self) (sym c.behind_inst-self.ensures)
+          (inst-placed c.args.self.now c.in-Some.unit c.instruction.new.m c.add_inst.new.self _ _ a c.in_ok-add_inst.ensures.1);
+      named = inst-named c.args.self.now c.in-Some.unit c.instruction.new.m c.add_inst.new.self _ _ c.requires a c.in_ok-add_inst.ensures.1;
+    }

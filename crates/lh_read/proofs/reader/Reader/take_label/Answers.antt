@@ -1,5 +1,5 @@
 use Rattle.std.proofs.Common.{sym, ◌∙◌}
-use Rattle.lh_read.proofs.Adding.{label-outside, label-taken, label-refused, label-placed}
+use Rattle.lh_read.proofs.Adding.{label-outside, label-taken, label-refused, label-placed, label-named}
 use Rattle.lh_read.proofs.reader.Reader.take_label.Goals as goal
 
 pub returns-in_default-clause-step : goal.returns-in_default-clause-step
@@ -17,6 +17,9 @@ returns-clause-step c =
     c.in_ok-add_block.ensures
 
 pub returns-clause-order : goal.returns-clause-order
-returns-clause-order c =
-    label-placed c.args.self.now c.in-Some.unit c.label_id.new.m c.add_block.new.self c.in_ok-block.block c.args.name.now c.requires (sym c.label_unit.ensures ∙ c.in-Some.is) c.in_ok-block.ensures
-    c.in_ok-add_block.ensures
+returns-clause-order c = record {
+  place = label-placed c.args.self.now c.in-Some.unit c.label_id.new.m c.add_block.new.self c.in_ok-block.block c.args.name.now c.requires (sym c.label_unit.ensures ∙ c.in-Some.is)
+      c.in_ok-block.ensures c.in_ok-add_block.ensures;
+  named = label-named c.args.self.now c.in-Some.unit c.label_id.new.m c.add_block.new.self c.in_ok-block.block c.args.name.now c.requires (sym c.label_unit.ensures ∙ c.in-Some.is)
+      c.in_ok-block.ensures c.in_ok-add_block.ensures;
+}

@@ -28,7 +28,8 @@ invariant_of-self-2 c =
     subst IsArena (sym (added c)) (IsArena-with_unit (arena_of c.self.inside) c.args.name.now c.self.invariant c.in_default.ensures.found room)
 
 pub returns : goal.returns
-returns c = rw (← c.self.view_is) (added-FindsUnit (arena_of c.self.inside) _ _ _ c.in_ok-i.i c.in_ok-name.ensures (added c) c.self.invariant c.in_ok-i.ensures.within c.in_ok-i.ensures.stored)
+returns c = rw (← c.self.view_is) (added-FindsUnit (arena_of c.self.inside) _ _ _ c.in_ok-i.i c.in_ok-name.ensures (added c) c.self.invariant c.in_ok-i.ensures.within c.in_ok-i.ensures.stored
+    c.in_default.ensures.found)
 
 pub returns-in_err-reserve : goal.returns-in_err-reserve
 returns-in_err-reserve c = no-unit _ _ _ _ c.from_residual.ensures.0 (ap (λ us. record (arena_of c.self.inside) { units = us }) c.reserve.ensures.items ∙ c.self.view_is)
