@@ -21,11 +21,11 @@ ghost use Rattle.lh_exec.specs.Taking.{edge_in, taken_of, one_taken, all_taken, 
 
 use crate::machine::{Flow, Machine, Taken, UnitFrame};
 use crate::state::WaitOn;
+use lh_bits::mostly_one::MostlyOne;
 use lh_eval::held::{Held, Slots};
 use lh_eval::operands::{datum_in, delay_in, part_in, test_in};
 use lh_time::{Instant, due};
-use lh_types::list::ListOf;
-use lh_types::part::RangeList;
+use lh_types::part::Range;
 use lh_types::ty::NoMemory;
 use lh_types::val::Val;
 use lh_unit::inst::{BlockId, Inst, InstId, PhiEdge, ValueId};
@@ -101,7 +101,13 @@ impl Machine {
     }
 
     /// Waits for a change of these parts, which the signals of the `wait` are, or for an instant.
-    fn wait_on(&self, at: Instant, to: BlockId, after: Option<ValueId>, parts: RangeList) -> Flow
+    fn wait_on(
+        &self,
+        at: Instant,
+        to: BlockId,
+        after: Option<ValueId>,
+        parts: MostlyOne<Range>,
+    ) -> Flow
         requires after { MaybeIn self.now.frame.slots after }
         requires calls { self.now.callers.items ≡ [] }
         ensures { (a : Arena) (signals : List Value) → to.0 < label_count a self.now.frame.unit.0 → Each (λ (v : Value). v.0 < length self.now.frame.slots) signals → standing.parts_in self.now.frame.slots signals ≡ Some parts → (p : Point) → standing.MachineIs a self.now p → let f = naming a self.now.frame.unit.0 in standing.InstLeads a self.now result p.control.unit (ends_at p p.callers (waiting p.control.block (f.label_name to.0) (parts_at p.control.held (map (value_text f) signals)) (act.wake_at at p.control.held (maybe_text f after)))) }
@@ -226,11 +232,11 @@ fn parts_in(
     alloc: Global,
     slots: &Slots,
     signals: &[ValueId],
-) -> Result<Option<RangeList>, NoMemory>
+) -> Result<Option<MostlyOne<Range>>, NoMemory>
     requires { Each (λ (v : Value). v.0 < length slots.now) signals.now }
     ensures { IfOk result (λ parts. parts ≡ standing.parts_in slots.now signals.now) }
 {
-    let mut parts = ListOf::with_room(alloc, signals.len())?;
+    let mut parts = room_for(alloc, signals.len())?;
     for signal in signals {
         match part_in(slots, *signal) {
             Some(part) => parts.push(part)?,
@@ -238,6 +244,17 @@ fn parts_in(
         }
     }
     Ok(Some(parts))
+}
+
+/// An empty list with room for so many parts. Most processes wait for one, which takes no memory of its own.
+fn room_for(alloc: Global, count: usize) -> Result<MostlyOne<Range>, NoMemory>
+    ensures { IfOk result (λ parts. parts ≡ []) }
+{
+    if count < 2 {
+        return Ok(MostlyOne::new(alloc));
+    }
+    let parts = Vec::with_capacity(alloc, count)?;
+    Ok(MostlyOne::from_vec(parts))
 }
 
 /// When a `wait` wakes by itself: never without a delay, or where the delay is never due.

@@ -3,9 +3,10 @@ ghost use Rattle.std.specs.Prelude.{◌≡◌, Ok, IfOk};
 ghost use Rattle.std.specs.Option.{option_copied};
 ghost use Rattle.lh_exec.specs.States.{waited_on};
 
+use lh_bits::mostly_one::MostlyOne;
 use lh_eval::held::Slots;
 use lh_time::Instant;
-use lh_types::part::RangeList;
+use lh_types::part::Range;
 use lh_types::ty::NoMemory;
 use lh_unit::inst::{BlockId, UnitId};
 use lh_unit::module::Module;
@@ -16,7 +17,7 @@ use std::marker::Model;
 /// What a process waits for: a change of one of these parts of the signals, or this instant.
 #[derive(Drop)]
 pub struct WaitOn {
-    pub parts: RangeList,
+    pub parts: MostlyOne<Range>,
     pub wake: Option<Instant>,
 }
 

@@ -12,6 +12,7 @@ use crate::noted::Move;
 use crate::run::Activation;
 use lh_change::signals::signals_of;
 use lh_design::Design;
+use lh_exec::WaitOn;
 use lh_index::rising::Rising;
 use lh_states::state::InstState;
 use lh_time::Instant;
@@ -43,14 +44,25 @@ pub(crate) fn moves_of(
     Ok(moves)
 }
 
-/// Whether it is seen without a look at the parts that an instance senses and wakes by itself as before.
+/// Whether an instance senses the parts that it sensed and wakes by itself as before, as an entity does and most processes do.
 fn senses_as_before(old: &InstState, new: &InstState) -> bool
     ensures { IsTrue result → SensesAsBefore old.now new.now }
 {
     match (old, new) {
         (InstState::Entity(_), InstState::Entity(_)) => true,
+        (InstState::Process(old), InstState::Process(new)) => match (old.waits(), new.waits()) {
+            (Some(old), Some(new)) => is_same_wait(old, new),
+            _ => false,
+        },
         _ => false,
     }
+}
+
+/// Whether two processes wait for the same.
+fn is_same_wait(old: &WaitOn, new: &WaitOn) -> bool
+    ensures { IsTrue result → new.now ≡ old.now }
+{
+    old.wake == new.wake && old.parts.as_slice() == new.parts.as_slice()
 }
 
 /// What changes of what is noted of one instance, where its old state is followed by a new one.
