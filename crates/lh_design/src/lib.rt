@@ -5,8 +5,8 @@ ghost use Rattle.std.specs.Prelude.{◌≡◌};
 
 use lh_bits::bits::Bits;
 use lh_eval::instance::Instance;
-use lh_names::name::Name;
 use lh_types::ty::Ty;
+use lh_unit_names::name::Name;
 
 /// A signal of a design.
 #[derive(Drop)]

@@ -11,7 +11,7 @@ use Rattle.lh_term.specs.Mean.{Valuation, IsFitting, mean}
 use Rattle.lh_term.specs.Make.{is_bit, is_bit_value}
 use Rattle.lh_term.specs.Laws.{SwapsKeepMeaning}
 use Rattle.lh_term.proofs.Sound.{bit_mean}
-use Rattle.lh_cover.specs.Bits.{covers}
+use Rattle.lh_term_cover.specs.Bits.{covers}
 use Rattle.lh_edge.specs.Atoms.{edge_part, atoms_of}
 use Rattle.lh_edge.specs.Shown.{can_show, showing_parts, is_edge_shown}
 use Rattle.lh_edge.specs.Triggers.{TriggerTree, gate_of, trigger_at, triggers_at, comes_first, with_part, in_order, triggers_of, SomeFires, NoneChanges, AreWaited}

@@ -5,7 +5,7 @@ use Rattle.lh_types.specs.Types.{int_type, same_type}
 use Rattle.lh_term.specs.declared.part.Part.{Part}
 use Rattle.lh_term.specs.Tree.{Tree, past_of, now_of}
 use Rattle.lh_term.specs.SameTree.{same_tree}
-use Rattle.lh_cover.specs.Bits.{covers}
+use Rattle.lh_term_cover.specs.Bits.{covers}
 use Rattle.lh_edge.specs.Atoms.{contains_past, edge_part, has, atoms_of}
 use Rattle.lh_edge.specs.Valuations.{differ, holds, changed, all_valuations}
 

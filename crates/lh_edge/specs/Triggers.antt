@@ -9,7 +9,7 @@ use Rattle.lh_term.specs.Mean.{Valuation, mean}
 use Rattle.lh_term.specs.Make.{is_bit, bit_of}
 use Rattle.lh_term.specs.Same.{same_part}
 use Rattle.lh_term.specs.Subst.{swapped}
-use Rattle.lh_cover.specs.Bits.{covers}
+use Rattle.lh_term_cover.specs.Bits.{covers}
 use Rattle.lh_edge.specs.Atoms.{edge_part, atoms_of}
 use Rattle.lh_edge.specs.Shown.{showing_parts}
 

@@ -11,13 +11,13 @@ use Rattle.lh_unit.specs.Design.{carried_type, numbered, initial_bits, signal_ra
 use Rattle.lh_design.specs.declared.Signal.{Signal}
 use Rattle.lh_elab.specs.declared.build.Building.{Building}
 use Rattle.lh_elab.specs.declared.build.Pending.{Pending}
-use Rattle.lh_plan.specs.declared.plan.PlanSignal.{PlanSignal}
-use Rattle.lh_plan.specs.declared.plan.PlanChild.{PlanChild}
-use Rattle.lh_plan.specs.declared.plan.Low.{Low}
+use Rattle.lh_elab_plan.specs.declared.plan.PlanSignal.{PlanSignal}
+use Rattle.lh_elab_plan.specs.declared.plan.PlanChild.{PlanChild}
+use Rattle.lh_elab_plan.specs.declared.plan.Low.{Low}
 use Rattle.lh_unit.specs.declared.inst.Arg.{Arg}
 use Rattle.lh_unit.specs.Naming.{Naming, arg_text}
 use Rattle.lh_unit.specs.Table.{ArgsWithin}
-use Rattle.lh_plan.specs.Plans.{signal_of, low_at}
+use Rattle.lh_elab_plan.specs.Plans.{signal_of, low_at}
 use Rattle.lh_elab.specs.Builds.{signal_text, room_of, AddsSignals, KeepsRest, ranges_by, kid, kids}
 use Rattle.lh_elab.proofs.Numbering.{room-cons, room-append, numbered-append, ranges-append, initial-append}
 

@@ -15,15 +15,15 @@ use Rattle.lh_unit.specs.Within.{Each}
 use Rattle.lh_unit.proofs.Lists.{Each-append, Each-of-map}
 use Rattle.lh_design.specs.declared.Design.{Design}
 use Rattle.lh_design.specs.Texts.{design_text}
-use Rattle.lh_sound.specs.Ranges.{RangesFit, arg_types, signal_types, InstanceFits}
-use Rattle.lh_sound.specs.Units.{IsPort}
-use Rattle.lh_formed.proofs.EachItem.{each-split}
-use Rattle.lh_meaning.proofs.PathsLaw.{designs_have_parents_before}
-use Rattle.lh_plan.specs.declared.plan.PlanChild.{PlanChild}
-use Rattle.lh_plan.specs.declared.plan.Plan.{Plan}
+use Rattle.lh_eval_laws.specs.Ranges.{RangesFit, arg_types, signal_types, InstanceFits}
+use Rattle.lh_eval_laws.specs.Units.{IsPort}
+use Rattle.lh_verify_laws.proofs.EachItem.{each-split}
+use Rattle.lh_trace_laws.proofs.PathsLaw.{designs_have_parents_before}
+use Rattle.lh_elab_plan.specs.declared.plan.PlanChild.{PlanChild}
+use Rattle.lh_elab_plan.specs.declared.plan.Plan.{Plan}
 use Rattle.lh_elab.specs.declared.build.Building.{Building}
 use Rattle.lh_elab.specs.declared.build.Pending.{Pending}
-use Rattle.lh_plan.specs.Plans.{signal_of, child_of, low_at, AreWide, AreRangesOf, IsPlan}
+use Rattle.lh_elab_plan.specs.Plans.{signal_of, child_of, low_at, AreWide, AreRangesOf, IsPlan}
 use Rattle.lh_elab.specs.Builds.{room_of, kid, kids, kids_in, IsStarted, Visits}
 use Rattle.lh_elab.specs.Answer.{InstanceIs, IsDesignOf}
 use Rattle.lh_elab.specs.Refusals.{refusal_at}

@@ -6,11 +6,11 @@ use Rattle.std.proofs.lemmas.List.{get_or_past}
 use Rattle.std.proofs.lemmas.List.Sums.{sum_by-cons}
 use Rattle.std.specs.List.{list_any, slice_get}
 use Rattle.lh_types.specs.Types.{bit_count}
-use Rattle.lh_names.specs.declared.name.UnitName.{UnitName}
+use Rattle.lh_unit_names.specs.declared.name.UnitName.{UnitName}
 use Rattle.lh_unit.specs.declared.inst.UnitId.{UnitId}
 use Rattle.lh_unit.specs.declared.inst.Item.{Item}
 use Rattle.lh_unit.specs.declared.inst.Item.TheVariants as item
-use Rattle.lh_names.specs.UnitNames.{same_unit_name}
+use Rattle.lh_unit_names.specs.UnitNames.{same_unit_name}
 use Rattle.lh_unit.specs.Typing.{or_else}
 use Rattle.lh_unit.specs.Within.{Each}
 use Rattle.lh_unit.specs.Arena.{Arena, IsArena, contents, item_text_at, unit_count, unit_name_at, kind_at, table_at}
@@ -18,12 +18,12 @@ use Rattle.lh_unit.specs.Hierarchy.{SignalText, Entry, hierarchies}
 use Rattle.lh_unit.specs.Design.{hierarchy_in, targets, is_one_of, first_some, cycle_at, cycle_from, nests_deeper, instance_count, bits_below}
 use Rattle.lh_unit.specs.declared.inst.UnitKind.{UnitKind}
 use Rattle.lh_unit.proofs.ById.{same_unit-by_id}
-use Rattle.lh_formed.specs.Graphs.{met_or, is_open, IsIn}
-use Rattle.lh_formed.proofs.Capped.{both_capped}
-use Rattle.lh_formed.proofs.Graphs.{item_units, in-units}
+use Rattle.lh_verify_laws.specs.Graphs.{met_or, is_open, IsIn}
+use Rattle.lh_verify_laws.proofs.Capped.{both_capped}
+use Rattle.lh_verify_laws.proofs.Graphs.{item_units, in-units}
 use Rattle.lh_elab.specs.declared.graph.HierarchyNode.{HierarchyNode}
 use Rattle.lh_elab.specs.Graph.{max_counted, no_node, node_at, node_by, targets_at, IsGraph}
-use Rattle.lh_descent.specs.Measures.{cycle_in, NodesWithin, HasBusy}
+use Rattle.lh_unit_graph.specs.Measures.{cycle_in, NodesWithin, HasBusy}
 use Rattle.lh_elab.specs.Measures.{measuring}
 use Rattle.lh_elab.proofs.Measuring.{nests, count_in, bits_in}
 use Rattle.lh_elab.proofs.Names.{reads-unit}

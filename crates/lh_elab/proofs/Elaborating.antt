@@ -5,7 +5,7 @@ use Rattle.std.proofs.lemmas.List.{take_all, length-replicate, length-append}
 use Rattle.std.proofs.lemmas.List.Sums.{sum_by-cons}
 use Rattle.lh_types.specs.Types.{IsData, bit_count}
 use Rattle.lh_types.specs.declared.part.Range.{Range}
-use Rattle.lh_names.specs.declared.name.UnitName.{UnitName}
+use Rattle.lh_unit_names.specs.declared.name.UnitName.{UnitName}
 use Rattle.lh_unit.specs.declared.inst.UnitId.{UnitId}
 use Rattle.lh_unit.specs.declared.inst.UnitKind.{UnitKind}
 use Rattle.lh_unit.specs.declared.inst.UnitKind.TheVariants as kind
@@ -17,13 +17,13 @@ use Rattle.lh_unit.specs.Hierarchy.{SignalText, zeros, Hierarchy, hierarchy_by, 
 use Rattle.lh_unit.specs.Design as design
 use Rattle.lh_unit.specs.Design.{Design, Refusal, Elaborated, built, hierarchy_in, arg_bits, carried_type, top_signals, only_signals, numbered, initial_bits, signal_ranges, visit, visited, design_of, refusal_by, refusal_of, cycle_from, nests_deeper, instance_count, bits_below, elaborated, elab_named, max_nesting, max_instances, max_bits}
 use Rattle.lh_unit.specs.Within.{Each}
-use Rattle.lh_sound.specs.Ranges.{arg_types}
-use Rattle.lh_sound.specs.Units.{IsPort, HasPorts}
+use Rattle.lh_eval_laws.specs.Ranges.{arg_types}
+use Rattle.lh_eval_laws.specs.Units.{IsPort, HasPorts}
 use Rattle.lh_elab.specs.declared.fault.ElabFault.{ElabFault}
 use Rattle.lh_elab.specs.declared.fault.ElabFault.TheVariants as fault
 use Rattle.lh_elab.specs.declared.build.Building.{Building}
 use Rattle.lh_design.specs.declared.Design as code
-use Rattle.lh_plan.specs.Plans.{AreWide}
+use Rattle.lh_elab_plan.specs.Plans.{AreWide}
 use Rattle.lh_elab.specs.Refusals.{refusal_text, refusal_at, Refuses}
 use Rattle.lh_elab.specs.Builds.{signal_text, instance_text, design_text, room_of, IsStarted}
 use Rattle.lh_design.specs.Filling.{FillFrom, SignalsFill}

@@ -8,7 +8,7 @@ use Rattle.lh_unit.specs.Arena.{Arena, unit_name_at}
 use Rattle.lh_unit.specs.Design.{label_by, instance_label}
 use Rattle.lh_unit.specs.Paths.{shown_in, label_at, path_at, IsParentBelow, ParentsComeBefore}
 use Rattle.lh_unit.specs.Trace.{Shown, shown_from}
-use Rattle.lh_meaning.proofs.PathsLaw.{top_path, child_path}
+use Rattle.lh_trace_laws.proofs.PathsLaw.{top_path, child_path}
 use Rattle.lh_eval.specs.declared.instance.Instance.{Instance}
 use Rattle.lh_design.specs.declared.Design.{Design}
 use Rattle.lh_design.specs.Texts.{instance_text, design_text}

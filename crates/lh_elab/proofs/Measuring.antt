@@ -6,9 +6,9 @@ use Rattle.std.proofs.lemmas.List.Folds.{list_any-append}
 use Rattle.std.proofs.lemmas.List.Sums.{sum_by_push}
 use Rattle.lh_unit.specs.declared.inst.UnitId.{UnitId}
 use Rattle.lh_unit.proofs.Lists.{or_false}
-use Rattle.lh_descent.specs.Measures as descent
-use Rattle.lh_descent.proofs.Measuring.{measure-holds}
-use Rattle.lh_formed.proofs.Capped.{not_below_zero, zero_capped, below_max, sum_capped, left_max, right_max, first_below, next_below, none_at_zero, below_next, right_capped}
+use Rattle.lh_unit_graph.specs.Measures as descent
+use Rattle.lh_unit_graph.proofs.Measuring.{measure-holds}
+use Rattle.lh_verify_laws.proofs.Capped.{not_below_zero, zero_capped, below_max, sum_capped, left_max, right_max, first_below, next_below, none_at_zero, below_next, right_capped}
 use Rattle.lh_elab.specs.declared.graph.HierarchyNode.{HierarchyNode}
 use Rattle.lh_elab.specs.declared.measure.Measure.{Measure}
 use Rattle.lh_elab.specs.Graph.{node_at, targets_at, max_counted}

@@ -5,14 +5,14 @@ use Rattle.lh_types.specs.Bits.{value_bits}
 use Rattle.std.proofs.lemmas.List.{append-nil, append_assoc}
 use Rattle.std.proofs.lemmas.List.Sums.{sum_by-cons}
 use Rattle.lh_types.specs.Types.{bit_count}
-use Rattle.lh_names.specs.declared.name.UnitName.{UnitName}
+use Rattle.lh_unit_names.specs.declared.name.UnitName.{UnitName}
 use Rattle.lh_unit.specs.declared.inst.UnitId.{UnitId}
 use Rattle.lh_unit.specs.declared.inst.InstId.{InstId}
 use Rattle.lh_unit.specs.declared.inst.UnitKind.{UnitKind}
 use Rattle.lh_unit.specs.declared.inst.UnitKind.TheVariants as kind
 use Rattle.lh_unit.specs.declared.inst.Inst.{Inst}
 use Rattle.lh_unit.specs.declared.inst.Inst.TheVariants as inst
-use Rattle.lh_names.specs.UnitNames.{same_unit_name}
+use Rattle.lh_unit_names.specs.UnitNames.{same_unit_name}
 use Rattle.lh_unit.specs.Named.{unit_named, label_or}
 use Rattle.lh_unit.specs.Contents.{LineText, UnitText, ItemText, unit_text, declare_text}
 use Rattle.lh_unit.specs.Naming.{Naming, kind_text, block_text, table_text}
@@ -26,7 +26,7 @@ use Rattle.lh_unit.proofs.ById.{unit_named-by_id}
 use Rattle.lh_elab.specs.declared.graph.HierarchyNode.{HierarchyNode}
 use Rattle.lh_elab.specs.Graph.{max_counted, no_node, node_after, node_from, node_by, node_of}
 use Rattle.lh_elab.proofs.Reading.{entity-blocks}
-use Rattle.lh_formed.proofs.Capped.{min-zero}
+use Rattle.lh_verify_laws.proofs.Capped.{min-zero}
 
 -- what is read of the unit of a name
 named-if : (c : Bool) (x : UnitText) (h : Option Hierarchy) (o : Option UnitText) → h ≡ option_map hierarchy_of o

@@ -7,8 +7,8 @@ use Rattle.lh_types.specs.declared.part.Range.{Range}
 use Rattle.lh_unit.specs.Hierarchy.{SignalText}
 use Rattle.lh_unit.specs.Design.{Signal, numbered, initial_bits, signal_ranges}
 use Rattle.lh_unit.specs.Within.{Each}
-use Rattle.lh_plan.specs.declared.plan.PlanSignal.{PlanSignal}
-use Rattle.lh_plan.specs.Plans.{signal_of, SignalFits}
+use Rattle.lh_elab_plan.specs.declared.plan.PlanSignal.{PlanSignal}
+use Rattle.lh_elab_plan.specs.Plans.{signal_of, SignalFits}
 use Rattle.lh_elab.specs.Builds.{room_of}
 
 pub room-cons : (s : SignalText) (ss : List SignalText) → room_of (s ∷ ss) ≡ bit_count s.ty + room_of ss

@@ -7,10 +7,10 @@ use Rattle.lh_unit.specs.Design.{first_some}
 use Rattle.lh_unit.specs.Typing.{or_else}
 use Rattle.lh_unit.specs.Within.{Each}
 use Rattle.lh_unit.specs.declared.inst.UnitId.{UnitId}
-use Rattle.lh_formed.specs.Graphs.{is_open, met_or}
-use Rattle.lh_descent.specs.Measures.{cycle_in, NodesWithin, Measures}
-use Rattle.lh_descent.specs.declared.fault.DescentFault.{DescentFault}
-use Rattle.lh_descent.specs.declared.fault.DescentFault.TheVariants as descent
+use Rattle.lh_verify_laws.specs.Graphs.{is_open, met_or}
+use Rattle.lh_unit_graph.specs.Measures.{cycle_in, NodesWithin, Measures}
+use Rattle.lh_unit_graph.specs.declared.fault.DescentFault.{DescentFault}
+use Rattle.lh_unit_graph.specs.declared.fault.DescentFault.TheVariants as descent
 use Rattle.lh_elab.specs.declared.fault.ElabFault.{ElabFault}
 use Rattle.lh_elab.specs.declared.fault.ElabFault.TheVariants as fault
 use Rattle.lh_elab.specs.declared.graph.HierarchyNode.{HierarchyNode}

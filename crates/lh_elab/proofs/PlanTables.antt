@@ -3,8 +3,8 @@ use Rattle.std.proofs.Common.{◌≡◌, ℕ, zero, suc, ◌<◌, List, [], ◌�
 use Rattle.std.proofs.lemmas.Option.{same_Some}
 use Rattle.lh_unit.specs.Arena.{Arena}
 use Rattle.lh_unit.proofs.Lists.{Same, same, other, same_or}
-use Rattle.lh_plan.specs.declared.plan.Plan.{Plan}
-use Rattle.lh_plan.specs.Plans.{IsPlan}
+use Rattle.lh_elab_plan.specs.declared.plan.Plan.{Plan}
+use Rattle.lh_elab_plan.specs.Plans.{IsPlan}
 
 -- one more unit that was not met
 pub none-more : (ps : List (Option Plan)) (u : ℕ) → ((v : ℕ) → get_or ps v None ≡ None) → get_or (ps ++ None ∷ []) u None ≡ None

@@ -5,7 +5,7 @@ use Rattle.std.proofs.lemmas.Option.{none-some, same_Some}
 use Rattle.lh_time.specs.Due.{instant}
 use Rattle.lh_types.specs.Types.{TypeTree, signal_type, IsData, bit_count}
 use Rattle.lh_types.specs.declared.part.Range.{Range}
-use Rattle.lh_names.specs.declared.name.UnitName.{UnitName}
+use Rattle.lh_unit_names.specs.declared.name.UnitName.{UnitName}
 use Rattle.lh_unit.specs.declared.inst.UnitKind.{UnitKind}
 use Rattle.lh_unit.specs.declared.inst.UnitKind.TheVariants as kind
 use Rattle.lh_unit.specs.Contents.{OperandText, InstText, sig_text, child_text, LineText, ArgText, UnitText, ItemText, unit_text, declare_text}
@@ -24,24 +24,24 @@ use Rattle.lh_unit.specs.WellFormed.{Site, sites, is_allowed, inputs_of, outputs
 use Rattle.lh_unit.specs.Within.{Each}
 use Rattle.lh_unit.proofs.ById.{unit_named-by_id}
 use Rattle.lh_unit.proofs.Lists.{Each-of-map}
-use Rattle.lh_spelled.specs.ItemLines.{item_line}
-use Rattle.lh_spelled.specs.Printable.{IsPrintable}
-use Rattle.lh_formed.specs.Calls.{ArgumentsAre, InstanceIsRight, NamedIsRight}
-use Rattle.lh_formed.proofs.CallsLaw.{calls_are_right}
-use Rattle.lh_formed.proofs.ShapeLaw.{all_allowed}
-use Rattle.lh_formed.proofs.Sound.{site_in}
+use Rattle.lh_text_laws.specs.ItemLines.{item_line}
+use Rattle.lh_text_laws.specs.Printable.{IsPrintable}
+use Rattle.lh_verify_laws.specs.Calls.{ArgumentsAre, InstanceIsRight, NamedIsRight}
+use Rattle.lh_verify_laws.proofs.CallsLaw.{calls_are_right}
+use Rattle.lh_verify_laws.proofs.ShapeLaw.{all_allowed}
+use Rattle.lh_verify_laws.proofs.Sound.{site_in}
 use Rattle.lh_eval.specs.Fitting.{Fits}
 use Rattle.lh_eval.proofs.GivesFit.{part-held}
-use Rattle.lh_sound.specs.Ranges.{RangesFit, arg_types, type_if_signal, signal_types, InstanceFits}
-use Rattle.lh_sound.specs.Units.{IsPort, HasPorts, UnitIsSound}
-use Rattle.lh_sound.specs.Finding.{PartsFound}
-use Rattle.lh_formed.proofs.EachItem.{each-contained, each-split}
-use Rattle.lh_formed.proofs.AtPlaces.{lines-from}
-use Rattle.lh_sound.proofs.Finding.{some-of}
-use Rattle.lh_sound.proofs.FindingElab.{parts-are-found}
-use Rattle.lh_sound.proofs.FindingStatic.{static-all-fits}
-use Rattle.lh_sound.proofs.FitLaws.{of-unit, unit-is-sound, begins-fit}
-use Rattle.lh_plan.proofs.PlanSteps.{entity-types}
+use Rattle.lh_eval_laws.specs.Ranges.{RangesFit, arg_types, type_if_signal, signal_types, InstanceFits}
+use Rattle.lh_eval_laws.specs.Units.{IsPort, HasPorts, UnitIsSound}
+use Rattle.lh_eval_laws.specs.Finding.{PartsFound}
+use Rattle.lh_verify_laws.proofs.EachItem.{each-contained, each-split}
+use Rattle.lh_verify_laws.proofs.AtPlaces.{lines-from}
+use Rattle.lh_eval_laws.proofs.Finding.{some-of}
+use Rattle.lh_eval_laws.proofs.FindingElab.{parts-are-found}
+use Rattle.lh_eval_laws.proofs.FindingStatic.{static-all-fits}
+use Rattle.lh_eval_laws.proofs.FitLaws.{of-unit, unit-is-sound, begins-fit}
+use Rattle.lh_elab_plan.proofs.PlanSteps.{entity-types}
 
 -- what holds at each instruction of a module without a fault: its unit allows it, and what it names is right
 abbrev LineTold : List ItemText → UnitText → LineText → Type 0

@@ -21,24 +21,24 @@ use Rattle.lh_unit.specs.ById.{inst_line_text}
 use Rattle.lh_unit.specs.WellFormed.{IsWellFormed}
 use Rattle.lh_unit.specs.Within.{Each}
 use Rattle.lh_unit.proofs.Lists.{Same, same, other, same_or, Each-item}
-use Rattle.lh_formed.specs.Operands.{RowIs}
+use Rattle.lh_verify_laws.specs.Operands.{RowIs}
 use Rattle.lh_eval.specs.declared.instance.Instance.{Instance}
 use Rattle.lh_eval.specs.Fitting.{Fits}
 use Rattle.lh_eval.specs.Holding.{part_in}
 use Rattle.lh_eval.specs.Sound.{InstIsSound}
 use Rattle.lh_eval.proofs.Holding.{same-held}
-use Rattle.lh_sound.specs.Ranges.{RangesFit, signal_types}
-use Rattle.lh_sound.proofs.FitLaws.{unit-is-sound}
+use Rattle.lh_eval_laws.specs.Ranges.{RangesFit, signal_types}
+use Rattle.lh_eval_laws.proofs.FitLaws.{unit-is-sound}
 use Rattle.lh_elab.specs.declared.probes.Probe.{Probe}
-use Rattle.lh_plan.specs.declared.statics.Base.{Base}
-use Rattle.lh_plan.specs.declared.statics.Base.TheVariants as base
-use Rattle.lh_plan.specs.declared.statics.Statics.{Statics}
+use Rattle.lh_elab_plan.specs.declared.statics.Base.{Base}
+use Rattle.lh_elab_plan.specs.declared.statics.Base.TheVariants as base
+use Rattle.lh_elab_plan.specs.declared.statics.Statics.{Statics}
 use Rattle.lh_elab.specs.Answer.{InstanceIs}
-use Rattle.lh_plan.specs.Plans.{AreWide, AreRangesOf}
+use Rattle.lh_elab_plan.specs.Plans.{AreWide, AreRangesOf}
 use Rattle.lh_elab.specs.Probed.{probed_in, probed_by, ProbeLine, probe_by, above, ProbesOf}
-use Rattle.lh_plan.specs.Statics.{by_of, base_lo, moved_slots, StaticsFollow}
-use Rattle.lh_plan.proofs.Moving.{shifted, length-moved, slot-moved, part-moved}
-use Rattle.lh_plan.proofs.PlanSteps.{lines}
+use Rattle.lh_elab_plan.specs.Statics.{by_of, base_lo, moved_slots, StaticsFollow}
+use Rattle.lh_elab_plan.proofs.Moving.{shifted, length-moved, slot-moved, part-moved}
+use Rattle.lh_elab_plan.proofs.PlanSteps.{lines}
 use Rattle.lh_elab.proofs.Ports.{instantiable-there, part-within, static-fits, types-read}
 
 above-part : (args sigs : List Range) (b : Base) (p : Option Range) → option_map (above args sigs) (option_map (λ (r : Range). record { base = b; part = r }) p)

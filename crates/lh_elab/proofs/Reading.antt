@@ -17,9 +17,9 @@ use Rattle.lh_unit.proofs.Lists.{Same, same, other, same_or, Each-append}
 use Rattle.lh_unit.proofs.ModuleLaws.{block-within, block_insts-within, line-placed}
 use Rattle.lh_elab.specs.declared.graph.HierarchyNode.{HierarchyNode}
 use Rattle.lh_elab.specs.Graph.{no_node, node_after, node_from, node_by, node_of, node_at, targets_at, IsGraph}
-use Rattle.lh_descent.specs.Measures.{NodesWithin}
+use Rattle.lh_unit_graph.specs.Measures.{NodesWithin}
 use Rattle.lh_elab.specs.Measures.{measuring}
-use Rattle.lh_formed.proofs.Graphs.{Inside}
+use Rattle.lh_verify_laws.proofs.Graphs.{Inside}
 
 -- an entity has one block
 pub entity-blocks : (a : Arena) (u : ℕ) → IsArena a → u < unit_count a → kind_at a u ≡ Some kind.Entity → blocks_at a u ≡ entity_block ∷ []

@@ -4,7 +4,7 @@ use Rattle.std.specs.Option.{option_map}
 use Rattle.std.proofs.lemmas.Grind.{common_steps}
 use Rattle.std.proofs.lemmas.List.Sums.{sum_by-cons}
 use Rattle.lh_types.specs.Types.{bit_count}
-use Rattle.lh_names.specs.declared.name.UnitName.{UnitName}
+use Rattle.lh_unit_names.specs.declared.name.UnitName.{UnitName}
 use Rattle.lh_unit.specs.declared.inst.UnitKind.{UnitKind}
 use Rattle.lh_unit.specs.declared.inst.UnitKind.TheVariants as kind
 use Rattle.lh_unit.specs.declared.inst.Arg.{Arg}
@@ -20,9 +20,9 @@ use Rattle.lh_elab.specs.declared.graph.HierarchyNode.{HierarchyNode}
 use Rattle.lh_elab.specs.declared.measure.Measure.{Measure}
 use Rattle.lh_elab.specs.Graph.{max_counted}
 use Rattle.lh_elab.specs.Measures.{depth_end, instances_end, measuring, fault_of}
-use Rattle.lh_descent.specs.Measures.{cycle_in}
-use Rattle.lh_descent.specs.declared.fault.DescentFault.{DescentFault}
-use Rattle.lh_descent.specs.declared.fault.DescentFault.TheVariants as descent
+use Rattle.lh_unit_graph.specs.Measures.{cycle_in}
+use Rattle.lh_unit_graph.specs.declared.fault.DescentFault.{DescentFault}
+use Rattle.lh_unit_graph.specs.declared.fault.DescentFault.TheVariants as descent
 use Rattle.lh_elab.proofs.Measuring.{IsMeasure, measure-is}
 use Rattle.lh_elab.specs.Refusals.{arg_bits_of, limited, refusal_text, refusal_at, bits_at, Refuses, MeasuresIn}
 use Rattle.lh_elab.proofs.Reading.{graph-within}

@@ -3,7 +3,7 @@ use Rattle.std.proofs.Common.{◌≡◌, ℕ, zero, suc, ◌+◌, ◌*◌, ◌<�
 use Rattle.std.proofs.lemmas.List.{length-append, map-append, length-map}
 use Rattle.lh_types.specs.Types.{IsData, bit_count}
 use Rattle.lh_types.specs.declared.part.Range.{Range}
-use Rattle.lh_names.specs.declared.name.UnitName.{UnitName}
+use Rattle.lh_unit_names.specs.declared.name.UnitName.{UnitName}
 use Rattle.lh_unit.specs.declared.inst.Arg.{Arg}
 use Rattle.lh_unit.specs.Naming.{Naming, arg_text}
 use Rattle.lh_unit.specs.Arena.{Arena, unit_count, args_at, naming, unit_name_at, unit_text_at}
@@ -11,19 +11,19 @@ use Rattle.lh_unit.specs.Hierarchy.{SignalText, Child, Hierarchy, hierarchy_of, 
 use Rattle.lh_unit.specs.Design as design
 use Rattle.lh_unit.specs.Design.{Design, hierarchy_in, hierarchy_or, targets, numbered, initial_bits, signal_ranges, top_signals, carried_type, only_signals, with_instance, visit, visit_all, visited, design_of, instance_count, bits_below, max_nesting, max_instances, max_bits}
 use Rattle.lh_unit.specs.Within.{Each}
-use Rattle.lh_sound.specs.Ranges.{arg_types}
-use Rattle.lh_formed.proofs.EachItem.{each-split}
+use Rattle.lh_eval_laws.specs.Ranges.{arg_types}
+use Rattle.lh_verify_laws.proofs.EachItem.{each-split}
 use Rattle.lh_unit.proofs.Lists.{Each-append}
-use Rattle.lh_plan.specs.declared.plan.PlanSignal.{PlanSignal}
-use Rattle.lh_plan.specs.declared.plan.PlanChild.{PlanChild}
-use Rattle.lh_plan.specs.declared.plan.Plan.{Plan}
-use Rattle.lh_plan.specs.declared.plan.Low.{Low}
-use Rattle.lh_plan.specs.declared.statics.Base.{Base}
-use Rattle.lh_plan.specs.declared.statics.Base.TheVariants as base
+use Rattle.lh_elab_plan.specs.declared.plan.PlanSignal.{PlanSignal}
+use Rattle.lh_elab_plan.specs.declared.plan.PlanChild.{PlanChild}
+use Rattle.lh_elab_plan.specs.declared.plan.Plan.{Plan}
+use Rattle.lh_elab_plan.specs.declared.plan.Low.{Low}
+use Rattle.lh_elab_plan.specs.declared.statics.Base.{Base}
+use Rattle.lh_elab_plan.specs.declared.statics.Base.TheVariants as base
 use Rattle.lh_elab.specs.declared.build.Building.{Building}
 use Rattle.lh_elab.specs.declared.build.Pending.{Pending}
-use Rattle.lh_plan.specs.Statics.{base_lo, no_range}
-use Rattle.lh_plan.specs.Plans.{signal_of, child_of, low_at, LowSmall, ChildSmall, SignalFits, AreWide, AreRangesOf, IsPlan}
+use Rattle.lh_elab_plan.specs.Statics.{base_lo, no_range}
+use Rattle.lh_elab_plan.specs.Plans.{signal_of, child_of, low_at, LowSmall, ChildSmall, SignalFits, AreWide, AreRangesOf, IsPlan}
 use Rattle.lh_elab.specs.Builds.{instance_text, signal_text, room_of, ranges_by, kid, kids, kids_in, AreLow, LowsFit, Visits}
 use Rattle.lh_elab.specs.Elaborates.{TextsFill}
 use Rattle.lh_elab.proofs.Walks.{gone, unwound, unwound-append, ReadsArgs, kids-visited, left, left-append, kids-count}

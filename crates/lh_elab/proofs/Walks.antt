@@ -3,16 +3,16 @@ use Rattle.std.proofs.Common.{◌≡◌, ℕ, zero, suc, ◌+◌, ◌<◌, List,
 use Rattle.std.proofs.lemmas.List.Sums.{sum_by-cons}
 use Rattle.lh_types.specs.Types.{bit_count}
 use Rattle.lh_types.specs.declared.part.Range.{Range}
-use Rattle.lh_names.specs.declared.name.UnitName.{UnitName}
+use Rattle.lh_unit_names.specs.declared.name.UnitName.{UnitName}
 use Rattle.lh_unit.specs.declared.inst.Arg.{Arg}
 use Rattle.lh_unit.specs.Naming.{Naming, arg_text}
 use Rattle.lh_unit.specs.Arena.{Arena, unit_count, args_at, naming, unit_name_at}
 use Rattle.lh_unit.specs.Hierarchy.{Child, Entry}
 use Rattle.lh_unit.specs.Design.{Design, hierarchy_in, arg_ranges, visit, visit_all, visited}
 use Rattle.lh_unit.specs.Within.{Each}
-use Rattle.lh_plan.specs.declared.plan.PlanChild.{PlanChild}
+use Rattle.lh_elab_plan.specs.declared.plan.PlanChild.{PlanChild}
 use Rattle.lh_elab.specs.declared.build.Pending.{Pending}
-use Rattle.lh_plan.specs.Plans.{child_of, low_at}
+use Rattle.lh_elab_plan.specs.Plans.{child_of, low_at}
 use Rattle.lh_elab.specs.Builds.{ranges_by, kid, kids, kids_in}
 
 -- the visit of an instance that is pending

@@ -1,6 +1,6 @@
 -- What a design that elaboration answered has.
 use Rattle.std.specs.Prelude.{◌≡◌, ℕ, ◌<◌, ◌≤◌, ◌⊎◌, length, Some}
-use Rattle.lh_names.specs.declared.name.UnitName.{UnitName}
+use Rattle.lh_unit_names.specs.declared.name.UnitName.{UnitName}
 use Rattle.lh_unit.specs.declared.inst.UnitKind.TheVariants as kind
 use Rattle.lh_unit.specs.Arena.{Arena, IsArena, unit_count, kind_at, unit_text_at, contents}
 use Rattle.lh_unit.specs.Design as design
@@ -8,7 +8,7 @@ use Rattle.lh_unit.specs.Paths.{shown_in, ParentsComeBefore}
 use Rattle.lh_unit.specs.WellFormed.{IsWellFormed}
 use Rattle.lh_unit.specs.Within.{Each}
 use Rattle.lh_eval.specs.declared.instance.Instance.{Instance}
-use Rattle.lh_sound.specs.Ranges.{InstanceFits}
+use Rattle.lh_eval_laws.specs.Ranges.{InstanceFits}
 use Rattle.lh_design.specs.declared.Design.{Design}
 use Rattle.lh_design.specs.Filling.{SignalsFill}
 use Rattle.lh_design.specs.Texts.{design_text}

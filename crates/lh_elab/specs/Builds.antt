@@ -8,12 +8,12 @@ use Rattle.lh_unit.specs.Arena.{Arena, args_at, unit_text_at}
 use Rattle.lh_unit.specs.Hierarchy.{SignalText}
 use Rattle.lh_unit.specs.Design.{numbered, initial_bits, signal_ranges, top_signals}
 pub use Rattle.lh_design.specs.Texts.{instance_text, signal_text, design_text}
-use Rattle.lh_plan.specs.declared.plan.Low.{Low}
-use Rattle.lh_plan.specs.declared.plan.Plan.{Plan}
-use Rattle.lh_plan.specs.declared.plan.PlanChild.{PlanChild}
+use Rattle.lh_elab_plan.specs.declared.plan.Low.{Low}
+use Rattle.lh_elab_plan.specs.declared.plan.Plan.{Plan}
+use Rattle.lh_elab_plan.specs.declared.plan.PlanChild.{PlanChild}
 use Rattle.lh_elab.specs.declared.build.Building.{Building}
 use Rattle.lh_elab.specs.declared.build.Pending.{Pending}
-use Rattle.lh_plan.specs.Plans.{signal_of, low_at}
+use Rattle.lh_elab_plan.specs.Plans.{signal_of, low_at}
 
 -- how many bits signals have
 abbrev pub room_of : List SignalText → ℕ

@@ -7,10 +7,10 @@ use Rattle.lh_unit.specs.Design.{Elaborated, refused, built, Refusal}
 pub use Rattle.lh_design.specs.Filling.{SignalsFill}
 use Rattle.lh_elab.specs.declared.fault.ElabFault.{ElabFault}
 use Rattle.lh_design.specs.declared.Design.{Design}
-use Rattle.lh_plan.specs.declared.plan.Plan.{Plan}
+use Rattle.lh_elab_plan.specs.declared.plan.Plan.{Plan}
 use Rattle.lh_elab.specs.declared.elaborate.Plans.{Plans}
 use Rattle.lh_elab.specs.Refusals.{refusal_text}
-use Rattle.lh_plan.specs.Plans.{IsPlan}
+use Rattle.lh_elab_plan.specs.Plans.{IsPlan}
 use Rattle.lh_elab.specs.Builds.{design_text}
 
 -- the definition refuses for this cause, if it is one

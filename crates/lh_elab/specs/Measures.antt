@@ -1,8 +1,8 @@
 -- What is counted of instances, over a graph of units: how deep they nest, how many there are, how many bits they have.
 use Rattle.std.specs.Prelude.{ℕ, ◌+◌, min, max}
-use Rattle.lh_descent.specs.Measures.{Measuring}
-use Rattle.lh_descent.specs.declared.fault.DescentFault.{DescentFault}
-use Rattle.lh_descent.specs.declared.fault.DescentFault.TheVariants as descent
+use Rattle.lh_unit_graph.specs.Measures.{Measuring}
+use Rattle.lh_unit_graph.specs.declared.fault.DescentFault.{DescentFault}
+use Rattle.lh_unit_graph.specs.declared.fault.DescentFault.TheVariants as descent
 use Rattle.lh_elab.specs.declared.fault.ElabFault.{ElabFault}
 use Rattle.lh_elab.specs.declared.fault.ElabFault.TheVariants as fault
 use Rattle.lh_elab.specs.declared.graph.HierarchyNode.{HierarchyNode}

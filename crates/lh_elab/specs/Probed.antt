@@ -13,10 +13,10 @@ use Rattle.lh_unit.specs.Pass.{probes}
 use Rattle.lh_eval.specs.declared.instance.Instance.{Instance}
 use Rattle.lh_eval.specs.Holding.{part_in}
 use Rattle.lh_elab.specs.declared.probes.Probe.{Probe}
-use Rattle.lh_plan.specs.declared.statics.Base.TheVariants as base
-use Rattle.lh_plan.specs.declared.statics.Statics.{Statics}
-use Rattle.lh_plan.specs.Plans.{AreRangesOf}
-use Rattle.lh_plan.specs.Statics.{base_lo}
+use Rattle.lh_elab_plan.specs.declared.statics.Base.TheVariants as base
+use Rattle.lh_elab_plan.specs.declared.statics.Statics.{Statics}
+use Rattle.lh_elab_plan.specs.Plans.{AreRangesOf}
+use Rattle.lh_elab_plan.specs.Statics.{base_lo}
 
 -- an entity senses what its probes name
 abbrev pub probed_in : Option UnitKind → UnitText → (args sigs : List Range) → List Range

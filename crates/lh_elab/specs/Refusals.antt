@@ -5,9 +5,9 @@ use Rattle.lh_unit.specs.Arena.{Arena, contents, unit_count, unit_name_at, unit_
 use Rattle.lh_unit.specs.Hierarchy.{hierarchies, hierarchy_of}
 use Rattle.lh_unit.specs.Design.{Refusal, top_is_function, inst_cycle, too_deep, too_many_instances, too_many_bits, refusal_of, arg_bits, bits_below, max_nesting}
 use Rattle.lh_unit.specs.declared.inst.Arg.{Arg}
-use Rattle.lh_descent.specs.Measures.{Measures}
-use Rattle.lh_descent.specs.declared.fault.DescentFault.{DescentFault}
-use Rattle.lh_descent.specs.declared.fault.DescentFault.TheVariants as descent
+use Rattle.lh_unit_graph.specs.Measures.{Measures}
+use Rattle.lh_unit_graph.specs.declared.fault.DescentFault.{DescentFault}
+use Rattle.lh_unit_graph.specs.declared.fault.DescentFault.TheVariants as descent
 use Rattle.lh_elab.specs.declared.fault.ElabFault.{ElabFault}
 use Rattle.lh_elab.specs.declared.fault.ElabFault.TheVariants as fault
 use Rattle.lh_elab.specs.declared.measure.Measure.{Measure}

@@ -4,26 +4,26 @@ ghost use Rattle.lh_types.specs.Types.{bit_count};
 ghost use Rattle.lh_unit.specs.Design.{carried_type, signal_ranges, top_signals};
 ghost use Rattle.lh_unit.specs.Arena.{unit_count, unit_text_at};
 ghost use Rattle.lh_unit.specs.Within.{Each};
-ghost use Rattle.lh_plan.specs.Statics as statics;
-ghost use Rattle.lh_plan.specs.Statics.{no_range};
-ghost use Rattle.lh_plan.specs.Plans as plans;
-ghost use Rattle.lh_plan.specs.Plans.{signal_of, SignalFits};
+ghost use Rattle.lh_elab_plan.specs.Statics as statics;
+ghost use Rattle.lh_elab_plan.specs.Statics.{no_range};
+ghost use Rattle.lh_elab_plan.specs.Plans as plans;
+ghost use Rattle.lh_elab_plan.specs.Plans.{signal_of, SignalFits};
 ghost use Rattle.lh_elab.specs.Builds.{room_of, IsNew, IsStarted, AddsSignals, KeepsRest, KeepsBuilt, LowsFit, AreLow, ranges_by, kids, Visits};
-ghost use Rattle.lh_plan.specs.declared.plan.PlanChild.{PlanChild as Child};
+ghost use Rattle.lh_elab_plan.specs.declared.plan.PlanChild.{PlanChild as Child};
 
 use crate::measure::MAX_NESTING;
 use lh_bits::bits::Bits;
 use lh_design::{Design, Signal};
+use lh_elab_plan::plan::{Low, Plan, PlanChild, PlanSignal};
+use lh_elab_plan::statics::Base;
+use lh_elab_plan::width::width_of;
 use lh_eval::instance::Instance;
-use lh_names::name::Name;
-use lh_plan::plan::{Low, Plan, PlanChild, PlanSignal};
-use lh_plan::statics::Base;
-use lh_plan::width::width_of;
 use lh_types::list::ListOf;
 use lh_types::part::{Range, RangeList};
 use lh_types::ty::{NoMemory, Ty, TyKind};
 use lh_unit::inst::{Arg, UnitId};
 use lh_unit::module::Module;
+use lh_unit_names::name::Name;
 use std::alloc::Global;
 
 /// An instance that is still to be visited.

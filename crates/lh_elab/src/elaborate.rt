@@ -9,7 +9,7 @@ ghost use Rattle.lh_elab.specs.Refusals.{FaultWithin};
 use crate::build::{Building, Pending};
 use crate::{ElabFault, first_refusal};
 use lh_design::Design;
-use lh_plan::plan::{Plan, plan_of};
+use lh_elab_plan::plan::{Plan, plan_of};
 use lh_types::ty::NoMemory;
 use lh_unit::inst::UnitId;
 use lh_unit::module::Module;

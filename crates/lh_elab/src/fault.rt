@@ -1,8 +1,8 @@
 //! Why a top unit has no design.
 
-use lh_descent::DescentFault;
 use lh_types::ty::NoMemory;
 use lh_unit::inst::UnitId;
+use lh_unit_graph::DescentFault;
 use thiserror::Error;
 
 /// Why a top unit has no design: the first that holds, in this order.

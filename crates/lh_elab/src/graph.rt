@@ -3,7 +3,7 @@ ghost use Rattle.std.specs.Prelude.{◌≡◌, ◌<◌, ◌+◌, ◌++◌, ◌�
 ghost use Rattle.lh_unit.specs.Arena.{IsArena, unit_count, kind_at};
 ghost use Rattle.lh_elab.specs.Graph.{no_node, node_after, node_of, IsGraph, max_counted};
 
-use lh_plan::width::width;
+use lh_elab_plan::width::width;
 use lh_types::list::ListOf;
 use lh_types::ty::NoMemory;
 use lh_unit::inst::{BlockId, Inst, UnitId, UnitKind};

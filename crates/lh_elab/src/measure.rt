@@ -3,8 +3,8 @@ ghost use Rattle.std.specs.Prelude.{◌≡◌, ◌+◌, min};
 ghost use Rattle.lh_elab.specs.Measures.{measuring};
 
 use crate::graph::{HierarchyNode, counted};
-use lh_descent::Measured;
 use lh_unit::inst::UnitId;
+use lh_unit_graph::Measured;
 
 /// How many instances may nest, the top counted.
 pub const MAX_NESTING: u32 = 64;

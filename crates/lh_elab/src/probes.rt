@@ -11,15 +11,15 @@ ghost use Rattle.lh_unit.specs.Within.{Each};
 ghost use Rattle.lh_unit.specs.declared.inst.InstId.{InstId as Id};
 ghost use Rattle.lh_elab.specs.Answer.{IsDesignOf};
 ghost use Rattle.lh_elab.specs.Probed.{AreProbes, ProbeLine, ProbesOf, probe_by, above};
-ghost use Rattle.lh_plan.specs.Statics.{by_of, HasSlots, StaticsFollow};
+ghost use Rattle.lh_elab_plan.specs.Statics.{by_of, HasSlots, StaticsFollow};
 ghost use Rattle.lh_elab.specs.declared.probes.Probe.{Probe as Sensed};
 
 use crate::build::{base_lo, few_bits};
 use lh_design::Design;
+use lh_elab_plan::plan::parts;
+use lh_elab_plan::statics::{Base, Statics};
 use lh_eval::instance::Instance;
 use lh_eval::operands::part_in;
-use lh_plan::plan::parts;
-use lh_plan::statics::{Base, Statics};
 use lh_types::list::ListOf;
 use lh_types::part::{Range, RangeList};
 use lh_types::ty::NoMemory;

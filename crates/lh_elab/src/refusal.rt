@@ -10,10 +10,10 @@ ghost use Rattle.lh_elab.specs.Measures.{fault_of};
 use crate::fault::ElabFault;
 use crate::graph::{MAX_BITS, counted, graph};
 use crate::measure::{MAX_INSTANCES, MAX_NESTING, Measure};
-use lh_descent::{DescentFault, Search};
-use lh_plan::width::width_of;
+use lh_elab_plan::width::width_of;
 use lh_unit::inst::{Arg, UnitId, UnitKind};
 use lh_unit::module::Module;
+use lh_unit_graph::{DescentFault, Search};
 use std::alloc::Global;
 
 /// The first reason why a top unit has no design; where there is none, how many bits the signals of its design have.

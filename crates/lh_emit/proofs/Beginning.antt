@@ -11,14 +11,14 @@ use Rattle.lh_term.specs.declared.part.Part.{Part}
 use Rattle.lh_term.specs.declared.term.TermId.{TermId}
 use Rattle.lh_term.specs.declared.term.Node.{Node}
 use Rattle.lh_term.proofs.Arenas.{map_length}
-use Rattle.lh_emission.specs.Emitted.{Source, nothing_emitted, whole_name}
-use Rattle.lh_body.specs.Lines.{naming, line_text, arg_names, HasRoom, BeginsWith, AddsArg, LinesAreEmitted}
+use Rattle.lh_emit_def.specs.Emitted.{Source, nothing_emitted, whole_name}
+use Rattle.lh_emit_body.specs.Lines.{naming, line_text, arg_names, HasRoom, BeginsWith, AddsArg, LinesAreEmitted}
 use Rattle.lh_emit.specs.Begun.{HasArgs}
 use Rattle.lh_emit.specs.Emitting.{ArgumentsFirst, IsEmitted}
 use Rattle.lh_emit.specs.Parts.{part_in, KnowsParts}
 use Rattle.lh_emit.specs.Values.{value_in}
 use Rattle.lh_emit.specs.declared.emitter.Emitter.{Emitter}
-use Rattle.lh_body.specs.declared.lines.Lines.{Lines}
+use Rattle.lh_emit_body.specs.declared.lines.Lines.{Lines}
 use Rattle.lh_emit.specs.declared.parts.Parts.{Parts}
 use Rattle.lh_emit.specs.declared.values.Values.{Values}
 use Rattle.lh_emit.proofs.Knowing.{knows-none}

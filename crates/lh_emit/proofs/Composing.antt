@@ -23,15 +23,15 @@ use Rattle.lh_types.specs.declared.val.Val.TheVariants as val
 use Rattle.lh_types.proofs.DatumRows.{parts_of-data_row}
 use Rattle.lh_emit.specs.declared.making.Needs.{Needs}
 use Rattle.lh_emit.specs.declared.making.Needs.TheVariants.{Parts, Chosen}
-use Rattle.lh_body.specs.declared.lines.EmitFault.{EmitFault}
-use Rattle.lh_body.specs.declared.lines.EmitFault.TheVariants as fault
+use Rattle.lh_emit_body.specs.declared.lines.EmitFault.{EmitFault}
+use Rattle.lh_emit_body.specs.declared.lines.EmitFault.TheVariants as fault
 use Rattle.lh_term.proofs.Arenas.{ids_more, map_append}
 use Rattle.lh_term.proofs.Swaps.{tree_grown, in_grown, grows_on}
-use Rattle.lh_emission.specs.Needs.{operands_in, pair_of}
-use Rattle.lh_emission.proofs.Computing.{array-parts, tuple-parts}
+use Rattle.lh_emit_def.specs.Needs.{operands_in, pair_of}
+use Rattle.lh_emit_def.proofs.Computing.{array-parts, tuple-parts}
 use Rattle.lh_emit.specs.Making.{AreMade, HasNoPair, NoPairOf, IsMadeBy, parts_in, AreConstants, AreChosen}
 use Rattle.lh_emit.specs.Tasks.{made_of, has_pair}
-use Rattle.lh_joins.proofs.Selecting.{trees-grown}
+use Rattle.lh_region_joins.proofs.Selecting.{trees-grown}
 
 -- ---- ids of an arena that grows
 

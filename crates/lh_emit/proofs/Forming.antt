@@ -14,13 +14,13 @@ use Rattle.lh_term.specs.Tree.{Tree, TreeRow, constant, past_of, now_of, operati
 use Rattle.lh_term.specs.Types.{FitsTerm, IsTyped, AreTyped, type_of, types_of, element_of, row_result, value_type}
 use Rattle.lh_term.specs.Make.{is_constant, value_in}
 use Rattle.lh_term.specs.declared.part.Part.{Part}
-use Rattle.lh_emission.specs.Emitted.{Source, Emitted, gives_term, signal, need_part}
-use Rattle.lh_emission.specs.Entities.{choices_fit, all_choices_fit}
-use Rattle.lh_emission.specs.Needs.{gives_operation, constants, operands_in, pair_of, writes_result, types_of_all}
+use Rattle.lh_emit_def.specs.Emitted.{Source, Emitted, gives_term, signal, need_part}
+use Rattle.lh_emit_def.specs.Entities.{choices_fit, all_choices_fit}
+use Rattle.lh_emit_def.specs.Needs.{gives_operation, constants, operands_in, pair_of, writes_result, types_of_all}
 use Rattle.lh_term.specs.Leaves.{AllParts, AllPartsIn}
-use Rattle.lh_emission.specs.Ways.{IsGiven, IsReached}
-use Rattle.lh_emission.proofs.Computing.{pair-constant, pair-else, array-parts, tuple-parts}
-use Rattle.lh_emission.proofs.Pairs.{pair-typed, pair-constant_typed}
+use Rattle.lh_emit_def.specs.Ways.{IsGiven, IsReached}
+use Rattle.lh_emit_def.proofs.Computing.{pair-constant, pair-else, array-parts, tuple-parts}
+use Rattle.lh_emit_def.proofs.Pairs.{pair-typed, pair-constant_typed}
 use Rattle.lh_emit.specs.Making.{form_of, IsProbed}
 use Rattle.lh_emit.specs.Tasks.{made_of, makes, has_pair}
 use Rattle.lh_emit.specs.declared.making.Form.{Form}

@@ -22,10 +22,10 @@ use Rattle.lh_term.specs.declared.part.Part.{Part}
 use Rattle.lh_term.specs.declared.term.TermId.{TermId}
 use Rattle.lh_term.specs.declared.term.Node.{Node}
 use Rattle.lh_term.proofs.Swaps.{tree_grown, in_grown}
-use Rattle.lh_emission.specs.Emitted.{Source, Emitted, gives_term, with_term, next_name, whole_name, signal, typed, need_part}
-use Rattle.lh_emission.specs.Entities.{max_lines, choices_fit}
-use Rattle.lh_emission.specs.Needs.{operation_text, types_of_all}
-use Rattle.lh_body.specs.Lines.{naming, most_lines, values_alone, LinesAreEmitted, HasRoom, NamesGrow, GivesValue}
+use Rattle.lh_emit_def.specs.Emitted.{Source, Emitted, gives_term, with_term, next_name, whole_name, signal, typed, need_part}
+use Rattle.lh_emit_def.specs.Entities.{max_lines, choices_fit}
+use Rattle.lh_emit_def.specs.Needs.{operation_text, types_of_all}
+use Rattle.lh_emit_body.specs.Lines.{naming, most_lines, values_alone, LinesAreEmitted, HasRoom, NamesGrow, GivesValue}
 use Rattle.lh_emit.specs.Emitting.{ArgumentsFirst, IsEmitted}
 use Rattle.lh_emit.specs.Making.{AreMade, HasNoPair, form_of, IsProbed}
 use Rattle.lh_emit.specs.Operands.{with_type}
@@ -36,14 +36,14 @@ use Rattle.lh_emit.specs.Underway.{TakesPart, IsReady, IsInstOf, IsMade, IsTooMu
 use Rattle.std.specs.Prelude.{Result, Ok, Err}
 use Rattle.std.specs.Result.{IsErrAnd}
 use Rattle.std.proofs.lemmas.Option.{slice_get_within}
-use Rattle.lh_body.specs.declared.lines.EmitFault.{EmitFault}
-use Rattle.lh_body.specs.declared.lines.EmitFault.TheVariants as fault
+use Rattle.lh_emit_body.specs.declared.lines.EmitFault.{EmitFault}
+use Rattle.lh_emit_body.specs.declared.lines.EmitFault.TheVariants as fault
 use Rattle.lh_term.proofs.Arenas.{map_length}
 use Rattle.lh_emit.specs.Values.{value_in, Keeps, ValuesNameTerms}
 use Rattle.lh_emit.specs.declared.emitter.Emitter.{Emitter}
-use Rattle.lh_body.specs.declared.lines.Lines.{Lines}
+use Rattle.lh_emit_body.specs.declared.lines.Lines.{Lines}
 use Rattle.lh_emit.specs.declared.making.Form.TheVariants.{Scalar, Joined}
-use Rattle.lh_origin.specs.declared.origin.Origin.{Origin}
+use Rattle.lh_emit_source.specs.declared.origin.Origin.{Origin}
 use Rattle.lh_emit.specs.declared.parts.Parts.{Parts}
 use Rattle.lh_emit.specs.declared.values.Values.{Values}
 use Rattle.lh_emit.proofs.Forming.{scalar-makes, probe-makes, probe-reached, probe-fits, joined-makes, joined-type, made-fit, no-pair-fits}

@@ -13,14 +13,14 @@ use Rattle.lh_term.specs.Arena.{trees, tree_at, trees_at, ids_below, IsIn, AreIn
 use Rattle.lh_term.specs.declared.term.TermId.{TermId}
 use Rattle.lh_term.specs.declared.term.Node.{Node}
 use Rattle.lh_term.proofs.Swaps.{tree_grown, in_grown, grows_on}
-use Rattle.lh_emission.specs.Emitted.{Source, Emitted, term_name}
-use Rattle.lh_emission.specs.Entities.{max_lines, choices_fit}
-use Rattle.lh_emission.specs.Needs.{need}
-use Rattle.lh_emission.specs.Ways.{IsGiven}
-use Rattle.lh_body.specs.Lines.{naming, NamesGrow}
+use Rattle.lh_emit_def.specs.Emitted.{Source, Emitted, term_name}
+use Rattle.lh_emit_def.specs.Entities.{max_lines, choices_fit}
+use Rattle.lh_emit_def.specs.Needs.{need}
+use Rattle.lh_emit_def.specs.Ways.{IsGiven}
+use Rattle.lh_emit_body.specs.Lines.{naming, NamesGrow}
 use Rattle.lh_emit.specs.Emitting.{IsEmitted}
 use Rattle.lh_emit.specs.Making.{AreMade, HasNoPair}
-use Rattle.lh_origin.specs.Origins.{IsSource}
+use Rattle.lh_emit_source.specs.Origins.{IsSource}
 use Rattle.lh_emit.specs.Tasks.{made_of, makes, need_of, make_of, takes, AreReady, steps_size}
 use Rattle.lh_emit.specs.Underway.{step_of, steps_at, term_of, tops, IsTask, FitsTask, IsUnderway, CanGo, HasGone, Goes, IsTooMuch, GoesNot, IsReady, CanMake, IsMade, MakesTerm, IsTooMuchToMake, MakesNot, GoesOr, MakesOr, HasTerm, CanTakeTerm, GivesNoTerm, TakesTermOr}
 use Rattle.std.specs.Prelude.{Result, Ok, Err}
@@ -31,9 +31,9 @@ use Rattle.lh_emit.proofs.Stacking.{pushed}
 use Rattle.lh_emit.proofs.Walking.{grows-same, grows-then}
 use Rattle.lh_emit.specs.Values.{value_in}
 use Rattle.lh_emit.specs.declared.emitter.Emitter.{Emitter}
-use Rattle.lh_body.specs.declared.lines.EmitFault.{EmitFault}
-use Rattle.lh_body.specs.declared.lines.EmitFault.TheVariants as fault
-use Rattle.lh_origin.specs.declared.origin.Origin.{Origin}
+use Rattle.lh_emit_body.specs.declared.lines.EmitFault.{EmitFault}
+use Rattle.lh_emit_body.specs.declared.lines.EmitFault.TheVariants as fault
+use Rattle.lh_emit_source.specs.declared.origin.Origin.{Origin}
 use Rattle.lh_emit.specs.declared.tasks.Task.{Task}
 use Rattle.lh_emit.specs.declared.tasks.Task.TheVariants.{Need, Make}
 use Rattle.lh_emit.proofs.Forming.{fit-made, no-pair-fits, made-given}

@@ -12,8 +12,8 @@ use Rattle.lh_types.specs.Same.{nat_eq-refl, nat_eq-is}
 use Rattle.lh_term.specs.SameTree.{same_tree, same_tree-is, same_tree-refl}
 use Rattle.lh_term.specs.declared.term.TermId.{TermId}
 use Rattle.lh_term.specs.declared.term.Node.{Node}
-use Rattle.lh_emission.specs.Emitted.{Emitted, with_term}
-use Rattle.lh_body.specs.Lines.{naming}
+use Rattle.lh_emit_def.specs.Emitted.{Emitted, with_term}
+use Rattle.lh_emit_body.specs.Lines.{naming}
 use Rattle.lh_emit.specs.Values.{value_in, Keeps, ValuesNameTerms}
 use Rattle.lh_emit.specs.declared.values.Values.{Values}
 

@@ -17,9 +17,9 @@ use Rattle.lh_term.specs.Arena.{trees, tree_at, trees_at, ids_below, IsIn, AreIn
 use Rattle.lh_term.specs.declared.term.TermId.{TermId}
 use Rattle.lh_term.specs.declared.term.Node.{Node}
 use Rattle.lh_types.specs.Same.{and_both}
-use Rattle.lh_emission.specs.Emitted.{Emitted, term_name, bare}
-use Rattle.lh_emission.specs.Needs.{writes_each, writes_result, types_of_all, each_typed, first_typed, operation_text}
-use Rattle.lh_body.specs.Lines.{naming, values_alone}
+use Rattle.lh_emit_def.specs.Emitted.{Emitted, term_name, bare}
+use Rattle.lh_emit_def.specs.Needs.{writes_each, writes_result, types_of_all, each_typed, first_typed, operation_text}
+use Rattle.lh_emit_body.specs.Lines.{naming, values_alone}
 use Rattle.lh_emit.specs.Operands.{with_type, without_type, first_with_type}
 use Rattle.lh_emit.specs.Operations.{HaveValues, AreValues, each_with_type, operands_of}
 use Rattle.lh_emit.specs.Tasks.{HasName}

@@ -3,25 +3,25 @@ use Rattle.std.proofs.Common.{◌≡◌, ℕ, ◌<◌, Bool, true, false, List, 
 use Rattle.std.specs.Prelude.{Result, Ok, Err, IfOk, OnOk}
 use Rattle.std.specs.Result.{IfErr, IsErrAnd}
 use Rattle.lh_unit.specs.Naming.{Naming, value_text}
-use Rattle.lh_names.specs.declared.name.UnitName.{UnitName}
+use Rattle.lh_unit_names.specs.declared.name.UnitName.{UnitName}
 use Rattle.lh_unit.specs.declared.inst.ValueId.{ValueId}
 use Rattle.lh_term.specs.Tree.{Tree, now_of}
 use Rattle.lh_term.specs.Arena.{trees, tree_at, IsIn, OneId, Grows, StandsForTree}
 use Rattle.lh_term.specs.declared.part.Part.{Part}
 use Rattle.lh_term.specs.declared.term.TermId.{TermId}
 use Rattle.lh_term.specs.declared.term.Node.{Node}
-use Rattle.lh_emission.specs.Emitted.{Source, Emitted, term_name}
-use Rattle.lh_emission.specs.Entities.{max_lines, choices_fit}
-use Rattle.lh_emission.specs.Needs.{need}
-use Rattle.lh_emission.specs.Ways.{IsGiven, IsReached, WaitIsGiven}
-use Rattle.lh_body.specs.Lines.{naming, NamesGrow}
-use Rattle.lh_origin.specs.Origins.{IsOrigin, IsSource, source_by}
+use Rattle.lh_emit_def.specs.Emitted.{Source, Emitted, term_name}
+use Rattle.lh_emit_def.specs.Entities.{max_lines, choices_fit}
+use Rattle.lh_emit_def.specs.Needs.{need}
+use Rattle.lh_emit_def.specs.Ways.{IsGiven, IsReached, WaitIsGiven}
+use Rattle.lh_emit_body.specs.Lines.{naming, NamesGrow}
+use Rattle.lh_emit_source.specs.Origins.{IsOrigin, IsSource, source_by}
 use Rattle.lh_emit.specs.Emitting.{IsEmitted, CanNeed, IsNeeded, NeedsTerm, NeedsNot, CanProbe, NeedsNow, NeedsNowNot, CanReach, IsPartNeeded, NeedsPart, NeedsPartNot}
 use Rattle.lh_emit.specs.Underway.{CanTakePart, TakesPartOr, CanTakeTerm, HasTerm, TakesTermOr}
 use Rattle.lh_emit.specs.declared.emitter.Emitter.{Emitter}
-use Rattle.lh_body.specs.declared.lines.EmitFault.{EmitFault}
-use Rattle.lh_body.specs.declared.lines.EmitFault.TheVariants as fault
-use Rattle.lh_origin.specs.declared.origin.Origin.{Origin}
+use Rattle.lh_emit_body.specs.declared.lines.EmitFault.{EmitFault}
+use Rattle.lh_emit_body.specs.declared.lines.EmitFault.TheVariants as fault
+use Rattle.lh_emit_source.specs.declared.origin.Origin.{Origin}
 use Rattle.lh_emit.proofs.Giving.{emitted-grown}
 use Rattle.lh_emit.proofs.Sourcing.{source-of}
 

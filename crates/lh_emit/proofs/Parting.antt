@@ -12,27 +12,27 @@ use Rattle.lh_unit.specs.declared.inst.ValueId.{ValueId}
 use Rattle.lh_term.specs.Same.{same_part, same_part-is, same_part-refl}
 use Rattle.lh_term.specs.declared.part.Part.{Part}
 use Rattle.lh_term.specs.declared.term.Node.{Node}
-use Rattle.lh_emission.specs.Emitted.{PartStep, Source, Emitted, whole_name, name_if_whole, arg_name, with_part, takes_steps, unless_there, need_part, part_name}
-use Rattle.lh_emission.specs.Entities.{max_lines}
-use Rattle.lh_emission.specs.Ways.{StepsLead, IsReached}
+use Rattle.lh_emit_def.specs.Emitted.{PartStep, Source, Emitted, whole_name, name_if_whole, arg_name, with_part, takes_steps, unless_there, need_part, part_name}
+use Rattle.lh_emit_def.specs.Entities.{max_lines}
+use Rattle.lh_emit_def.specs.Ways.{StepsLead, IsReached}
 use Rattle.lh_term.specs.Parts.{whole_argument}
-use Rattle.lh_emission.proofs.Stepping.{step-well-to}
-use Rattle.lh_body.specs.Lines.{naming, most_lines, LinesAreEmitted}
+use Rattle.lh_emit_def.proofs.Stepping.{step-well-to}
+use Rattle.lh_emit_body.specs.Lines.{naming, most_lines, LinesAreEmitted}
 use Rattle.lh_emit.specs.Emitting.{ArgumentsFirst, IsEmitted}
-use Rattle.lh_origin.specs.Origins.{AreStepsOf, step_text, route_text, args_of, IsSource}
+use Rattle.lh_emit_source.specs.Origins.{AreStepsOf, step_text, route_text, args_of, IsSource}
 use Rattle.lh_emit.specs.Parts.{part_in, KeepsPart}
 use Rattle.lh_emit.specs.Steps.{walk, walk_name, AllData, StillWalks, Walks, WalksNot}
 use Rattle.std.specs.Result.{IsErrAnd}
 use Rattle.std.proofs.lemmas.Option.{slice_get_within}
-use Rattle.lh_body.specs.declared.lines.EmitFault.{EmitFault}
+use Rattle.lh_emit_body.specs.declared.lines.EmitFault.{EmitFault}
 use Rattle.lh_emit.specs.Underway.{TakesPart, CanTakePart, GivesNoPart, TakesPartOr, Looks, IsNewPart}
 use Rattle.lh_emit.specs.Whole.{is_whole}
 use Rattle.lh_emit.specs.Values.{ValuesNameTerms}
 use Rattle.lh_emit.specs.declared.emitter.Emitter.{Emitter}
-use Rattle.lh_body.specs.declared.lines.EmitFault.TheVariants as fault
-use Rattle.lh_body.specs.declared.lines.Lines.{Lines}
-use Rattle.lh_origin.specs.declared.origin.Origin.{Origin}
-use Rattle.lh_origin.specs.declared.origin.RouteStep.{RouteStep}
+use Rattle.lh_emit_body.specs.declared.lines.EmitFault.TheVariants as fault
+use Rattle.lh_emit_body.specs.declared.lines.Lines.{Lines}
+use Rattle.lh_emit_source.specs.declared.origin.Origin.{Origin}
+use Rattle.lh_emit_source.specs.declared.origin.RouteStep.{RouteStep}
 use Rattle.lh_emit.specs.declared.parts.Parts.{Parts}
 use Rattle.lh_emit.proofs.Knowing.{text-more, knows-more}
 use Rattle.lh_emit.proofs.Sourcing.{source-types}

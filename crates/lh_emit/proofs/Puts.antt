@@ -4,15 +4,15 @@ use Rattle.std.specs.Prelude.{Result, Ok, Err}
 use Rattle.lh_unit.specs.Naming.{inst_text}
 use Rattle.lh_unit.specs.declared.inst.Inst.{Inst}
 use Rattle.lh_term.specs.declared.term.Node.{Node}
-use Rattle.lh_emission.specs.Emitted.{Source, Emitted, puts}
-use Rattle.lh_body.specs.Lines.{naming, LinesAreEmitted, PutsOne}
-use Rattle.lh_body.specs.declared.lines.EmitFault.{EmitFault}
-use Rattle.lh_body.specs.declared.lines.EmitFault.TheVariants as fault
+use Rattle.lh_emit_def.specs.Emitted.{Source, Emitted, puts}
+use Rattle.lh_emit_body.specs.Lines.{naming, LinesAreEmitted, PutsOne}
+use Rattle.lh_emit_body.specs.declared.lines.EmitFault.{EmitFault}
+use Rattle.lh_emit_body.specs.declared.lines.EmitFault.TheVariants as fault
 use Rattle.lh_emit.specs.Emitting.{ArgumentsFirst, IsEmitted, PutsInst}
 use Rattle.lh_emit.specs.Parts.{KnowsParts}
 use Rattle.lh_emit.specs.Values.{ValuesNameTerms}
 use Rattle.lh_emit.specs.declared.emitter.Emitter.{Emitter}
-use Rattle.lh_body.specs.declared.lines.Lines.{Lines}
+use Rattle.lh_emit_body.specs.declared.lines.Lines.{Lines}
 
 -- the entity after the instruction
 pub puts-emitted : (ns : List Node) (s : Source) (x : Emitter) (e : Emitted) (i : Inst) (new : Lines) → IsEmitted ns s x e → PutsOne x.lines i new (Ok tt) →

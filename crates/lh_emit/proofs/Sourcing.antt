@@ -4,16 +4,16 @@ use Rattle.lh_types.specs.Types.{TypeTree}
 use Rattle.lh_unit.specs.Contents.{ArgText}
 use Rattle.lh_unit.specs.Naming.{Naming, arg_text, value_text}
 use Rattle.lh_unit.specs.declared.inst.Arg.{Arg}
-use Rattle.lh_names.specs.declared.name.UnitName.{UnitName}
+use Rattle.lh_unit_names.specs.declared.name.UnitName.{UnitName}
 use Rattle.lh_flat.specs.Flat.{flat_unit}
 use Rattle.lh_flat.specs.Reads.{flat_text}
 use Rattle.lh_term.specs.declared.part.Part.{Part}
-use Rattle.lh_emission.specs.Emitted.{Source}
-use Rattle.lh_emission.specs.Reached.{steps_in}
-use Rattle.lh_body.specs.Lines.{arg_names}
-use Rattle.lh_origin.specs.Origins.{AreStepsOf, IsOrigin, IsSource, args_of, source_by}
-use Rattle.lh_origin.specs.declared.origin.Origin.{Origin}
-use Rattle.lh_origin.specs.declared.origin.RouteStep.{RouteStep}
+use Rattle.lh_emit_def.specs.Emitted.{Source}
+use Rattle.lh_emit_def.specs.Reached.{steps_in}
+use Rattle.lh_emit_body.specs.Lines.{arg_names}
+use Rattle.lh_emit_source.specs.Origins.{AreStepsOf, IsOrigin, IsSource, args_of, source_by}
+use Rattle.lh_emit_source.specs.declared.origin.Origin.{Origin}
+use Rattle.lh_emit_source.specs.declared.origin.RouteStep.{RouteStep}
 
 arg-types : (f : Naming) (xs : List Arg) → map (λ (a : Arg). a.ty) xs ≡ map (λ (a : ArgText). a.ty) (map (arg_text f) xs)
 arg-types f [] = refl

@@ -9,9 +9,9 @@ use Rattle.lh_term.specs.Tree.{Tree, TreeRow, constant, past_of, now_of, operati
 use Rattle.lh_term.specs.SameTree.{same_tree, same_tree-refl}
 use Rattle.lh_term.specs.Make.{is_constant, value_in}
 use Rattle.lh_term.specs.declared.part.Part.{Part}
-use Rattle.lh_emission.specs.Emitted.{Source, Emitted, PartStep, gives_term, next_name, takes_steps, arg_name, unless_there, need_part}
-use Rattle.lh_emission.specs.Needs.{gives_operation, constants, need_value, need_values, operands_in, probe, pair_of, need_pair, need, need_all}
-use Rattle.lh_emission.proofs.Computing.{pair-constant, pair-else}
+use Rattle.lh_emit_def.specs.Emitted.{Source, Emitted, PartStep, gives_term, next_name, takes_steps, arg_name, unless_there, need_part}
+use Rattle.lh_emit_def.specs.Needs.{gives_operation, constants, need_value, need_values, operands_in, probe, pair_of, need_pair, need, need_all}
+use Rattle.lh_emit_def.proofs.Computing.{pair-constant, pair-else}
 use Rattle.lh_emit.specs.Tasks.{made_of, makes, Step, need_of, make_of, needs, takes, HasName, AreReady, datum_size, datum_sizes, tree_size, row_size, trees_size, step_size, steps_size}
 
 -- ---- what an entity keeps as it grows

@@ -12,18 +12,18 @@ use Rattle.lh_unit.specs.declared.inst.ValueId.{ValueId}
 use Rattle.lh_unit.specs.declared.inst.Inst.{Inst}
 use Rattle.lh_unit.specs.declared.inst.Inst.TheVariants as inst
 use Rattle.lh_term.specs.declared.part.Part.{Part}
-use Rattle.lh_emission.specs.Emitted.{PartStep, Source, Emitted, gives, next_name, typed, takes_steps, with_part}
-use Rattle.lh_body.specs.Lines.{naming, line_text, most_lines, values_alone, LinesAreEmitted, HasRoom, NamesGrow, GivesValue, GivesOne}
+use Rattle.lh_emit_def.specs.Emitted.{PartStep, Source, Emitted, gives, next_name, typed, takes_steps, with_part}
+use Rattle.lh_emit_body.specs.Lines.{naming, line_text, most_lines, values_alone, LinesAreEmitted, HasRoom, NamesGrow, GivesValue, GivesOne}
 use Rattle.std.specs.Prelude.{Result, Ok, Err}
 use Rattle.std.specs.Result.{IsErrAnd, IfErr}
 use Rattle.lh_emit.specs.Operands.{with_type}
-use Rattle.lh_origin.specs.Origins.{AreStepsOf, step_text, route_text}
+use Rattle.lh_emit_source.specs.Origins.{AreStepsOf, step_text, route_text}
 use Rattle.lh_emit.specs.Steps.{walk, walk_name, AllData, StillWalks, Walks, WalksNot}
-use Rattle.lh_body.specs.declared.lines.BodyLine.{BodyLine}
-use Rattle.lh_body.specs.declared.lines.EmitFault.{EmitFault}
-use Rattle.lh_body.specs.declared.lines.EmitFault.TheVariants as fault
-use Rattle.lh_body.specs.declared.lines.Lines.{Lines}
-use Rattle.lh_origin.specs.declared.origin.RouteStep.{RouteStep}
+use Rattle.lh_emit_body.specs.declared.lines.BodyLine.{BodyLine}
+use Rattle.lh_emit_body.specs.declared.lines.EmitFault.{EmitFault}
+use Rattle.lh_emit_body.specs.declared.lines.EmitFault.TheVariants as fault
+use Rattle.lh_emit_body.specs.declared.lines.Lines.{Lines}
+use Rattle.lh_emit_source.specs.declared.origin.RouteStep.{RouteStep}
 
 -- the steps to a part are steps, and then the part has the name
 pub takes-walk : (s : Source) (p : Part) (n : List ℕ) (xs : List PartStep) (e : Emitted) →

@@ -1,7 +1,7 @@
 -- An entity underway by ids beside the entity of the definition; and what need of a term or of a part adds to it.
 use Rattle.std.specs.Prelude.{◌≡◌, ◌⊎◌, ℕ, ◌<◌, List, length, Bool, true, false, Option, Some, None, Result, Ok, Err}
 use Rattle.std.specs.Option.{option_map}
-use Rattle.lh_names.specs.declared.name.UnitName.{UnitName}
+use Rattle.lh_unit_names.specs.declared.name.UnitName.{UnitName}
 use Rattle.lh_unit.specs.declared.inst.ValueId.{ValueId}
 use Rattle.lh_unit.specs.Naming.{Naming, value_text, inst_text}
 use Rattle.lh_unit.specs.declared.inst.Inst.{Inst}
@@ -10,19 +10,19 @@ use Rattle.lh_term.specs.Arena.{trees, tree_at, IsIn}
 use Rattle.lh_term.specs.declared.part.Part.{Part}
 use Rattle.lh_term.specs.declared.term.TermId.{TermId}
 use Rattle.lh_term.specs.declared.term.Node.{Node}
-use Rattle.lh_emission.specs.Emitted.{Source, Emitted, puts, term_name, part_name, need_part}
-use Rattle.lh_emission.specs.Needs.{need}
-use Rattle.lh_emission.specs.Entities.{max_lines, choices_fit}
-use Rattle.lh_emission.specs.Ways.{IsGiven, IsReached, WaitIsGiven}
-use Rattle.lh_body.specs.Lines.{most_lines, naming, LinesAreEmitted, HasRoom, NamesGrow}
-use Rattle.lh_origin.specs.Origins.{source_by, IsOrigin}
+use Rattle.lh_emit_def.specs.Emitted.{Source, Emitted, puts, term_name, part_name, need_part}
+use Rattle.lh_emit_def.specs.Needs.{need}
+use Rattle.lh_emit_def.specs.Entities.{max_lines, choices_fit}
+use Rattle.lh_emit_def.specs.Ways.{IsGiven, IsReached, WaitIsGiven}
+use Rattle.lh_emit_body.specs.Lines.{most_lines, naming, LinesAreEmitted, HasRoom, NamesGrow}
+use Rattle.lh_emit_source.specs.Origins.{source_by, IsOrigin}
 use Rattle.lh_emit.specs.Values.{ValuesNameTerms}
 use Rattle.lh_emit.specs.Parts.{KnowsParts}
-use Rattle.lh_origin.specs.declared.origin.Origin.{Origin}
+use Rattle.lh_emit_source.specs.declared.origin.Origin.{Origin}
 use Rattle.lh_emit.specs.declared.emitter.Emitter.{Emitter}
-use Rattle.lh_body.specs.declared.lines.EmitFault.{EmitFault}
-use Rattle.lh_body.specs.declared.lines.EmitFault.TheVariants as fault
-pub use Rattle.lh_body.specs.Bodies.{ArgumentsFirst}
+use Rattle.lh_emit_body.specs.declared.lines.EmitFault.{EmitFault}
+use Rattle.lh_emit_body.specs.declared.lines.EmitFault.TheVariants as fault
+pub use Rattle.lh_emit_body.specs.Bodies.{ArgumentsFirst}
 
 -- The instructions by ids are those of the definition; the terms and parts that have names there have values here, of these names; and each term that was emitted has only choices that fit.
 pub record IsEmitted (ns : List Node) (s : Source) (x : Emitter) (e : Emitted) : Type 0 where

@@ -12,9 +12,9 @@ use Rattle.lh_term.specs.Arena.{trees, tree_at, trees_at, IsIn, AreIn}
 use Rattle.lh_term.specs.declared.part.Part.{Part}
 use Rattle.lh_term.specs.declared.term.TermId.{TermId}
 use Rattle.lh_term.specs.declared.term.Node.{Node}
-use Rattle.lh_emission.specs.Needs.{pair_of}
-use Rattle.lh_body.specs.declared.lines.EmitFault.{EmitFault}
-use Rattle.lh_body.specs.declared.lines.EmitFault.TheVariants as fault
+use Rattle.lh_emit_def.specs.Needs.{pair_of}
+use Rattle.lh_emit_body.specs.declared.lines.EmitFault.{EmitFault}
+use Rattle.lh_emit_body.specs.declared.lines.EmitFault.TheVariants as fault
 use Rattle.lh_emit.specs.Tasks.{made_of, has_pair}
 use Rattle.lh_emit.specs.declared.making.Needs.{Needs}
 use Rattle.lh_emit.specs.declared.making.Needs.TheVariants.{Parts, Terms, Chosen}

@@ -10,7 +10,7 @@ use Rattle.lh_term.specs.declared.term.Node.{Node}
 use Rattle.lh_unit.specs.Within.{Each}
 use Rattle.lh_unit.specs.declared.inst.Typed.{Typed}
 use Rattle.lh_unit.specs.declared.inst.ValueId.{ValueId}
-use Rattle.lh_emission.specs.Needs.{writes_each, writes_result, types_of_all}
+use Rattle.lh_emit_def.specs.Needs.{writes_each, writes_result, types_of_all}
 use Rattle.lh_emit.specs.Operands.{with_type, first_with_type}
 use Rattle.lh_emit.specs.Values.{value_in}
 use Rattle.lh_emit.specs.declared.values.Values.{Values}

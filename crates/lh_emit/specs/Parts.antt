@@ -13,8 +13,8 @@ use Rattle.lh_unit.specs.declared.inst.ValueId.{ValueId}
 use Rattle.lh_term.specs.Same.{same_part, same_part-is, same_part_equiv}
 use Rattle.lh_term.specs.Parts.{extent_of}
 use Rattle.lh_term.specs.declared.part.Part.{Part}
-use Rattle.lh_emission.specs.Emitted.{Emitted, whole_name}
-use Rattle.lh_body.specs.Lines.{naming}
+use Rattle.lh_emit_def.specs.Emitted.{Emitted, whole_name}
+use Rattle.lh_emit_body.specs.Lines.{naming}
 use Rattle.lh_emit.specs.declared.parts.PartKey.{PartKey}
 use Rattle.lh_emit.specs.declared.parts.Parts.{Parts}
 

@@ -5,13 +5,13 @@ use Rattle.lh_unit.specs.Contents.{pure_text}
 use Rattle.lh_unit.specs.Naming.{value_text}
 use Rattle.lh_unit.specs.Within.{Each}
 use Rattle.lh_unit.specs.declared.inst.ValueId.{ValueId}
-use Rattle.lh_emission.specs.Emitted.{PartStep, Source, Emitted, gives, next_name, typed}
-use Rattle.lh_body.specs.Lines.{naming, most_lines, LinesAreEmitted, HasRoom, NamesGrow}
-use Rattle.lh_origin.specs.Origins.{AreStepsOf}
-use Rattle.lh_body.specs.declared.lines.Lines.{Lines}
-use Rattle.lh_body.specs.declared.lines.EmitFault.{EmitFault}
-use Rattle.lh_body.specs.declared.lines.EmitFault.TheVariants as fault
-use Rattle.lh_origin.specs.declared.origin.RouteStep.{RouteStep}
+use Rattle.lh_emit_def.specs.Emitted.{PartStep, Source, Emitted, gives, next_name, typed}
+use Rattle.lh_emit_body.specs.Lines.{naming, most_lines, LinesAreEmitted, HasRoom, NamesGrow}
+use Rattle.lh_emit_source.specs.Origins.{AreStepsOf}
+use Rattle.lh_emit_body.specs.declared.lines.Lines.{Lines}
+use Rattle.lh_emit_body.specs.declared.lines.EmitFault.{EmitFault}
+use Rattle.lh_emit_body.specs.declared.lines.EmitFault.TheVariants as fault
+use Rattle.lh_emit_source.specs.declared.origin.RouteStep.{RouteStep}
 
 -- the entity after steps from the value of this name
 abbrev pub walk : Source → List ℕ → List PartStep → Emitted → Emitted

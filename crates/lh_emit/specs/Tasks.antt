@@ -8,8 +8,8 @@ use Rattle.lh_unit.specs.Contents.{const_text}
 use Rattle.lh_unit.specs.Within.{Each}
 use Rattle.lh_term.specs.Tree.{Tree, TreeRow, constant, past_of, now_of, operation, choice_of, no_trees, more_trees}
 use Rattle.lh_term.specs.Types.{type_of}
-use Rattle.lh_emission.specs.Emitted.{Source, Emitted, gives_term, need_part}
-use Rattle.lh_emission.specs.Needs.{gives_operation, constants, operands_in, probe, pair_of, need}
+use Rattle.lh_emit_def.specs.Emitted.{Source, Emitted, gives_term, need_part}
+use Rattle.lh_emit_def.specs.Needs.{gives_operation, constants, operands_in, probe, pair_of, need}
 
 -- ---- one term
 

@@ -9,12 +9,12 @@ use Rattle.lh_term.specs.Arena.{trees, tree_at, trees_at, IsIn, AreIn}
 use Rattle.lh_term.specs.declared.part.Part.{Part}
 use Rattle.lh_term.specs.declared.term.TermId.{TermId}
 use Rattle.lh_term.specs.declared.term.Node.{Node}
-use Rattle.lh_emission.specs.Emitted.{Source, Emitted, gives_term, term_name, part_name, need_part}
-use Rattle.lh_emission.specs.Needs.{need}
-use Rattle.lh_emission.specs.Entities.{max_lines, choices_fit}
-use Rattle.lh_emission.specs.Ways.{IsGiven, IsReached}
-use Rattle.lh_body.specs.Lines.{naming, values_alone, NamesGrow}
-use Rattle.lh_origin.specs.Origins.{IsSource, args_of}
+use Rattle.lh_emit_def.specs.Emitted.{Source, Emitted, gives_term, term_name, part_name, need_part}
+use Rattle.lh_emit_def.specs.Needs.{need}
+use Rattle.lh_emit_def.specs.Entities.{max_lines, choices_fit}
+use Rattle.lh_emit_def.specs.Ways.{IsGiven, IsReached}
+use Rattle.lh_emit_body.specs.Lines.{naming, values_alone, NamesGrow}
+use Rattle.lh_emit_source.specs.Origins.{IsSource, args_of}
 use Rattle.lh_emit.specs.Parts.{part_in}
 use Rattle.lh_emit.specs.Whole.{is_whole}
 use Rattle.lh_types.specs.Types.{IsLimited}
@@ -22,9 +22,9 @@ use Rattle.lh_unit.specs.declared.inst.Arg.{Arg}
 use Rattle.lh_emit.specs.Emitting.{IsEmitted}
 use Rattle.lh_emit.specs.Tasks.{made_of, makes, has_pair, Step, need_of, make_of, takes, HasName, AreReady, steps_size}
 use Rattle.lh_emit.specs.declared.emitter.Emitter.{Emitter}
-use Rattle.lh_body.specs.declared.lines.EmitFault.{EmitFault}
-use Rattle.lh_body.specs.declared.lines.EmitFault.TheVariants as fault
-use Rattle.lh_origin.specs.declared.origin.Origin.{Origin}
+use Rattle.lh_emit_body.specs.declared.lines.EmitFault.{EmitFault}
+use Rattle.lh_emit_body.specs.declared.lines.EmitFault.TheVariants as fault
+use Rattle.lh_emit_source.specs.declared.origin.Origin.{Origin}
 use Rattle.lh_emit.specs.declared.tasks.Task.{Task}
 use Rattle.lh_emit.specs.declared.tasks.Task.TheVariants.{Need, Make}
 

@@ -7,8 +7,8 @@ use Rattle.lh_term.specs.declared.term.Node.{Node}
 use Rattle.lh_term.specs.declared.term.TermId.{TermId}
 use Rattle.lh_unit.specs.Naming.{value_text}
 use Rattle.lh_unit.specs.declared.inst.ValueId.{ValueId}
-use Rattle.lh_emission.specs.Emitted.{Emitted}
-use Rattle.lh_body.specs.Lines.{naming}
+use Rattle.lh_emit_def.specs.Emitted.{Emitted}
+use Rattle.lh_emit_body.specs.Lines.{naming}
 use Rattle.lh_emit.specs.declared.values.Values.{Values}
 
 -- the value of a term, where it has one

@@ -11,7 +11,7 @@ ghost use Rattle.lh_unit.specs.Within.{Each};
 ghost use Rattle.lh_emit.specs.Making as making;
 ghost use Rattle.lh_emit.specs.Making.{AreMade, HasNoPair, parts_in, IsProbed, AreConstants, AreChosen, NoPairOf, IsMadeBy};
 
-use lh_body::lines::EmitFault;
+use lh_emit_body::lines::EmitFault;
 use lh_term::part::Part;
 use lh_term::term::{Term, TermId, TermList};
 use lh_term::terms::Terms;

@@ -2,7 +2,7 @@
 ghost use Rattle.std.specs.Prelude.{◌≡◌, true, length, Some, IfOk};
 ghost use Rattle.std.specs.Option.{is_some};
 ghost use Rattle.lh_term.specs.Arena.{AreIn};
-ghost use Rattle.lh_emission.specs.Needs as needs;
+ghost use Rattle.lh_emit_def.specs.Needs as needs;
 ghost use Rattle.lh_emit.specs.Values.{value_in};
 ghost use Rattle.lh_emit.specs.Operations.{HaveValues, AreValues, each_with_type, operands_of};
 

@@ -2,13 +2,13 @@
 ghost use Rattle.std.specs.Prelude.{◌≡◌, ◌<◌, ◌∷◌, [], length, IfOk};
 ghost use Rattle.std.specs.Result.{IfErr};
 ghost use Rattle.lh_types.specs.Types.{IsData, signal_type};
-ghost use Rattle.lh_body.specs.Lines.{HasRoom};
+ghost use Rattle.lh_emit_body.specs.Lines.{HasRoom};
 ghost use Rattle.lh_emit.specs.Operands.{with_type};
 ghost use Rattle.lh_emit.specs.Steps.{AllData, Walks, WalksNot};
 
 use crate::operands::signal;
-use lh_body::lines::{EmitFault, Lines};
-use lh_origin::origin::{Route, RouteStep};
+use lh_emit_body::lines::{EmitFault, Lines};
+use lh_emit_source::origin::{Route, RouteStep};
 use lh_types::ty::NoMemory;
 use lh_unit::inst::{Inst, OperandList, TypedList, ValueId};
 use std::alloc::Global;

@@ -19,15 +19,15 @@ use Rattle.lh_bits.proofs.LawProofs.{value_gives_bits}
 use Rattle.lh_types.proofs.PartLemmas.{step_part-within}
 use Rattle.lh_ops.proofs.TypeLemmas.{results_fit_lem}
 use Rattle.lh_unit.specs.Contents.{OperandText, pure_text, UnitText}
-use Rattle.lh_names.specs.Names.{same_name}
+use Rattle.lh_unit_names.specs.Names.{same_name}
 use Rattle.lh_unit.specs.Typing.{value_type, carried, operation_type, first_type}
 use Rattle.lh_unit.specs.Held.{Held, datum_held, cell_held, part_held, Env, as_part, part_at, data_at, bits_in, as_cell}
 use Rattle.lh_unit.specs.Effects.{step_of, within, stepped, signal_part, operated, read_bits}
 use Rattle.lh_unit.specs.Hierarchy.{if_held}
-use Rattle.lh_names.proofs.NameLists.{same_name-is}
-use Rattle.lh_formed.specs.Operands.{IsOf, RowIs}
-use Rattle.lh_formed.specs.Parts.{LeadsTo, TakesPart, HasPart}
-use Rattle.lh_formed.proofs.PartsLaw.{parts_have_ranges}
+use Rattle.lh_unit_names.proofs.NameLists.{same_name-is}
+use Rattle.lh_verify_laws.specs.Operands.{IsOf, RowIs}
+use Rattle.lh_verify_laws.specs.Parts.{LeadsTo, TakesPart, HasPart}
+use Rattle.lh_verify_laws.proofs.PartsLaw.{parts_have_ranges}
 use Rattle.lh_eval.specs.Fitting.{IsValueType, FitsHeld, Fits}
 use Rattle.lh_eval.specs.Sound.{HasOperands}
 use Rattle.lh_eval.specs.ResultsFit.{GivenFits, ConstantsFit, OperationsFit, ProbesFit, HeldStillFits}

@@ -5,7 +5,7 @@ use Rattle.std.proofs.lemmas.List.{length-set, length-replicate}
 use Rattle.lh_types.specs.Values.{Datum}
 use Rattle.lh_unit.specs.Held.{Held, Env, as_datum, as_cell, as_part, as_delay, as_test, datum_at, data_at, front}
 use Rattle.lh_unit.specs.Effects.{condition_at}
-use Rattle.lh_names.specs.Names.{same_name}
+use Rattle.lh_unit_names.specs.Names.{same_name}
 use Rattle.lh_unit.specs.Arena.{Arena, naming, value_count, value_name_at}
 use Rattle.lh_unit.specs.Naming.{value_text, maybe_text, operand_text}
 use Rattle.lh_unit.specs.Within.{Each}

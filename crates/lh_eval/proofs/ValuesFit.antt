@@ -22,7 +22,7 @@ use Rattle.lh_unit.specs.Typing.{first_type, with_type, operand_types, array_mad
 use Rattle.lh_unit.specs.TypingRows.{class_row, shifts, selects, takes_part, puts_part, part_type}
 use Rattle.lh_unit.specs.Held.{Held, datum_held, Env, as_datum, datum_at, data_at, front, as_test}
 use Rattle.lh_unit.specs.Within.{Each}
-use Rattle.lh_formed.specs.Operands.{IsOf, IsLike, IsWritten, OperationIs, RowIs}
+use Rattle.lh_verify_laws.specs.Operands.{IsOf, IsLike, IsWritten, OperationIs, RowIs}
 use Rattle.lh_eval.specs.Fitting.{IsValueType, Fits}
 use Rattle.lh_eval.specs.Sound.{ClassHasOperands, HasOperands, OperandsFitRows}
 use Rattle.lh_eval.proofs.TypesMade.{array-made, tuple-made}

@@ -18,8 +18,8 @@ use Rattle.lh_unit.specs.Effects.{condition_at, drive_due, drive_when, driven}
 use Rattle.lh_unit.specs.Held.{datum_held, Env, datum_at, delay_at, part_at}
 use Rattle.lh_unit.specs.Within.{Each}
 use Rattle.lh_unit.proofs.Lists.{Each-of-map}
-use Rattle.lh_formed.specs.Operands.{RowIs, IsOf}
-use Rattle.lh_formed.proofs.EachItem.{each-split}
+use Rattle.lh_verify_laws.specs.Operands.{RowIs, IsOf}
+use Rattle.lh_verify_laws.proofs.EachItem.{each-split}
 use Rattle.lh_eval.specs.Fitting.{Fits}
 use Rattle.lh_eval.specs.Wishing.{WishWithin, BitsWithin}
 use Rattle.lh_eval.specs.WishOf.{bits_due, writes_wish}

@@ -9,8 +9,8 @@ use Rattle.lh_unit.specs.Typing.{value_type, carried, constant_type, operation_t
 use Rattle.lh_unit.specs.Held.{Held, datum_held, Env}
 use Rattle.lh_unit.specs.Effects.{operated, probed}
 use Rattle.lh_unit.specs.Hierarchy.{if_held}
-use Rattle.lh_formed.specs.Operands.{RowIs}
-use Rattle.lh_formed.specs.Parts.{HasPart}
+use Rattle.lh_verify_laws.specs.Operands.{RowIs}
+use Rattle.lh_verify_laws.specs.Parts.{HasPart}
 use Rattle.lh_eval.specs.Fitting.{FitsHeld, Fits}
 use Rattle.lh_eval.specs.Sound.{IsWithinWidth, HasOperands}
 

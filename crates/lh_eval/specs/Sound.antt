@@ -9,9 +9,9 @@ use Rattle.lh_unit.specs.Contents.{OperandText, InstText, const_text, pure_text,
 use Rattle.lh_unit.specs.Typing.{value_type, result_type}
 use Rattle.lh_types.specs.ApplyTypes.{FitsOp}
 use Rattle.lh_unit.specs.Held.{Env, data_at}
-use Rattle.lh_formed.specs.Operands.{RowIs}
+use Rattle.lh_verify_laws.specs.Operands.{RowIs}
 use Rattle.lh_eval.specs.Fitting.{Fits}
-use Rattle.lh_formed.specs.Parts.{HasPart}
+use Rattle.lh_verify_laws.specs.Parts.{HasPart}
 
 -- a constant is below 2 ^ its width
 abbrev pub IsWithinWidth : Datum → Type 0

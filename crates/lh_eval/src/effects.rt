@@ -17,12 +17,12 @@ use crate::held::{Held, Slots};
 use crate::operands::{condition_in, datum_in, delay_in, part_in};
 use lh_bits::bits::Bits;
 use lh_bits::layout::{from_bits, to_bits};
+use lh_eval_wishes::wishes::Wishes;
 use lh_time::{Delay, Instant, due};
 use lh_types::part::Range;
 use lh_types::ty::{NoMemory, Ty};
 use lh_types::val::Val;
 use lh_unit::inst::{Typed, ValueId};
-use lh_wishes::wishes::Wishes;
 use std::alloc::Global;
 
 /// What a `prb` gives, where the signals have these bits: the value that the bits of its operand's part have. `None` where

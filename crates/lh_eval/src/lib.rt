@@ -12,4 +12,4 @@ mod put;
 mod seen;
 mod types;
 
-pub use lh_wishes::wishes;
+pub use lh_eval_wishes::wishes;

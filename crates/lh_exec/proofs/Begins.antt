@@ -24,9 +24,9 @@ use Rattle.lh_eval.specs.Wishing.{WishWithin}
 use Rattle.lh_eval.proofs.Holding.{holds-nothing}
 use Rattle.lh_eval.proofs.BeginSteps.{args-held}
 use Rattle.lh_eval.proofs.Wishing.{writes-within}
-use Rattle.lh_sound.specs.Ranges.{RangesFit, arg_types}
-use Rattle.lh_formed.proofs.EachItem.{each-split}
-use Rattle.lh_sound.proofs.FitLaws.{process-begins}
+use Rattle.lh_eval_laws.specs.Ranges.{RangesFit, arg_types}
+use Rattle.lh_verify_laws.proofs.EachItem.{each-split}
+use Rattle.lh_eval_laws.proofs.FitLaws.{process-begins}
 use Rattle.lh_exec.specs.declared.machine.UnitFrame.{UnitFrame}
 use Rattle.lh_exec.specs.declared.machine.Call.{Call}
 use Rattle.lh_exec.specs.declared.machine.Machine.{Machine}

@@ -11,12 +11,12 @@ use Rattle.lh_unit.specs.Naming.{kind_text}
 use Rattle.lh_unit.specs.WellFormed.{in_entity, IsWellFormed}
 use Rattle.lh_unit.specs.declared.inst.UnitKind.{UnitKind}
 use Rattle.lh_unit.specs.declared.inst.UnitKind.TheVariants as kind
-use Rattle.lh_formed.proofs.There.{first-name}
+use Rattle.lh_verify_laws.proofs.There.{first-name}
 use Rattle.lh_eval.specs.Holding.{Holds}
-use Rattle.lh_sound.specs.Ranges.{RangesFit, arg_types}
-use Rattle.lh_sound.proofs.FindingPass as passes
-use Rattle.lh_sound.proofs.FitLaws.{of-unit, unit-is-sound}
-use Rattle.lh_sound.proofs.SoundLines.{items-printable}
+use Rattle.lh_eval_laws.specs.Ranges.{RangesFit, arg_types}
+use Rattle.lh_eval_laws.proofs.FindingPass as passes
+use Rattle.lh_eval_laws.proofs.FitLaws.{of-unit, unit-is-sound}
+use Rattle.lh_eval_laws.proofs.SoundLines.{items-printable}
 use Rattle.lh_exec.specs.declared.state.Stand as declared
 use Rattle.lh_exec.specs.declared.state.Stand.TheVariants as stand
 use Rattle.lh_exec.specs.Standing.{scene_of}

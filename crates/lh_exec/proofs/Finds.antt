@@ -7,28 +7,28 @@ use Rattle.std.proofs.lemmas.Option.{same_Some, none-some}
 use Rattle.lh_time.specs.declared.Instant.{Instant}
 use Rattle.lh_types.specs.Types.{TypeTree}
 use Rattle.lh_types.specs.Values.{Datum}
-use Rattle.lh_names.specs.declared.name.UnitName.{UnitName}
+use Rattle.lh_unit_names.specs.declared.name.UnitName.{UnitName}
 use Rattle.lh_unit.specs.Contents.{OperandText, InstText, const_text, pure_text, var_text, ld_text, st_text, sig_text, prb_text, drv_text, reg_text, child_text, call_text, phi_text, br_text, branch_text, wait_text, halt_text, ret_text, LineText, UnitText, ItemText}
-use Rattle.lh_names.specs.Names.{same_name}
+use Rattle.lh_unit_names.specs.Names.{same_name}
 use Rattle.lh_unit.specs.Named.{function_named}
-use Rattle.lh_names.specs.UnitNames.{is_assert}
+use Rattle.lh_unit_names.specs.UnitNames.{is_assert}
 use Rattle.lh_unit.specs.Held.{datum_held, Env, nothing_held, with_args, datum_at, cell_at, data_at, parts_at, test_at}
 use Rattle.lh_unit.specs.Kinds.{used, uses, all_used, maybe_used, data_or_time_needed, time_needed, signal_needed}
 use Rattle.lh_unit.specs.WellFormed.{in_function, values_named, assert_args}
 use Rattle.lh_unit.specs.Places.{is_terminator, leads_to}
 use Rattle.lh_unit.specs.Activation.{Scene, waits, Control, Caller, Point, entered, asserted, called, given_back, chosen, waiting, wake_at, functions}
 use Rattle.lh_unit.specs.Within.{Each}
-use Rattle.lh_formed.specs.Calls.{ArgumentsAre, FunctionIsRight, AssertIsRight}
-use Rattle.lh_formed.specs.KindsOf.{HasTypeOfKind}
-use Rattle.lh_formed.specs.Operands.{ReturnIs}
-use Rattle.lh_formed.proofs.EachItem.{each-split}
-use Rattle.lh_sound.proofs.Finding.{some-of, is-some, value-at, test-at}
-use Rattle.lh_sound.proofs.FindingPass.{AllHeld, finds-one}
-use Rattle.lh_formed.specs.Defined.{IsThere}
-use Rattle.lh_formed.proofs.AtPlaces.{place-at}
-use Rattle.lh_formed.proofs.There.{first-name, second-name}
-use Rattle.lh_sound.specs.Finding as sound
-use Rattle.lh_sound.proofs.FindingPass.{held-split}
+use Rattle.lh_verify_laws.specs.Calls.{ArgumentsAre, FunctionIsRight, AssertIsRight}
+use Rattle.lh_verify_laws.specs.KindsOf.{HasTypeOfKind}
+use Rattle.lh_verify_laws.specs.Operands.{ReturnIs}
+use Rattle.lh_verify_laws.proofs.EachItem.{each-split}
+use Rattle.lh_eval_laws.proofs.Finding.{some-of, is-some, value-at, test-at}
+use Rattle.lh_eval_laws.proofs.FindingPass.{AllHeld, finds-one}
+use Rattle.lh_verify_laws.specs.Defined.{IsThere}
+use Rattle.lh_verify_laws.proofs.AtPlaces.{place-at}
+use Rattle.lh_verify_laws.proofs.There.{first-name, second-name}
+use Rattle.lh_eval_laws.specs.Finding as sound
+use Rattle.lh_eval_laws.proofs.FindingPass.{held-split}
 use Rattle.lh_exec.specs.Sound.{LineRight, IsLabel, CallersFit, FunctionsRight, PointFits}
 use Rattle.lh_exec.specs.Steady.{FindsOperands}
 use Rattle.lh_exec.proofs.KeepsFit.{function-is}

@@ -8,13 +8,13 @@ use Rattle.lh_unit.specs.Spells.{TypedName, SpellsParam, input_of, SpellsHeader}
 use Rattle.lh_unit.specs.SpellsParts.{SpellsParts, SpellsList}
 use Rattle.lh_unit.specs.SpellsTypes.{IsValueType}
 use Rattle.lh_unit.specs.Within.{Each}
-use Rattle.lh_names.specs.declared.name.UnitName.{UnitName}
+use Rattle.lh_unit_names.specs.declared.name.UnitName.{UnitName}
 use Rattle.lh_unit.specs.declared.inst.UnitKind.{UnitKind}
 use Rattle.lh_unit.specs.declared.inst.UnitKind.TheVariants as kind
-use Rattle.lh_formed.specs.Operands.{IsOf}
-use Rattle.lh_formed.specs.KindsOf.{ArgsHaveKinds, HasTypeOfKind}
-use Rattle.lh_sound.specs.Units.{IsPort, HasPorts, UnitIsSound}
-use Rattle.lh_sound.proofs.FindingElab.{signal-of-kind}
+use Rattle.lh_verify_laws.specs.Operands.{IsOf}
+use Rattle.lh_verify_laws.specs.KindsOf.{ArgsHaveKinds, HasTypeOfKind}
+use Rattle.lh_eval_laws.specs.Units.{IsPort, HasPorts, UnitIsSound}
+use Rattle.lh_eval_laws.proofs.FindingElab.{signal-of-kind}
 
 abbrev HasKind : TypeTree → Type 0
 HasKind t = (k : Kind) × (kind_of t ≡ Some k)

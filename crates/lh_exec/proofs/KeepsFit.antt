@@ -6,8 +6,8 @@ use Rattle.lh_time.specs.declared.Instant.{Instant}
 use Rattle.lh_types.specs.Types.{TypeTree, pointer_type}
 use Rattle.lh_types.specs.Values.{Datum}
 use Rattle.lh_types.specs.Wish.{Wish}
-use Rattle.lh_names.specs.declared.name.UnitName.{UnitName}
-use Rattle.lh_names.specs.UnitNames.{same_unit_name, is_assert}
+use Rattle.lh_unit_names.specs.declared.name.UnitName.{UnitName}
+use Rattle.lh_unit_names.specs.UnitNames.{same_unit_name, is_assert}
 use Rattle.lh_unit.specs.Contents.{OperandText, EdgeText, InstText, const_text, pure_text, var_text, ld_text, st_text, sig_text, prb_text, drv_text, reg_text, child_text, call_text, phi_text, br_text, branch_text, wait_text, halt_text, ret_text, LineText, BlockText, ArgText, UnitText, ItemText, unit_text, declare_text, is_result_name}
 use Rattle.lh_unit.specs.Named.{block_of, label_or, function_named, unit_named, is_function}
 use Rattle.lh_unit.specs.Held.{Held, datum_held, cell_held, Env, nothing_held, with_held, with_args, datum_at, cell_at, data_at, front, test_at, parts_at, with_result}
@@ -15,17 +15,17 @@ use Rattle.lh_unit.specs.Effects.{operated, probed, driven}
 use Rattle.lh_unit.specs.Typing.{value_type, result_type, pointer_to, pointed}
 use Rattle.lh_unit.specs.Activation.{Scene, Stand, halted, Control, Caller, Point, Next, goes, ends, no_step, edge_from, result_put, phi_taken, phis_taken, entered, at_first, entry, gives, jumps, wishes, tells, stores, opens, asserted, called, given_back, goes_back, returns, chosen, ends_at, wake_at, waiting, executes, steps_by, step, functions}
 use Rattle.lh_unit.specs.Within.{Each}
-use Rattle.lh_names.proofs.NameLists.{same_name-refl}
-use Rattle.lh_formed.specs.Operands.{IsOf, RowIs, ReturnIs}
-use Rattle.lh_formed.specs.Calls.{ArgumentsAre, FunctionIsRight, AssertIsRight}
+use Rattle.lh_unit_names.proofs.NameLists.{same_name-refl}
+use Rattle.lh_verify_laws.specs.Operands.{IsOf, RowIs, ReturnIs}
+use Rattle.lh_verify_laws.specs.Calls.{ArgumentsAre, FunctionIsRight, AssertIsRight}
 use Rattle.lh_eval.specs.Fitting.{FitsHeld, Fits}
 use Rattle.lh_eval.specs.ResultsFit.{GivenFits}
 use Rattle.lh_eval.specs.Wishing.{WishWithin}
 use Rattle.lh_eval.proofs.ValuesFit.{datum-held}
 use Rattle.lh_eval.proofs.GivesFit.{constants-fit, operations-fit, probes-fit, held-still-fits, cell-held}
 use Rattle.lh_eval.proofs.Wishing.{driven-within}
-use Rattle.lh_sound.specs.Units.{HasItsType}
-use Rattle.lh_formed.proofs.EachItem.{each-split, edge-is}
+use Rattle.lh_eval_laws.specs.Units.{HasItsType}
+use Rattle.lh_verify_laws.proofs.EachItem.{each-split, edge-is}
 use Rattle.lh_exec.specs.Sound.{LineRight, UnitRight, FunctionsRight, ControlFits, GivesResult, ResultFits, CallersFit, lowest, PointFits, StandFits, DoneFits}
 use Rattle.lh_exec.proofs.Waiting.{waiting-fits}
 

@@ -8,23 +8,23 @@ use Rattle.lh_types.specs.Types.{TypeTree, void_type}
 use Rattle.lh_types.specs.Values.{Datum}
 use Rattle.lh_types.specs.Wish.{Wish}
 use Rattle.lh_types.specs.declared.part.Range.{Range}
-use Rattle.lh_names.specs.declared.name.UnitName.{UnitName}
+use Rattle.lh_unit_names.specs.declared.name.UnitName.{UnitName}
 use Rattle.lh_unit.specs.Contents.{OperandText, InstText, const_text, pure_text, var_text, ld_text, st_text, sig_text, prb_text, drv_text, reg_text, child_text, call_text, phi_text, br_text, branch_text, wait_text, halt_text, ret_text, LineText, UnitText, ItemText, is_result_name, defines_value}
 use Rattle.lh_unit.specs.Named.{function_named, is_function}
-use Rattle.lh_names.specs.UnitNames.{is_assert}
+use Rattle.lh_unit_names.specs.UnitNames.{is_assert}
 use Rattle.lh_unit.specs.Held.{Held, datum_held, cell_held, Env, with_held, with_result, datum_at, cell_at, data_at, parts_at, test_at}
 use Rattle.lh_unit.specs.Effects.{operated, probed, driven}
 use Rattle.lh_unit.specs.Places.{is_terminator}
 use Rattle.lh_unit.specs.SpellsInst.{gives_value, is_void}
 use Rattle.lh_unit.specs.Typing.{value_type}
 use Rattle.lh_unit.specs.Activation.{Scene, Stand, waits, halted, Control, Caller, Point, goes, no_step, entered, gives, jumps, wishes, tells, stores, opens, asserted, called, given_back, goes_back, returns, chosen, ends_at, wake_at, waiting, executes, steps_by, step, functions, max_calls}
-use Rattle.lh_formed.specs.Calls.{FunctionIsRight, AssertIsRight}
-use Rattle.lh_formed.specs.Operands.{ReturnIs}
-use Rattle.lh_formed.specs.Defined.{IsThere}
-use Rattle.lh_formed.proofs.There.{first-name, second-name}
-use Rattle.lh_sound.proofs.Finding.{some-of}
-use Rattle.lh_sound.proofs.FindingStatic.{result-is}
-use Rattle.lh_sound.proofs.FindingPass.{held-stays, result-stays, named-held}
+use Rattle.lh_verify_laws.specs.Calls.{FunctionIsRight, AssertIsRight}
+use Rattle.lh_verify_laws.specs.Operands.{ReturnIs}
+use Rattle.lh_verify_laws.specs.Defined.{IsThere}
+use Rattle.lh_verify_laws.proofs.There.{first-name, second-name}
+use Rattle.lh_eval_laws.proofs.Finding.{some-of}
+use Rattle.lh_eval_laws.proofs.FindingStatic.{result-is}
+use Rattle.lh_eval_laws.proofs.FindingPass.{held-stays, result-stays, named-held}
 use Rattle.lh_exec.specs.States.{WaitsIn}
 use Rattle.lh_exec.specs.Sound.{FunctionsRight, PointFits, CallersFit, GivesResult, StandHolds}
 use Rattle.lh_exec.proofs.Placed.{FunctionsSteady}

@@ -7,7 +7,7 @@ use Rattle.lh_types.specs.declared.op.Op.{Op}
 use Rattle.lh_types.specs.declared.ty.NoMemory.{NoMemory}
 use Rattle.lh_unit.specs.Contents.{UnitText}
 use Rattle.lh_unit.specs.Named.{function_named}
-use Rattle.lh_names.specs.UnitNames.{is_assert}
+use Rattle.lh_unit_names.specs.UnitNames.{is_assert}
 use Rattle.lh_unit.specs.Activation.{Scene, executes, tells, opens, asserted, called, returns, functions}
 use Rattle.lh_unit.specs.Arena.{Arena, InstPlaced, contents, naming, sizes, kind_at, blocks_at, unit_count, value_count, unit_name_at, unit_text_at}
 use Rattle.lh_unit.specs.Held.{data_at}
@@ -21,10 +21,10 @@ use Rattle.lh_unit.specs.declared.inst.ValueId.{ValueId}
 use Rattle.lh_unit.specs.declared.inst.Typed.{Typed}
 use Rattle.lh_unit.specs.declared.inst.Inst.{Inst}
 use Rattle.lh_unit.specs.declared.inst.Inst.TheVariants as inst
-use Rattle.lh_formed.specs.Calls.{AssertIsRight, FunctionIsRight}
+use Rattle.lh_verify_laws.specs.Calls.{AssertIsRight, FunctionIsRight}
 use Rattle.lh_eval.specs.Holding.{MaybeIn, part_in, datum_in}
 use Rattle.lh_eval.specs.Fitting.{Fits, OperandsFit, ProbeFits, DriveFits}
-use Rattle.lh_sound.proofs.SlotsFit.{operation-has, probe-has, drive-has}
+use Rattle.lh_eval_laws.proofs.SlotsFit.{operation-has, probe-has, drive-has}
 use Rattle.lh_exec.specs.declared.machine.Machine.{Machine}
 use Rattle.lh_exec.specs.declared.machine.Flow.{Flow}
 use Rattle.lh_exec.specs.Standing.{Does, InstLeads, scene_of}

@@ -8,7 +8,7 @@ use Rattle.std.proofs.lemmas.Option.{same_Some, none-some}
 use Rattle.lh_types.specs.Types.{TypeTree}
 use Rattle.lh_types.specs.Values.{Datum}
 use Rattle.lh_unit.specs.Contents.{EdgeText, InstText, phi_text, br_text, branch_text, wait_text, halt_text, ret_text, LineText, BlockText, ArgText, UnitText, ItemText, is_result_name, args_define, defines_value}
-use Rattle.lh_names.specs.Names.{same_name}
+use Rattle.lh_unit_names.specs.Names.{same_name}
 use Rattle.lh_unit.specs.Named.{block_of, label_or}
 use Rattle.lh_unit.specs.Held.{Held, datum_held, Env, with_held, with_result, with_args, datum_at}
 use Rattle.lh_unit.specs.Activation.{Control, edge_from, result_put, phi_taken, phis_taken, entered, entry, at_first}
@@ -19,18 +19,18 @@ use Rattle.lh_unit.specs.Typing.{is_value_type}
 use Rattle.lh_unit.specs.WellFormed.{is_phi, edges_naming}
 use Rattle.lh_unit.specs.Within.{Each}
 use Rattle.lh_unit.proofs.Lists.{Each-zip, Each-of-map}
-use Rattle.lh_names.proofs.NameLists.{same_name-is, same_name-refl}
-use Rattle.lh_formed.specs.Defined.{IsThere, IsThereOnEdge, OperandsThere}
-use Rattle.lh_formed.specs.Shape.{PhiIsRight}
-use Rattle.lh_formed.specs.Operands.{IsOf, RowIs}
+use Rattle.lh_unit_names.proofs.NameLists.{same_name-is, same_name-refl}
+use Rattle.lh_verify_laws.specs.Defined.{IsThere, IsThereOnEdge, OperandsThere}
+use Rattle.lh_verify_laws.specs.Shape.{PhiIsRight}
+use Rattle.lh_verify_laws.specs.Operands.{IsOf, RowIs}
 use Rattle.lh_unit.specs.declared.inst.UnitKind.TheVariants as kind
 use Rattle.lh_eval.specs.Fitting.{Fits}
-use Rattle.lh_formed.proofs.EachItem.{each-split}
-use Rattle.lh_formed.proofs.AtPlaces.{place-at}
-use Rattle.lh_formed.proofs.There.{there-before, there-after, last-leads}
-use Rattle.lh_sound.proofs.Finding.{value-at}
-use Rattle.lh_sound.proofs.FindingStatic.{result-is}
-use Rattle.lh_sound.proofs.FindingPass.{result-stays, args-stay, named-held}
+use Rattle.lh_verify_laws.proofs.EachItem.{each-split}
+use Rattle.lh_verify_laws.proofs.AtPlaces.{place-at}
+use Rattle.lh_verify_laws.proofs.There.{there-before, there-after, last-leads}
+use Rattle.lh_eval_laws.proofs.Finding.{value-at}
+use Rattle.lh_eval_laws.proofs.FindingStatic.{result-is}
+use Rattle.lh_eval_laws.proofs.FindingPass.{result-stays, args-stay, named-held}
 use Rattle.lh_exec.specs.States.{HoldsThere}
 use Rattle.lh_exec.specs.Sound.{LineRight, UnitRight}
 use Rattle.lh_exec.proofs.KeepsFit.{block-has, at-block}

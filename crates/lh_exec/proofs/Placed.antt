@@ -1,8 +1,8 @@
 -- What holds at each instruction of a function or a process of a well-formed module, by where it stands.
 use Rattle.std.proofs.Common.{◌≡◌, ℕ, ◌+◌, List, [], ◌∷◌, ◌++◌, length, map, Bool, true, false, if◌then◌else◌, Some, refl, subst}
 use Rattle.std.proofs.lemmas.Option.{same_Some, none-some}
-use Rattle.lh_names.specs.declared.name.UnitName.{UnitName}
-use Rattle.lh_names.specs.UnitNames.{same_unit_name}
+use Rattle.lh_unit_names.specs.declared.name.UnitName.{UnitName}
+use Rattle.lh_unit_names.specs.UnitNames.{same_unit_name}
 use Rattle.lh_unit.specs.Contents.{InstText, phi_text, LineText, BlockText, UnitText, ItemText, unit_text, declare_text, is_result_name, defines_value}
 use Rattle.lh_unit.specs.Named.{block_of, function_named, is_function}
 use Rattle.lh_unit.specs.Activation.{functions}
@@ -20,19 +20,19 @@ use Rattle.lh_unit.specs.declared.inst.UnitKind.TheVariants as kind
 use Rattle.lh_unit.proofs.Within.{Each-more}
 use Rattle.lh_unit.proofs.Lists.{Each-of-map}
 use Rattle.lh_unit.proofs.ContentsLemmas.{Each-by_blocks}
-use Rattle.lh_spelled.specs.ItemLines.{item_line}
-use Rattle.lh_spelled.specs.Printable.{HasInstLine, IsLabelled, HasShape, IsPrintable, IsPrintableItem}
-use Rattle.lh_formed.specs.Defined.{OperandsThere}
-use Rattle.lh_formed.specs.Shape.{EndsRight, PhiIsRight}
-use Rattle.lh_formed.proofs.Sound.{site_in}
-use Rattle.lh_formed.proofs.AtPlaces.{place-at, in-block}
-use Rattle.lh_formed.proofs.DefinedLaw.{all_there}
-use Rattle.lh_formed.proofs.OperandsLaw.{operands_are_defined}
-use Rattle.lh_formed.proofs.ShapeLaw.{terminators_end, phis_are_right, all_allowed}
-use Rattle.lh_formed.proofs.There.{as-process, function-runs}
-use Rattle.lh_formed.proofs.EachItem.{each-contained, each-split}
-use Rattle.lh_sound.proofs.SoundLines.{lines-printed}
-use Rattle.lh_sound.proofs.FindingPass.{line-gives}
+use Rattle.lh_text_laws.specs.ItemLines.{item_line}
+use Rattle.lh_text_laws.specs.Printable.{HasInstLine, IsLabelled, HasShape, IsPrintable, IsPrintableItem}
+use Rattle.lh_verify_laws.specs.Defined.{OperandsThere}
+use Rattle.lh_verify_laws.specs.Shape.{EndsRight, PhiIsRight}
+use Rattle.lh_verify_laws.proofs.Sound.{site_in}
+use Rattle.lh_verify_laws.proofs.AtPlaces.{place-at, in-block}
+use Rattle.lh_verify_laws.proofs.DefinedLaw.{all_there}
+use Rattle.lh_verify_laws.proofs.OperandsLaw.{operands_are_defined}
+use Rattle.lh_verify_laws.proofs.ShapeLaw.{terminators_end, phis_are_right, all_allowed}
+use Rattle.lh_verify_laws.proofs.There.{as-process, function-runs}
+use Rattle.lh_verify_laws.proofs.EachItem.{each-contained, each-split}
+use Rattle.lh_eval_laws.proofs.SoundLines.{lines-printed}
+use Rattle.lh_eval_laws.proofs.FindingPass.{line-gives}
 
 -- what holds at an instruction of a unit without a fault
 pub record PlaceRight (u : UnitText) (p : InstPlaceText) : Type 0 where

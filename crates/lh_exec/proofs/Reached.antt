@@ -7,10 +7,10 @@ use Rattle.lh_time.specs.declared.Instant.{Instant}
 use Rattle.lh_types.specs.Types.{TypeTree}
 use Rattle.lh_types.specs.Values.{Datum}
 use Rattle.lh_types.specs.Wish.{Wish}
-use Rattle.lh_names.specs.declared.name.UnitName.{UnitName}
+use Rattle.lh_unit_names.specs.declared.name.UnitName.{UnitName}
 use Rattle.lh_unit.specs.Contents.{OperandText, InstText, const_text, pure_text, var_text, ld_text, st_text, sig_text, prb_text, drv_text, reg_text, child_text, call_text, phi_text, br_text, branch_text, wait_text, halt_text, ret_text, LineText, UnitText, ItemText}
 use Rattle.lh_unit.specs.Named.{function_named}
-use Rattle.lh_names.specs.UnitNames.{is_assert}
+use Rattle.lh_unit_names.specs.UnitNames.{is_assert}
 use Rattle.lh_unit.specs.Held.{Held, datum_held, cell_held, Env, datum_at, cell_at, data_at, parts_at, test_at}
 use Rattle.lh_unit.specs.Effects.{operated, probed, driven}
 use Rattle.lh_unit.specs.Activation.{Scene, Stand, Control, Caller, Point, Activated, Next, goes, ends, no_step, entered, gives, jumps, wishes, tells, stores, opens, asserted, called, given_back, goes_back, returns, chosen, ends_at, wake_at, waiting, executes, steps_by, step, run, went, functions, max_calls}

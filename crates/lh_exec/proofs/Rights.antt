@@ -4,10 +4,10 @@ use Rattle.std.specs.Prelude.{slice_get}
 use Rattle.std.specs.Option.{option_and_then, option_map}
 use Rattle.std.proofs.lemmas.Option.{same_Some, none-some}
 use Rattle.lh_types.specs.Types.{TypeTree}
-use Rattle.lh_names.specs.declared.name.UnitName.{UnitName}
-use Rattle.lh_names.specs.UnitNames.{same_unit_name}
+use Rattle.lh_unit_names.specs.declared.name.UnitName.{UnitName}
+use Rattle.lh_unit_names.specs.UnitNames.{same_unit_name}
 use Rattle.lh_unit.specs.Contents.{InstText, LineText, BlockText, ArgText, UnitText, ItemText, unit_text, declare_text, is_result_name, args_define, lines_define, blocks_define, defines_value}
-use Rattle.lh_names.specs.Names.{same_name}
+use Rattle.lh_unit_names.specs.Names.{same_name}
 use Rattle.lh_unit.specs.Named.{label_or, function_named, unit_named, is_function}
 use Rattle.lh_unit.specs.Activation.{functions}
 use Rattle.lh_unit.specs.Arena.{Arena, IsArena, contents, item_text_at, unit_text_at, kind_at, table_at, naming, blocks_at, unit_count, value_count, label_count, label_name_at, value_name_at, unit_name_at}
@@ -27,22 +27,22 @@ use Rattle.lh_unit.specs.declared.inst.UnitKind.TheVariants as kind
 use Rattle.lh_unit.specs.declared.inst.Item.{Item}
 use Rattle.lh_unit.specs.declared.inst.Item.TheVariants as item
 use Rattle.lh_unit.specs.declared.table.Line.{Line}
-use Rattle.lh_names.proofs.NameLists.{same_name-is}
+use Rattle.lh_unit_names.proofs.NameLists.{same_name-is}
 use Rattle.lh_unit.proofs.Defined.{label_text-named, flat_lines}
 use Rattle.lh_unit.proofs.ById.{block_of-by_id, unit_named-by_id, line_giving-append}
-use Rattle.lh_formed.specs.Calls.{NamedIsRight}
-use Rattle.lh_formed.proofs.Sound.{site_in}
-use Rattle.lh_formed.proofs.CallsLaw.{calls_are_right}
-use Rattle.lh_formed.proofs.ShapeLaw.{labels_are_blocks}
-use Rattle.lh_formed.specs.KindsOf.{ArgsHaveKinds, HasTypeOfKind}
-use Rattle.lh_formed.proofs.KindsLaw.{operands_have_types}
+use Rattle.lh_verify_laws.specs.Calls.{NamedIsRight}
+use Rattle.lh_verify_laws.proofs.Sound.{site_in}
+use Rattle.lh_verify_laws.proofs.CallsLaw.{calls_are_right}
+use Rattle.lh_verify_laws.proofs.ShapeLaw.{labels_are_blocks}
+use Rattle.lh_verify_laws.specs.KindsOf.{ArgsHaveKinds, HasTypeOfKind}
+use Rattle.lh_verify_laws.proofs.KindsLaw.{operands_have_types}
 use Rattle.lh_unit.specs.Kinds.{uses}
 use Rattle.lh_unit.proofs.Lists.{Each-of-map}
 use Rattle.lh_unit.proofs.ContentsLemmas.{Each-by_blocks}
 use Rattle.lh_eval.specs.Sound.{InstIsSound}
-use Rattle.lh_formed.proofs.EachItem.{each-split, each-contained}
-use Rattle.lh_formed.proofs.AtPlaces.{lines-from}
-use Rattle.lh_sound.proofs.FitLaws.{of-unit, unit-is-sound}
+use Rattle.lh_verify_laws.proofs.EachItem.{each-split, each-contained}
+use Rattle.lh_verify_laws.proofs.AtPlaces.{lines-from}
+use Rattle.lh_eval_laws.proofs.FitLaws.{of-unit, unit-is-sound}
 use Rattle.lh_exec.proofs.Heads.{args-have-kinds}
 use Rattle.lh_exec.specs.Sound.{IsLabel, LineRight, UnitRight, FunctionsRight}
 

@@ -9,7 +9,7 @@ use Rattle.lh_types.specs.Types.{TypeTree, time_type, void_type, signal_type, po
 use Rattle.lh_types.specs.Values.{Datum}
 use Rattle.lh_types.specs.declared.part.Range.{Range}
 use Rattle.lh_unit.specs.Contents.{OperandText, LineText, BlockText, ArgText, UnitText, ItemText, is_result_name, defines_value}
-use Rattle.lh_names.specs.Names.{same_name}
+use Rattle.lh_unit_names.specs.Names.{same_name}
 use Rattle.lh_unit.specs.Named.{block_of, is_function}
 use Rattle.lh_unit.specs.Held.{Held, datum_held, cell_held, part_held, Env, as_datum, as_cell, datum_at, cell_at, data_at, parts_at, front}
 use Rattle.lh_unit.specs.Kinds.{Kind, a_datum, a_time, a_signal, a_pointer, kind_of, Use, used, all_used, maybe_used, takes, data_or_time_needed, time_needed, signal_needed}
@@ -21,16 +21,16 @@ use Rattle.lh_unit.specs.Activation.{Scene, Control, Caller, Point, Next, goes, 
 use Rattle.lh_unit.specs.Within.{Each}
 use Rattle.lh_unit.specs.declared.inst.UnitKind.{UnitKind}
 use Rattle.lh_unit.specs.declared.inst.UnitKind.TheVariants as kind
-use Rattle.lh_formed.specs.Calls.{ArgumentsAre}
-use Rattle.lh_formed.specs.Defined.{IsThere}
-use Rattle.lh_formed.specs.KindsOf.{HasTypeOfKind}
-use Rattle.lh_formed.specs.Operands.{IsOf, MayBeOf}
+use Rattle.lh_verify_laws.specs.Calls.{ArgumentsAre}
+use Rattle.lh_verify_laws.specs.Defined.{IsThere}
+use Rattle.lh_verify_laws.specs.KindsOf.{HasTypeOfKind}
+use Rattle.lh_verify_laws.specs.Operands.{IsOf, MayBeOf}
 use Rattle.lh_eval.specs.Fitting.{IsValueType, FitsHeld, Fits}
-use Rattle.lh_formed.proofs.EachItem.{each-split}
-use Rattle.lh_formed.proofs.AtPlaces.{place-at}
-use Rattle.lh_formed.proofs.There.{there-before}
-use Rattle.lh_sound.proofs.Finding.{some-of, carries-value, part-at, delay-at}
-use Rattle.lh_sound.proofs.FindingPass.{AllHeld, named_in}
+use Rattle.lh_verify_laws.proofs.EachItem.{each-split}
+use Rattle.lh_verify_laws.proofs.AtPlaces.{place-at}
+use Rattle.lh_verify_laws.proofs.There.{there-before}
+use Rattle.lh_eval_laws.proofs.Finding.{some-of, carries-value, part-at, delay-at}
+use Rattle.lh_eval_laws.proofs.FindingPass.{AllHeld, named_in}
 use Rattle.lh_exec.specs.Sound.{LineRight, FunctionsRight, PointFits, IsLabel, StandHolds}
 use Rattle.lh_exec.proofs.Heads.{signal-used}
 use Rattle.lh_exec.proofs.KeepsFit.{block-has}

@@ -13,10 +13,10 @@ use Rattle.lh_unit.specs.Held.{Env, front, part_at, parts_at, delay_at}
 use Rattle.lh_unit.specs.Activation.{Stand, waits, waiting, wake_at}
 use Rattle.lh_unit.specs.Within.{Each}
 use Rattle.lh_unit.proofs.Lists.{Each-of-map}
-use Rattle.lh_formed.specs.KindsOf.{HasTypeOfKind}
+use Rattle.lh_verify_laws.specs.KindsOf.{HasTypeOfKind}
 use Rattle.lh_eval.specs.Fitting.{Fits}
 use Rattle.lh_eval.proofs.GivesFit.{part-fits}
-use Rattle.lh_formed.proofs.EachItem.{each-split}
+use Rattle.lh_verify_laws.proofs.EachItem.{each-split}
 use Rattle.lh_exec.specs.States.{WaitsIn, PartsWithin}
 use Rattle.lh_time.specs.Order.{IsLaterIfAny}
 use Rattle.lh_exec.specs.Sound.{StandFits}

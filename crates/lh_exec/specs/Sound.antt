@@ -2,7 +2,7 @@
 use Rattle.std.specs.Prelude.{◌≡◌, ℕ, ◌<◌, List, [], ◌∷◌, ◌++◌, Option, Some, None, IsSome}
 use Rattle.lh_time.specs.declared.Instant.{Instant}
 use Rattle.lh_types.specs.Types.{TypeTree}
-use Rattle.lh_names.specs.declared.name.UnitName.{UnitName}
+use Rattle.lh_unit_names.specs.declared.name.UnitName.{UnitName}
 use Rattle.lh_unit.specs.Contents.{LineText, BlockText, UnitText, ItemText}
 use Rattle.lh_unit.specs.Named.{block_of, label_or, function_named}
 use Rattle.lh_unit.specs.Held.{Env}
@@ -12,12 +12,12 @@ use Rattle.lh_unit.specs.WellFormed.{labels_named}
 use Rattle.lh_unit.specs.Activation.{Scene, run, Stand, is_new, waits, halted, Control, Caller, Point, Activated, start_point, functions}
 use Rattle.lh_unit.specs.Arena.{Arena, contents, unit_text_at, label_name_at, label_count}
 use Rattle.lh_unit.specs.Within.{Each}
-use Rattle.lh_formed.specs.Calls.{NamedIsRight}
-use Rattle.lh_formed.specs.KindsOf.{HasTypeOfKind}
+use Rattle.lh_verify_laws.specs.Calls.{NamedIsRight}
+use Rattle.lh_verify_laws.specs.KindsOf.{HasTypeOfKind}
 use Rattle.lh_eval.specs.Fitting.{Fits}
 use Rattle.lh_eval.specs.Sound.{InstIsSound}
 use Rattle.lh_eval.specs.Wishing.{WishWithin}
-use Rattle.lh_sound.specs.Units.{HasItsType}
+use Rattle.lh_eval_laws.specs.Units.{HasItsType}
 use Rattle.lh_exec.specs.declared.machine.UnitFrame.{UnitFrame}
 use Rattle.lh_exec.specs.declared.machine.Machine.{Machine}
 use Rattle.lh_exec.specs.declared.machine.Flow.{Flow}

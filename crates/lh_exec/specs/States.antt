@@ -10,7 +10,7 @@ use Rattle.lh_unit.specs.Activation.{waits, halted, ProcessState, Activated}
 use Rattle.lh_unit.specs.Arena.{Arena, label_count, label_name_at, unit_text_at}
 use Rattle.lh_unit.specs.Within.{Each}
 use Rattle.lh_unit.specs.World.{begun}
-use Rattle.lh_formed.specs.Defined.{IsThere}
+use Rattle.lh_verify_laws.specs.Defined.{IsThere}
 use Rattle.lh_eval.specs.Holding.{Holds}
 use Rattle.lh_eval.specs.Fitting.{Fits}
 use Rattle.lh_eval.specs.WishOf.{writes_wish}

@@ -4,10 +4,10 @@ use Rattle.std.specs.Option.{option_and_then}
 use Rattle.lh_time.specs.declared.Instant.{Instant}
 use Rattle.lh_types.specs.Types.{TypeTree}
 use Rattle.lh_types.specs.declared.part.Range.{Range}
-use Rattle.lh_names.specs.declared.name.UnitName.{UnitName}
+use Rattle.lh_unit_names.specs.declared.name.UnitName.{UnitName}
 use Rattle.lh_unit.specs.Contents.{OperandText, InstText, const_text, pure_text, var_text, ld_text, st_text, sig_text, prb_text, drv_text, reg_text, child_text, call_text, phi_text, br_text, branch_text, wait_text, halt_text, ret_text, LineText}
 use Rattle.lh_unit.specs.Named.{function_named}
-use Rattle.lh_names.specs.UnitNames.{is_assert}
+use Rattle.lh_unit_names.specs.UnitNames.{is_assert}
 use Rattle.lh_unit.specs.Held.{datum_at, cell_at, data_at, parts_at, test_at}
 use Rattle.lh_unit.specs.Effects.{operated, probed, driven}
 use Rattle.lh_unit.specs.Activation.{Scene, halted, Caller, Point, Control, ProcessState, goes, no_step, step, asserted, called, entered, chosen, waiting, wake_at, given_back, control_at, start_point, max_calls}
@@ -15,7 +15,7 @@ use Rattle.lh_unit.specs.Arena.{Arena, IsArena, unit_count, kind_at, contents, u
 use Rattle.lh_unit.specs.WellFormed.{IsWellFormed}
 use Rattle.lh_unit.specs.declared.inst.UnitKind.TheVariants as kind
 use Rattle.lh_eval.specs.Fitting.{Fits}
-use Rattle.lh_sound.specs.Ranges.{RangesFit, arg_types}
+use Rattle.lh_eval_laws.specs.Ranges.{RangesFit, arg_types}
 use Rattle.lh_exec.specs.declared.state.ProcState.{ProcState}
 use Rattle.lh_exec.specs.Standing.{scene_of}
 use Rattle.lh_exec.specs.States.{StandsForState, StateFits}

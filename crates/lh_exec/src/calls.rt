@@ -7,7 +7,7 @@ ghost use Rattle.lh_unit.specs.Arena.{Arena, IsArena, unit_count, value_count, n
 ghost use Rattle.lh_unit.specs.Contents as text;
 ghost use Rattle.lh_unit.specs.Held.{Held as Content};
 ghost use Rattle.lh_unit.specs.Held.{Env, data_at};
-ghost use Rattle.lh_names.specs.UnitNames.{is_assert};
+ghost use Rattle.lh_unit_names.specs.UnitNames.{is_assert};
 ghost use Rattle.lh_unit.specs.Naming.{operand_text, maybe_text};
 ghost use Rattle.lh_unit.specs.Table.{ArgsWithin, HasBlocks};
 ghost use Rattle.lh_unit.specs.Within.{Each};

@@ -6,7 +6,7 @@ ghost use Rattle.lh_unit.specs.Activation.{ProcessState, Activated, activate as 
 ghost use Rattle.lh_types.specs.declared.part.Range.{Range as Bounds};
 ghost use Rattle.lh_unit.specs.Arena.{Arena, IsArena, unit_count, kind_at, contents, unit_text_at};
 ghost use Rattle.lh_unit.specs.WellFormed.{IsWellFormed};
-ghost use Rattle.lh_sound.specs.Ranges.{RangesFit, arg_types};
+ghost use Rattle.lh_eval_laws.specs.Ranges.{RangesFit, arg_types};
 ghost use Rattle.lh_exec.specs.Standing.{scene_of};
 ghost use Rattle.lh_exec.specs.States.{StandsForState, StandsBy, StateFits, FitsBy, ActivationOrRunaway, GivesMaybe, WakesLater};
 ghost use Rattle.lh_exec.specs.Sound.{Finishes, EndHolds, stood};

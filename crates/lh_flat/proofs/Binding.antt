@@ -4,7 +4,7 @@ use Rattle.std.specs.List.{flat_map}
 use Rattle.std.proofs.lemmas.List.{map-append, length-map, get_or-set_same, get_or-set_other, get_or-map}
 use Rattle.std.proofs.lemmas.List.FromFn.{get_or-map-range_with_len}
 use Rattle.lh_unit.specs.Contents.{OperandText, EdgeText, UnitText}
-use Rattle.lh_names.specs.Names.{same_name}
+use Rattle.lh_unit_names.specs.Names.{same_name}
 use Rattle.lh_unit.specs.Naming.{Naming, value_text, operand_text, inst_text, block_text, arg_text}
 use Rattle.lh_unit.specs.Table.{insts_at, ArgsWithin}
 use Rattle.lh_unit.specs.Within.{Each}

@@ -4,7 +4,7 @@ use Rattle.std.specs.List.{Contains}
 use Rattle.std.proofs.lemmas.List.{append-nil, append_assoc}
 use Rattle.std.proofs.lemmas.List.Sums.{sum_by-cons}
 use Rattle.std.proofs.lemmas.Option.{same_Some, none-some}
-use Rattle.lh_names.specs.declared.name.UnitName.{UnitName}
+use Rattle.lh_unit_names.specs.declared.name.UnitName.{UnitName}
 use Rattle.lh_unit.specs.declared.inst.UnitId.{UnitId}
 use Rattle.lh_unit.specs.declared.inst.BlockId.{BlockId}
 use Rattle.lh_unit.specs.declared.inst.InstId.{InstId}
@@ -15,7 +15,7 @@ use Rattle.lh_unit.specs.declared.inst.Inst.TheVariants as inst
 use Rattle.lh_unit.specs.declared.inst.Item.TheVariants as item
 use Rattle.lh_unit.specs.Contents.{LineText, BlockText, UnitText, ItemText, unit_text, declare_text}
 use Rattle.lh_unit.specs.Named.{is_function, unit_named}
-use Rattle.lh_names.specs.UnitNames.{is_assert}
+use Rattle.lh_unit_names.specs.UnitNames.{is_assert}
 use Rattle.lh_unit.specs.Hierarchy.{lines_of}
 use Rattle.lh_unit.specs.Naming.{Naming, block_text, inst_text, kind_text}
 use Rattle.lh_unit.specs.Places.{places}
@@ -27,12 +27,12 @@ use Rattle.lh_unit.specs.Within.{Each}
 use Rattle.lh_unit.proofs.Lists.{Each-append, Each-left, Each-right, Each-of-map}
 use Rattle.lh_unit.proofs.ById.{unit_named-by_id}
 use Rattle.lh_unit.proofs.ModuleLaws.{line-placed}
-use Rattle.lh_formed.specs.Calls.{NamedIsRight}
-use Rattle.lh_formed.proofs.Sound.{site_in}
-use Rattle.lh_formed.proofs.CallsLaw.{calls_are_right}
-use Rattle.lh_formed.proofs.EachItem.{each-contained, each-at}
-use Rattle.lh_formed.proofs.AtPlaces.{lines-from}
-use Rattle.lh_formed.proofs.Capped.{min-zero}
+use Rattle.lh_verify_laws.specs.Calls.{NamedIsRight}
+use Rattle.lh_verify_laws.proofs.Sound.{site_in}
+use Rattle.lh_verify_laws.proofs.CallsLaw.{calls_are_right}
+use Rattle.lh_verify_laws.proofs.EachItem.{each-contained, each-at}
+use Rattle.lh_verify_laws.proofs.AtPlaces.{lines-from}
+use Rattle.lh_verify_laws.proofs.Capped.{min-zero}
 use Rattle.lh_flat.specs.declared.calls.CallNode.{CallNode}
 use Rattle.lh_flat.specs.Calls.{callee_if, callees_in, callees}
 use Rattle.lh_flat.specs.Graph.{max_counted, counted, no_node, callee_of, with_inst, with_insts, with_block, with_blocks, node_of}

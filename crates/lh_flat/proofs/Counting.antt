@@ -3,9 +3,9 @@ use Rattle.std.proofs.Common.{◌≡◌, ℕ, zero, suc, ◌+◌, ◌<◌, ◌�
 use Rattle.std.specs.List.{list_any}
 use Rattle.std.specs.Option.{option_map, option_map_or}
 use Rattle.std.proofs.lemmas.List.Sums.{sum_by-cons, sum_by-append}
-use Rattle.lh_names.specs.declared.name.UnitName.{UnitName}
+use Rattle.lh_unit_names.specs.declared.name.UnitName.{UnitName}
 use Rattle.lh_unit.specs.declared.inst.UnitId.{UnitId}
-use Rattle.lh_names.specs.UnitNames.{same_unit_name, is_assert}
+use Rattle.lh_unit_names.specs.UnitNames.{same_unit_name, is_assert}
 use Rattle.lh_unit.specs.Typing.{or_else}
 use Rattle.lh_unit.specs.Contents.{InstText, call_text, LineText, BlockText, UnitText}
 use Rattle.lh_unit.specs.Named.{function_named}
@@ -13,15 +13,15 @@ use Rattle.lh_unit.specs.Hierarchy.{lines_of}
 use Rattle.lh_unit.specs.Within.{Each}
 use Rattle.lh_unit.specs.Design.{is_one_of, first_some, cycle_at}
 use Rattle.lh_unit.proofs.Lists.{nat_eq-other}
-use Rattle.lh_formed.specs.Graphs.{met_or, is_open, IsIn}
+use Rattle.lh_verify_laws.specs.Graphs.{met_or, is_open, IsIn}
 use Rattle.lh_flat.specs.declared.calls.CallNode.{CallNode}
 use Rattle.lh_flat.specs.Calls.{callee_if, callees_in, callees, callees_of, recursion_from, nest_deeper}
 use Rattle.lh_flat.specs.Graph.{max_counted, node_at, callees_at}
 use Rattle.lh_flat.specs.Measures.{measuring}
 use Rattle.lh_flat.specs.Lengths.{called_length, copy_length}
-use Rattle.lh_formed.proofs.Graphs.{Distinct, no_longer, is_open-in}
-use Rattle.lh_formed.proofs.Capped.{both_capped}
-use Rattle.lh_descent.specs.Measures.{cycle_in}
+use Rattle.lh_verify_laws.proofs.Graphs.{Distinct, no_longer, is_open-in}
+use Rattle.lh_verify_laws.proofs.Capped.{both_capped}
+use Rattle.lh_unit_graph.specs.Measures.{cycle_in}
 use Rattle.lh_flat.proofs.Measuring.{nests, insts_in}
 
 -- a unit that is called is another than the top, and the function of its name has its text

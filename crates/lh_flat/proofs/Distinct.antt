@@ -2,11 +2,11 @@
 use Rattle.std.proofs.Common.{◌≡◌, ℕ, zero, suc, ◌+◌, ◌<◌, ◌⊎◌, inl, inr, true, ◌||◌, nat_eq, List, [], ◌∷◌, ◌++◌, length, get_or, map, Option, Some, None, refl, ap, sym, ◌∙◌, subst, arith}
 use Rattle.std.specs.List.{slice_get, flat_map}
 use Rattle.std.proofs.lemmas.List.{append_cancel_left, append-nil, map-append}
-use Rattle.lh_names.specs.Names.{IsName}
+use Rattle.lh_unit_names.specs.Names.{IsName}
 use Rattle.lh_unit.specs.Contents.{LineText, UnitText}
 use Rattle.lh_unit.specs.Naming.{block_text}
 use Rattle.lh_unit.specs.Table.{insts_at, is_block, HasBlocks, BlocksWithin}
-use Rattle.lh_names.specs.Distinct.{AllDistinct}
+use Rattle.lh_unit_names.specs.Distinct.{AllDistinct}
 use Rattle.lh_unit.specs.Within.{Each}
 use Rattle.lh_unit.specs.Arena.{Arena, IsArena, table_at, naming, blocks_at, unit_count, label_count, label_name_at, unit_text_at, kind_at}
 use Rattle.lh_unit.specs.declared.inst.UnitId.{UnitId}

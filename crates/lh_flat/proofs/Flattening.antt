@@ -14,7 +14,7 @@ use Rattle.lh_unit.specs.declared.inst.UnitKind.{UnitKind}
 use Rattle.lh_unit.specs.declared.inst.UnitKind.TheVariants as kind
 use Rattle.lh_unit.specs.declared.inst.ValueId.{ValueId}
 use Rattle.lh_unit.specs.declared.inst.Arg.{Arg}
-use Rattle.lh_descent.specs.declared.fault.DescentFault.{DescentFault}
+use Rattle.lh_unit_graph.specs.declared.fault.DescentFault.{DescentFault}
 use Rattle.lh_flat.specs.declared.calls.CallNode.{CallNode}
 use Rattle.lh_flat.specs.declared.measure.Measure.{Measure}
 use Rattle.lh_flat.specs.declared.flat.Flat.{Flat}
@@ -27,7 +27,7 @@ use Rattle.lh_flat.specs.Reads.{ReadsAs, Flattens}
 use Rattle.lh_flat.specs.Building.{call_room, ids_for, no_text, blocks_added, call_added}
 use Rattle.lh_flat.specs.CopyNames.{own_names, blocks_names, copy_names, NamedFrom}
 use Rattle.lh_flat.specs.Graph.{IsGraph}
-use Rattle.lh_descent.specs.Measures.{Measures}
+use Rattle.lh_unit_graph.specs.Measures.{Measures}
 use Rattle.lh_flat.specs.Measures.{measuring, fault_of}
 use Rattle.lh_flat.specs.Marks.{UnitsAreNamed}
 use Rattle.lh_flat.specs.Below.{IdsBelow}

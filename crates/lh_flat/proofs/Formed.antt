@@ -22,8 +22,8 @@ use Rattle.lh_unit.specs.Within.{Each, EdgeWithin}
 use Rattle.lh_unit.proofs.Lists.{Each-left, Each-right}
 use Rattle.lh_unit.proofs.ById.{block_of-by_id}
 use Rattle.lh_unit.proofs.ModuleLaws.{line-placed}
-use Rattle.lh_formed.proofs.CallsLaw.{calls_are_right}
-use Rattle.lh_formed.proofs.ShapeLaw.{labels_are_blocks, all_allowed}
+use Rattle.lh_verify_laws.proofs.CallsLaw.{calls_are_right}
+use Rattle.lh_verify_laws.proofs.ShapeLaw.{labels_are_blocks, all_allowed}
 use Rattle.lh_flat.specs.Graph.{callee_of}
 use Rattle.lh_flat.specs.Agrees.{IsBlockOf, IsCode}
 use Rattle.lh_flat.specs.Building.{line_of}

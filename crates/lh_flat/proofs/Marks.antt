@@ -3,8 +3,8 @@ use Rattle.std.proofs.Common.{◌≡◌, ℕ, suc, ◌+◌, ◌<◌, Bool, true,
 use Rattle.std.proofs.lemmas.Bool.{false_from_ne_true}
 use Rattle.std.proofs.lemmas.Grind.{common_steps}
 use Rattle.std.proofs.lemmas.List.{append_cancel_left, append-nil, append_assoc}
-use Rattle.lh_names.specs.Names.{same_name}
-use Rattle.lh_names.proofs.NameLists.{same_name-is, same_name-refl}
+use Rattle.lh_unit_names.specs.Names.{same_name}
+use Rattle.lh_unit_names.proofs.NameLists.{same_name-is, same_name-refl}
 use Rattle.lh_flat.specs.Marks.{marks, IsPlain}
 
 pub not_same : (a b : List ℕ) → (a ≡ b → ⊥) → same_name a b ≡ false

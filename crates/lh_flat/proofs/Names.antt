@@ -5,7 +5,7 @@ use Rattle.lh_types.specs.Types.{TypeTree}
 use Rattle.lh_unit.specs.Contents.{OperandText, EdgeText, pure_text, var_text, ld_text, prb_text, phi_text, br_text, UnitText}
 use Rattle.lh_unit.specs.Naming.{Naming, value_text, maybe_text, operand_text, edge_text}
 use Rattle.lh_unit.specs.Within.{Each, ValueWithin, MaybeWithin, OperandWithin, EdgeWithin}
-use Rattle.lh_names.specs.declared.name.UnitName.{UnitName}
+use Rattle.lh_unit_names.specs.declared.name.UnitName.{UnitName}
 use Rattle.lh_unit.specs.declared.inst.BlockId.{BlockId}
 use Rattle.lh_unit.specs.declared.inst.ValueId.{ValueId}
 use Rattle.lh_unit.specs.declared.inst.Typed.{Typed}

@@ -3,7 +3,7 @@ use Rattle.std.proofs.Common.{◌≡◌, ℕ, zero, suc, ◌+◌, ◌<◌, inl, 
 use Rattle.std.specs.List.{list_any, flat_map}
 use Rattle.std.specs.Option.{option_map, option_map_or}
 use Rattle.std.proofs.lemmas.List.{append-nil, map-append, length-map, length-replicate, length-append}
-use Rattle.lh_names.specs.declared.name.UnitName.{UnitName}
+use Rattle.lh_unit_names.specs.declared.name.UnitName.{UnitName}
 use Rattle.lh_unit.specs.Contents.{br_text, LineText, BlockText, UnitText}
 use Rattle.lh_unit.specs.Named.{is_function, block_of}
 use Rattle.lh_unit.specs.Naming.{Naming, value_text, maybe_text, inst_text, block_text, arg_text, kind_text}

@@ -3,7 +3,7 @@ use Rattle.std.proofs.Common.{◌≡◌, ℕ, zero, suc, ◌+◌, ◌<◌, min, 
 use Rattle.std.specs.List.{flat_map}
 use Rattle.std.specs.Option.{option_map_or}
 use Rattle.std.proofs.lemmas.List.Sums.{sum_by-cons}
-use Rattle.lh_names.specs.declared.name.UnitName.{UnitName}
+use Rattle.lh_unit_names.specs.declared.name.UnitName.{UnitName}
 use Rattle.lh_unit.specs.declared.inst.UnitId.{UnitId}
 use Rattle.lh_unit.specs.Contents.{LineText, BlockText, UnitText}
 use Rattle.lh_unit.specs.Named.{label_or}
@@ -16,7 +16,7 @@ use Rattle.lh_flat.specs.Graph.{max_counted, node_at, callees_at}
 use Rattle.lh_flat.proofs.Measuring.{blocks_in}
 use Rattle.lh_flat.proofs.Lengths.{opened_length, callee-length}
 use Rattle.lh_flat.proofs.Counting.{StandsFor, capped-named, sum-apart}
-use Rattle.lh_formed.proofs.Capped.{both_capped}
+use Rattle.lh_verify_laws.proofs.Capped.{both_capped}
 
 -- one more block for each call, and those of the copies
 abbrev pub more_blocks : (blocks_of : UnitText → ℕ) → List UnitText → List LineText → ℕ

@@ -4,7 +4,7 @@ use Rattle.std.proofs.lemmas.List.{get_or_past, get_or_append_left, get_or_push,
 use Rattle.std.specs.List.{slice_get}
 use Rattle.std.proofs.lemmas.Option.{slice_get-get_or}
 use Rattle.std.proofs.lemmas.Bool.{cases_lt}
-use Rattle.lh_names.specs.UnitNames.{is_assert}
+use Rattle.lh_unit_names.specs.UnitNames.{is_assert}
 use Rattle.lh_unit.specs.Table.{line_at, insts_at}
 use Rattle.lh_unit.specs.Arena.{Arena, IsArena, InstPlaced, table_at, blocks_at, unit_count, unit_name_at}
 use Rattle.lh_unit.specs.declared.inst.UnitId.{UnitId}
@@ -16,9 +16,9 @@ use Rattle.lh_unit.proofs.Lists.{Same, same, other, same_or, Each-append}
 use Rattle.lh_unit.proofs.ModuleLaws.{block-within, block_insts-within, line-placed}
 use Rattle.lh_flat.specs.declared.calls.CallNode.{CallNode}
 use Rattle.lh_flat.specs.Graph.{no_node, called_of, callee_of, with_inst, with_insts, with_block, with_blocks, node_of, node_at, callees_at, counted, BlockPlaced, IsGraph}
-use Rattle.lh_descent.specs.Measures.{NodesWithin}
+use Rattle.lh_unit_graph.specs.Measures.{NodesWithin}
 use Rattle.lh_flat.specs.Measures.{measuring}
-use Rattle.lh_formed.proofs.Graphs.{Inside}
+use Rattle.lh_verify_laws.proofs.Graphs.{Inside}
 
 -- a block of a unit has an entry, and so have its instructions
 pub placed-block : (a : Arena) (u i : ℕ) (b : BlockId) → IsArena a → u < unit_count a → slice_get (blocks_at a u) i ≡ Some b → BlockPlaced a u b

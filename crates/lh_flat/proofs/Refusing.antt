@@ -12,7 +12,7 @@ use Rattle.lh_unit.specs.declared.inst.UnitKind.{UnitKind}
 use Rattle.lh_unit.specs.declared.inst.UnitKind.TheVariants as kind
 use Rattle.lh_unit.specs.declared.inst.Item.{Item}
 use Rattle.lh_unit.specs.declared.inst.Item.TheVariants as item
-use Rattle.lh_names.specs.UnitNames.{same_unit_name}
+use Rattle.lh_unit_names.specs.UnitNames.{same_unit_name}
 use Rattle.lh_unit.specs.Contents.{UnitText}
 use Rattle.lh_unit.specs.Named.{is_function, function_named}
 use Rattle.lh_unit.specs.Naming.{kind_text}
@@ -22,17 +22,17 @@ use Rattle.lh_unit.specs.Within.{Each}
 use Rattle.lh_unit.specs.WellFormed.{IsFaultless}
 use Rattle.lh_unit.proofs.ById.{same_unit-by_id}
 use Rattle.lh_unit.proofs.Lists.{nat_eq-is, nat_eq-refl}
-use Rattle.lh_formed.specs.Graphs.{IsIn}
-use Rattle.lh_formed.proofs.Graphs.{item_units, in-units}
+use Rattle.lh_verify_laws.specs.Graphs.{IsIn}
+use Rattle.lh_verify_laws.proofs.Graphs.{item_units, in-units}
 use Rattle.lh_flat.specs.declared.calls.CallNode.{CallNode}
 use Rattle.lh_flat.specs.declared.measure.Measure.{Measure}
 use Rattle.lh_flat.specs.Calls.{callees, recursion_from, nest_deeper}
 use Rattle.lh_flat.specs.Copies.{top_copy}
 use Rattle.lh_flat.specs.Flat.{max_nested, max_flat, inst_count, text_of, refused, flattened, recursive_call, call_too_deep, flat_too_large, flattened_by, flat_in, flat_of}
 use Rattle.lh_flat.specs.Graph.{max_counted, no_node, node_of, with_blocks, node_at, callees_at, IsGraph}
-use Rattle.lh_descent.specs.Measures.{cycle_in, HasBusy, Measures}
-use Rattle.lh_descent.specs.declared.fault.DescentFault.{DescentFault}
-use Rattle.lh_descent.specs.declared.fault.DescentFault.TheVariants as descent
+use Rattle.lh_unit_graph.specs.Measures.{cycle_in, HasBusy, Measures}
+use Rattle.lh_unit_graph.specs.declared.fault.DescentFault.{DescentFault}
+use Rattle.lh_unit_graph.specs.declared.fault.DescentFault.TheVariants as descent
 use Rattle.lh_flat.specs.Measures.{measuring, fault_of}
 use Rattle.lh_flat.specs.Lengths.{copy_length}
 use Rattle.lh_flat.specs.Reads.{refusal_text, GivesRefusal}

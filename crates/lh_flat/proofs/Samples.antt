@@ -3,7 +3,7 @@ use Rattle.std.specs.Prelude.{ℕ, zero, suc, List, [], ◌∷◌, false, Some, 
 use Prim.Native.String.{String}
 use Rattle.lh_types.specs.Types.{TypeTree, int_type, void_type}
 use Rattle.lh_types.specs.Values.{int_value}
-use Rattle.lh_names.specs.declared.name.UnitName.{UnitName}
+use Rattle.lh_unit_names.specs.declared.name.UnitName.{UnitName}
 use Rattle.lh_unit.specs.declared.inst.UnitKind.TheVariants as kind
 pub use Rattle.lh_unit.specs.Worded.{byte, global, gives, does, typed, function}
 use Rattle.lh_unit.specs.Contents.{OperandText, EdgeText, InstText, const_text, call_text, phi_text, br_text, branch_text, wait_text, ret_text, LineText, BlockText, ArgText, UnitText}

@@ -2,10 +2,10 @@
 use Rattle.std.specs.Prelude.{ℕ, zero, suc, List, [], ◌∷◌, Bool, true, if◌then◌else◌, Option, None}
 use Rattle.std.specs.List.{list_any}
 use Rattle.std.specs.Option.{option_map_or}
-use Rattle.lh_names.specs.declared.name.UnitName.{UnitName}
+use Rattle.lh_unit_names.specs.declared.name.UnitName.{UnitName}
 use Rattle.lh_unit.specs.Contents.{InstText, call_text, LineText, UnitText}
 use Rattle.lh_unit.specs.Named.{function_named}
-use Rattle.lh_names.specs.UnitNames.{is_assert}
+use Rattle.lh_unit_names.specs.UnitNames.{is_assert}
 use Rattle.lh_unit.specs.Hierarchy.{lines_of}
 use Rattle.lh_unit.specs.Design.{is_one_of, first_some, cycle_at}
 

@@ -1,6 +1,6 @@
 -- The units of a module as a graph, by their ids: how long each is, and the functions that it calls.
 use Rattle.std.specs.Prelude.{◌≡◌, ℕ, ◌+◌, ◌<◌, min, List, [], ◌∷◌, ◌++◌, length, slice_index_or, if◌then◌else◌, Option, Some, None}
-use Rattle.lh_names.specs.UnitNames.{is_assert}
+use Rattle.lh_unit_names.specs.UnitNames.{is_assert}
 use Rattle.lh_unit.specs.Table.{line_at, insts_at}
 use Rattle.lh_unit.specs.Within.{Each}
 use Rattle.lh_unit.specs.Arena.{Arena, table_at, blocks_at, block_count, block_insts_at, inst_count, unit_count, unit_name_at}

@@ -1,7 +1,7 @@
 -- How long a flat text is, counted without making it.
 use Rattle.std.specs.Prelude.{◌≡◌, ℕ, zero, suc, ◌+◌, List, length, sum_by}
 use Rattle.std.specs.Option.{option_map_or}
-use Rattle.lh_names.specs.declared.name.UnitName.{UnitName}
+use Rattle.lh_unit_names.specs.declared.name.UnitName.{UnitName}
 use Rattle.lh_unit.specs.Contents.{BlockText, UnitText}
 use Rattle.lh_unit.specs.Named.{function_named}
 use Rattle.lh_flat.specs.Calls.{callees_in}

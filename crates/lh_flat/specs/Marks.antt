@@ -1,6 +1,6 @@
 -- Marks in the names of a flat text: no byte, so that no name of a file has one.
 use Rattle.std.specs.Prelude.{◌≡◌, ℕ, ◌<◌, suc, nat_lt, List, [], ◌∷◌, if◌then◌else◌}
-use Rattle.lh_names.specs.Names.{IsName}
+use Rattle.lh_unit_names.specs.Names.{IsName}
 use Rattle.lh_unit.specs.Arena.{Arena, unit_count, value_count, label_count, value_name_at, label_name_at}
 
 -- how many marks stand in a name; a mark is no byte

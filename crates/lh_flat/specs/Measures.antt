@@ -1,8 +1,8 @@
 -- What is counted of copies of units, over the graph of calls: how deep they nest, how many instructions and blocks they have.
 use Rattle.std.specs.Prelude.{max}
-use Rattle.lh_descent.specs.Measures.{Measuring}
-use Rattle.lh_descent.specs.declared.fault.DescentFault.{DescentFault}
-use Rattle.lh_descent.specs.declared.fault.DescentFault.TheVariants as descent
+use Rattle.lh_unit_graph.specs.Measures.{Measuring}
+use Rattle.lh_unit_graph.specs.declared.fault.DescentFault.{DescentFault}
+use Rattle.lh_unit_graph.specs.declared.fault.DescentFault.TheVariants as descent
 use Rattle.lh_flat.specs.declared.fault.FlatFault.{FlatFault}
 use Rattle.lh_flat.specs.declared.fault.FlatFault.TheVariants as fault
 use Rattle.lh_flat.specs.declared.calls.CallNode.{CallNode}

@@ -1,8 +1,8 @@
 //! Why a process has no flat text.
 
-use lh_descent::DescentFault;
 use lh_types::ty::NoMemory;
 use lh_unit::inst::UnitId;
+use lh_unit_graph::DescentFault;
 use thiserror::Error;
 
 /// Why a process has no flat text: the first that holds, in this order.

@@ -5,7 +5,7 @@ ghost use Rattle.lh_unit.specs.declared.inst.UnitKind.TheVariants.{Proc};
 ghost use Rattle.lh_unit.specs.WellFormed.{IsWellFormed};
 ghost use Rattle.lh_flat.specs.Graph.{IsGraph};
 ghost use Rattle.lh_flat.specs.Marks.{UnitsAreNamed};
-ghost use Rattle.lh_descent.specs.Searches.{IsSettled};
+ghost use Rattle.lh_unit_graph.specs.Searches.{IsSettled};
 ghost use Rattle.lh_flat.specs.Measures.{measuring};
 ghost use Rattle.lh_flat.specs.Made.{IsMade, top_text};
 ghost use Rattle.lh_flat.specs.Below.{IdsBelow};
@@ -18,11 +18,11 @@ use crate::fault::FlatFault;
 use crate::flat::{ArgList, Flat};
 use crate::measure::Measure;
 use crate::named::read_names;
-use lh_descent::Search;
 use lh_types::ty::NoMemory;
 use lh_unit::inst::{Arg, UnitId};
 use lh_unit::module::Module;
 use lh_unit::view::UnitView;
+use lh_unit_graph::Search;
 use std::alloc::Global;
 
 /// How many calls may nest.

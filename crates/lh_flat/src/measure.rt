@@ -2,8 +2,8 @@
 ghost use Rattle.lh_flat.specs.Measures.{measuring};
 
 use crate::calls::{CallNode, counted};
-use lh_descent::Measured;
 use lh_unit::inst::UnitId;
+use lh_unit_graph::Measured;
 
 /// What is counted of copies of units: of one with all that is copied into it, or of some beside each other. Each number stands still
 /// at its type's end.

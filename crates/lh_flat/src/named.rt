@@ -1,7 +1,7 @@
 //! The names of a module. What is known of a name is told where it is read, so each is read once.
 ghost use Rattle.lh_unit.specs.Arena.{value_count, label_count, value_name_at, label_name_at};
 ghost use Rattle.std.specs.Prelude.{ℕ, ◌<◌};
-ghost use Rattle.lh_names.specs.Names.{IsName};
+ghost use Rattle.lh_unit_names.specs.Names.{IsName};
 ghost use Rattle.lh_flat.specs.Marks.{UnitIsNamed, UnitsAreNamed};
 
 use lh_unit::inst::{BlockId, UnitId, ValueId};

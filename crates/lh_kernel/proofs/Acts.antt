@@ -5,8 +5,8 @@ use Rattle.std.proofs.Math.Seq.{set-append_seam}
 use Rattle.lh_time.specs.declared.Instant.{Instant}
 use Rattle.lh_types.specs.declared.frame.Outcome.{Outcome}
 use Rattle.lh_types.specs.History.{Claim, claims_of, claims, kept}
-use Rattle.lh_history.specs.Frames.{due_entries}
-use Rattle.lh_history.proofs.Frames.{wishes_split, histories_join, claims-kept}
+use Rattle.lh_history_laws.specs.Frames.{due_entries}
+use Rattle.lh_history_laws.proofs.Frames.{wishes_split, histories_join, claims-kept}
 use Rattle.lh_unit.specs.Arena.{Arena, IsArena, contents, unit_name_at, unit_text_at}
 use Rattle.lh_unit.specs.Within.{Each}
 use Rattle.lh_unit.specs.Contents.{UnitText}
@@ -16,13 +16,13 @@ use Rattle.lh_unit.specs.Trace.{least_runaway, outcomes_of}
 use Rattle.lh_unit.specs.Frames.{woken_from}
 use Rattle.lh_eval.specs.declared.instance.Instance.{Instance}
 use Rattle.lh_design.specs.Texts.{instance_text}
-use Rattle.lh_index.specs.Rising.{IsRising, AreAbove}
+use Rattle.lh_kernel_wakes.specs.Rising.{IsRising, AreAbove}
 use Rattle.lh_elab.specs.Answer.{InstanceIs}
-use Rattle.lh_states.specs.declared.state.InstState.{InstState}
+use Rattle.lh_kernel_states.specs.declared.state.InstState.{InstState}
 use Rattle.lh_elab.specs.Probed.{probed_by}
-use Rattle.lh_states.specs.States.{StateIs, StateFits, parts_sensed}
-use Rattle.lh_states.specs.Runs.{ActIs}
-use Rattle.lh_states.proofs.Standing.{senses-alike, wakes-alike, unit-is_named}
+use Rattle.lh_kernel_states.specs.States.{StateIs, StateFits, parts_sensed}
+use Rattle.lh_kernel_states.specs.Runs.{ActIs}
+use Rattle.lh_kernel_states.proofs.Standing.{senses-alike, wakes-alike, unit-is_named}
 use Rattle.lh_kernel.specs.declared.run.Activation.{Activation}
 use Rattle.lh_kernel.specs.States.{StatesStand, StatesFit}
 use Rattle.lh_kernel.specs.Woken.{awakes, awake_from}

@@ -14,10 +14,10 @@ use Rattle.lh_unit.specs.Arena.{Arena}
 use Rattle.lh_unit.specs.Within.{Each}
 use Rattle.lh_unit.specs.World.{bit_numbers, bit_differs, Moment, wakes}
 use Rattle.lh_eval.specs.declared.instance.Instance.{Instance}
-use Rattle.lh_index.specs.Rising.{IsOneOf}
+use Rattle.lh_kernel_wakes.specs.Rising.{IsOneOf}
 use Rattle.lh_elab.specs.Probed.{probed_by}
-use Rattle.lh_states.specs.declared.state.InstState.{InstState}
-use Rattle.lh_states.specs.States.{StateFits, parts_sensed, wake_kept}
+use Rattle.lh_kernel_states.specs.declared.state.InstState.{InstState}
+use Rattle.lh_kernel_states.specs.States.{StateFits, parts_sensed, wake_kept}
 use Rattle.lh_kernel.specs.declared.run.Activation.{Activation}
 use Rattle.lh_kernel.specs.States.{StatesFit, WakesItself}
 use Rattle.lh_kernel.specs.Ran.{ActOfOne, states_after}

@@ -3,8 +3,8 @@ use Rattle.std.proofs.Common.{◌≡◌, ℕ, List, Option, None, refl, sym, sub
 use Rattle.lh_time.specs.declared.Instant.{Instant}
 use Rattle.lh_unit.specs.Within.{Each}
 use Rattle.lh_elab.specs.Answer.{InstanceIs}
-use Rattle.lh_index.specs.Rising.{IsRising}
-use Rattle.lh_states.proofs.Standing.{fitting-stand}
+use Rattle.lh_kernel_wakes.specs.Rising.{IsRising}
+use Rattle.lh_kernel_states.proofs.Standing.{fitting-stand}
 use Rattle.lh_kernel.specs.States.{StatesFit}
 use Rattle.lh_kernel.specs.Ran.{AllRan}
 use Rattle.lh_kernel.specs.Moves.{AreFresh}

@@ -4,9 +4,9 @@ use Rattle.std.specs.Prelude.{◌↔◌, slice_get}
 use Rattle.lh_unit.specs.Arena.{Arena}
 use Rattle.lh_unit.specs.World.{Moment}
 use Rattle.lh_eval.specs.declared.instance.Instance.{Instance}
-use Rattle.lh_index.specs.Rising.{IsOneOf, AreAbove, IsRising}
-use Rattle.lh_index.proofs.Places.{has_above}
-use Rattle.lh_states.specs.declared.state.InstState.{InstState}
+use Rattle.lh_kernel_wakes.specs.Rising.{IsOneOf, AreAbove, IsRising}
+use Rattle.lh_kernel_wakes.proofs.Places.{has_above}
+use Rattle.lh_kernel_states.specs.declared.state.InstState.{InstState}
 use Rattle.lh_kernel.specs.Woken.{awakes, awake_from}
 
 -- the instance of this number wakes

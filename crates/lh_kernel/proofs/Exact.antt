@@ -15,16 +15,16 @@ use Rattle.lh_time.specs.Order.{instant_eq}
 use Rattle.lh_unit.specs.Within.{Each}
 use Rattle.lh_unit.proofs.Lists.{Each-get}
 use Rattle.lh_eval.specs.declared.instance.Instance.{Instance}
-use Rattle.lh_index.specs.Rising.{IsOneOf, AreAbove, IsRising}
-use Rattle.lh_index.specs.Sensed.{Senses}
-use Rattle.lh_index.specs.Waking.{IsNoted}
+use Rattle.lh_kernel_wakes.specs.Rising.{IsOneOf, AreAbove, IsRising}
+use Rattle.lh_kernel_wakes.specs.Sensed.{Senses}
+use Rattle.lh_kernel_wakes.specs.Waking.{IsNoted}
 use Rattle.lh_design.specs.declared.Signal.{Signal}
 use Rattle.lh_queue.proofs.Entries.{at_one}
-use Rattle.lh_change.specs.Touched.{Touches, HasBit}
+use Rattle.lh_kernel_changes.specs.Touched.{Touches, HasBit}
 use Rattle.lh_elab.specs.Probed.{probed_by, AreProbes}
-use Rattle.lh_states.specs.declared.state.InstState.{InstState}
-use Rattle.lh_states.specs.States.{parts_sensed, wake_kept}
-use Rattle.lh_states.proofs.Standing.{senses-within}
+use Rattle.lh_kernel_states.specs.declared.state.InstState.{InstState}
+use Rattle.lh_kernel_states.specs.States.{parts_sensed, wake_kept}
+use Rattle.lh_kernel_states.proofs.Standing.{senses-within}
 use Rattle.lh_kernel.specs.declared.noted.Noted.{Noted}
 use Rattle.lh_kernel.specs.declared.noted.Move.{Move}
 use Rattle.lh_kernel.specs.declared.run.Activation.{Activation}

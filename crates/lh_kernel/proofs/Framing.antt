@@ -8,23 +8,23 @@ use Rattle.lh_time.proofs.OrderLemmas.{instant_le-lt}
 use Rattle.lh_types.specs.declared.frame.Outcome.{Outcome}
 use Rattle.lh_types.specs.Pictures.{Showing, Picture, picture, showing_of}
 use Rattle.lh_types.specs.History.{Made, Claim, claims, values_by, bits_at, bits_after}
-use Rattle.lh_history.proofs.Frames.{histories_join}
-use Rattle.lh_history.proofs.Instants.{le_self}
+use Rattle.lh_history_laws.proofs.Frames.{histories_join}
+use Rattle.lh_history_laws.proofs.Instants.{le_self}
 use Rattle.lh_design.specs.declared.Signal.{Signal}
 use Rattle.lh_unit.specs.Arena.{Arena, contents}
 use Rattle.lh_unit.specs.World.{Moment, World, Act, bits_before, moment_of, bits_of, acts_at, made_by, afters}
 use Rattle.lh_unit.specs.Trace.{least_runaway, outcomes_of}
 use Rattle.lh_unit.specs.Frames.{woken_from, woken_at, signal_values, changes_by, values_before}
 use Rattle.lh_unit.specs.Within.{Each}
-use Rattle.lh_meaning.proofs.TraceLaw.{bits_stay_law}
-use Rattle.lh_meaning.proofs.ValuesLaw.{as_many as length_values}
+use Rattle.lh_trace_laws.proofs.TraceLaw.{bits_stay_law}
+use Rattle.lh_trace_laws.proofs.ValuesLaw.{as_many as length_values}
 use Rattle.lh_eval.specs.declared.instance.Instance.{Instance}
 use Rattle.lh_queue.specs.declared.wish.Wish.{Wish}
 use Rattle.lh_queue.specs.Queued.{QueuedWish, due_later, BitsWithin, EachWithin, EachNames}
 use Rattle.lh_queue.specs.Holds.{entries, HoldsFor, IsAfter, IsFrom, AreBitsAt, HoldsOn}
 use Rattle.lh_queue.proofs.Keeping.{later_within, later_names}
 use Rattle.lh_design.specs.Texts.{instance_text, signal_text, design_text}
-use Rattle.lh_states.specs.declared.state.InstState.{InstState}
+use Rattle.lh_kernel_states.specs.declared.state.InstState.{InstState}
 use Rattle.lh_kernel.specs.States.{StatesStand, StatesFit, WakesItself}
 use Rattle.lh_kernel.specs.Touched.{bits_then}
 use Rattle.lh_kernel.specs.Ran.{AllRan, ActOfOne, states_after}

@@ -9,8 +9,8 @@ use Rattle.lh_unit.specs.Arena.{Arena}
 use Rattle.lh_unit.specs.World.{State}
 use Rattle.lh_unit.specs.Frames.{activated_count}
 use Rattle.lh_eval.specs.declared.instance.Instance.{Instance}
-use Rattle.lh_index.specs.Rising.{IsOneOf, IsRising}
-use Rattle.lh_states.specs.declared.state.InstState.{InstState}
+use Rattle.lh_kernel_wakes.specs.Rising.{IsOneOf, IsRising}
+use Rattle.lh_kernel_states.specs.declared.state.InstState.{InstState}
 use Rattle.lh_kernel.specs.declared.run.Ran.{Ran}
 use Rattle.lh_kernel.specs.States.{StatesStand, StatesFit}
 use Rattle.lh_kernel.specs.Woken.{AreAsleep, awake_from}
@@ -25,7 +25,7 @@ use Rattle.lh_kernel.specs.Phases.{HasLooked, moment_in, awake_in, RisesWithin}
 use Rattle.lh_kernel.proofs.Awake.{awake_rises, awake_known}
 use Rattle.lh_kernel.specs.declared.machine.SimState.{SimState}
 use Rattle.lh_kernel.proofs.Places.{as_many}
-use Rattle.lh_meaning.proofs.ValuesLaw.{as_many as length_values}
+use Rattle.lh_trace_laws.proofs.ValuesLaw.{as_many as length_values}
 
 -- there are as many as the signals have
 pub looked_width : (x : SimState) (t : Instant) (touched : List ℕ) → HasLooked x t touched → length x.looked ≡ length x.design.init

@@ -12,12 +12,12 @@ use Rattle.lh_types.specs.declared.part.Range.{Range}
 use Rattle.lh_unit.specs.World.{bit_numbers}
 use Rattle.lh_unit.specs.Within.{Each}
 use Rattle.lh_unit.proofs.Lists.{Each-item}
-use Rattle.lh_index.specs.Rising.{IsOneOf, HasOneMore}
+use Rattle.lh_kernel_wakes.specs.Rising.{IsOneOf, HasOneMore}
 use Rattle.lh_design.specs.declared.Signal.{Signal}
-use Rattle.lh_change.specs.Touched.{Touches, AreSignals, AreTouched, AreWithin}
-use Rattle.lh_change.proofs.Filled.{is_below}
-use Rattle.lh_states.specs.declared.state.InstState.{InstState}
-use Rattle.lh_states.specs.States.{parts_sensed, wake_kept}
+use Rattle.lh_kernel_changes.specs.Touched.{Touches, AreSignals, AreTouched, AreWithin}
+use Rattle.lh_kernel_changes.proofs.Filled.{is_below}
+use Rattle.lh_kernel_states.specs.declared.state.InstState.{InstState}
+use Rattle.lh_kernel_states.specs.States.{parts_sensed, wake_kept}
 use Rattle.lh_kernel.specs.declared.noted.Move.{Move}
 use Rattle.lh_kernel.specs.declared.run.Activation.{Activation}
 use Rattle.lh_kernel.specs.Moves.{IsMove, IsMoveOf, EachMoves, AreMoves, MoveTheSame, OneMove, AreBetween, SensesFit, SensesAsBefore, MovesKnown}

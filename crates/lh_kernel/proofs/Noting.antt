@@ -4,13 +4,13 @@ use Rattle.std.specs.Prelude.{Result, Ok, Err, IfOk, OnErr, true, false}
 use Rattle.std.specs.Result.{is_err}
 use Rattle.std.proofs.lemmas.List.{take_all}
 use Rattle.lh_time.specs.declared.Instant.{Instant}
-use Rattle.lh_index.specs.Rising.{IsOneOf}
-use Rattle.lh_index.specs.Sensed.{Senses, SensesOneMore, SensesOneLess}
-use Rattle.lh_index.specs.Waking.{IsNoted, NotesOneMore, NotesOneLess}
+use Rattle.lh_kernel_wakes.specs.Rising.{IsOneOf}
+use Rattle.lh_kernel_wakes.specs.Sensed.{Senses, SensesOneMore, SensesOneLess}
+use Rattle.lh_kernel_wakes.specs.Waking.{IsNoted, NotesOneMore, NotesOneLess}
 use Rattle.lh_kernel.specs.declared.noted.Noted.{Noted}
 use Rattle.lh_kernel.specs.Moves.{IsSameNoted}
 use Rattle.lh_kernel.specs.Noting.{HasNoted, HasNotedSome, HasForgotten}
-use Rattle.lh_index.specs.declared.wakes.Wake.{Wake}
+use Rattle.lh_kernel_wakes.specs.declared.wakes.Wake.{Wake}
 use Rattle.lh_kernel.proofs.Relations.{With, WithSome, Without, IsEither, with_none, without_none, with_more, without_more, some_of_all, has_next, has_first, has_place}
 
 -- what is said of an instance: of a signal, and of an instant

@@ -5,10 +5,10 @@ use Rattle.lh_types.specs.declared.part.Range.{Range}
 use Rattle.lh_unit.specs.Arena.{Arena}
 use Rattle.lh_unit.specs.Within.{Each}
 use Rattle.lh_eval.specs.declared.instance.Instance.{Instance}
-use Rattle.lh_change.specs.Touched.{AreWithin}
+use Rattle.lh_kernel_changes.specs.Touched.{AreWithin}
 use Rattle.lh_elab.specs.Probed.{probed_by, AreProbes}
-use Rattle.lh_states.specs.declared.state.InstState.{InstState}
-use Rattle.lh_states.specs.States.{StateFits}
+use Rattle.lh_kernel_states.specs.declared.state.InstState.{InstState}
+use Rattle.lh_kernel_states.specs.States.{StateFits}
 use Rattle.lh_kernel.specs.States.{StatesFit}
 
 -- parts within so many bits

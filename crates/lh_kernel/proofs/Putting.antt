@@ -9,7 +9,7 @@ use Rattle.lh_queue.specs.Queued.{QueuedWish, is_before, with_held, NoneCompetes
 use Rattle.lh_queue.specs.Holds.{wish_entries, HoldsFor, IsAfter}
 use Rattle.lh_queue.proofs.Keeping.{more_within, more_names, more_apart}
 use Rattle.std.proofs.Math.ListN.{length-set}
-use Rattle.lh_states.specs.declared.state.InstState.{InstState}
+use Rattle.lh_kernel_states.specs.declared.state.InstState.{InstState}
 use Rattle.lh_kernel.specs.declared.run.Activation.{Activation}
 use Rattle.lh_kernel.specs.Puts.{wishes_by, wishes_ran, WasPut, WerePut, AreApart, CanBePut}
 

@@ -2,7 +2,7 @@
 use Rattle.std.proofs.Common.{arith, ◌≡◌, ℕ, zero, suc, ◌+◌, ◌<◌, List, [], ◌∷◌, ◌++◌, length, get_or, take, ap, sym, ◌∙◌, subst, ◌⊎◌, inl, inr}
 use Rattle.std.specs.Prelude.{◌↔◌}
 use Rattle.std.proofs.lemmas.List.{take_more}
-use Rattle.lh_index.specs.Rising.{IsOneOf}
+use Rattle.lh_kernel_wakes.specs.Rising.{IsOneOf}
 
 -- what stands in the new relation is P, or stood in the old one
 abbrev pub With : {X : Type 0} → (P old new : X → ℕ → Type 0) → Type 0

@@ -14,11 +14,11 @@ use Rattle.lh_unit.specs.World.{State}
 use Rattle.lh_unit.specs.Frames.{activated_count}
 use Rattle.lh_unit.proofs.ModuleLaws.{Each-push}
 use Rattle.lh_eval.specs.declared.instance.Instance.{Instance}
-use Rattle.lh_index.specs.Rising.{IsOneOf, IsRising, AreAbove}
-use Rattle.lh_states.specs.declared.state.InstState.{InstState}
-use Rattle.lh_states.specs.States.{StateIs}
-use Rattle.lh_states.specs.Acts.{ActDone}
-use Rattle.lh_states.specs.Runs.{ActIs, ActIsSound}
+use Rattle.lh_kernel_wakes.specs.Rising.{IsOneOf, IsRising, AreAbove}
+use Rattle.lh_kernel_states.specs.declared.state.InstState.{InstState}
+use Rattle.lh_kernel_states.specs.States.{StateIs}
+use Rattle.lh_kernel_states.specs.Acts.{ActDone}
+use Rattle.lh_kernel_states.specs.Runs.{ActIs, ActIsSound}
 use Rattle.lh_kernel.specs.declared.run.Activation.{Activation}
 use Rattle.lh_kernel.specs.States.{StatesStand}
 use Rattle.lh_kernel.specs.Ran.{done_by, DoesSo, AllRan, ActOfOne, outcomes_by, outcomes_ran}

@@ -10,12 +10,12 @@ use Rattle.lh_types.specs.declared.val.Val.{Val}
 use Rattle.lh_types.specs.declared.ty.NoMemory.{NoMemory}
 use Rattle.lh_unit.specs.Design as text
 use Rattle.lh_unit.specs.Trace.{signal_value}
-use Rattle.lh_index.specs.Rising.{IsOneOf}
-use Rattle.lh_index.specs.Sensed.{sensed_by}
+use Rattle.lh_kernel_wakes.specs.Rising.{IsOneOf}
+use Rattle.lh_kernel_wakes.specs.Sensed.{sensed_by}
 use Rattle.lh_design.specs.declared.Signal.{Signal}
 use Rattle.lh_design.specs.Texts.{signal_text}
-use Rattle.lh_change.proofs.Filled.{there, fits_there}
-use Rattle.lh_change.proofs.Shows.{read_value}
+use Rattle.lh_kernel_changes.proofs.Filled.{there, fits_there}
+use Rattle.lh_kernel_changes.proofs.Shows.{read_value}
 use Rattle.lh_kernel.specs.declared.machine.SimState.{SimState}
 use Rattle.lh_kernel.specs.States.{SensesSignal}
 use Rattle.lh_kernel.specs.Kept.{IsKept}

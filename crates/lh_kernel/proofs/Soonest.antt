@@ -6,17 +6,17 @@ use Rattle.lh_time.specs.declared.Instant.{Instant}
 use Rattle.lh_time.specs.Order.{instant_cmp, instant_lt, instant_le, IsLaterIfAny}
 use Rattle.lh_time.proofs.OrderLemmas.{instant_cmp_total, instant_le-lt}
 use Rattle.lh_types.specs.History.{sooner, if_later}
-use Rattle.lh_history.proofs.Orders.{le_not_gt, level}
-use Rattle.lh_history.proofs.Instants.{instant_one, le_self, le_trans, not_lt_le}
+use Rattle.lh_history_laws.proofs.Orders.{le_not_gt, level}
+use Rattle.lh_history_laws.proofs.Instants.{instant_one, le_self, le_trans, not_lt_le}
 use Rattle.lh_unit.specs.Arena.{Arena}
 use Rattle.lh_unit.specs.World.{State, wake_of, soonest_wake}
 use Rattle.lh_unit.specs.Within.{Each}
 use Rattle.lh_eval.specs.declared.instance.Instance.{Instance}
-use Rattle.lh_index.specs.declared.wakes.Wake.{Wake}
-use Rattle.lh_index.specs.Waking.{IsNoted, IsSoonest}
-use Rattle.lh_states.specs.declared.state.InstState.{InstState}
-use Rattle.lh_states.specs.States.{wake_kept}
-use Rattle.lh_states.specs.Laws.{WakesAlike}
+use Rattle.lh_kernel_wakes.specs.declared.wakes.Wake.{Wake}
+use Rattle.lh_kernel_wakes.specs.Waking.{IsNoted, IsSoonest}
+use Rattle.lh_kernel_states.specs.declared.state.InstState.{InstState}
+use Rattle.lh_kernel_states.specs.States.{wake_kept}
+use Rattle.lh_kernel_states.specs.Laws.{WakesAlike}
 use Rattle.lh_kernel.specs.States.{StatesStand, WakesItself}
 use Rattle.lh_kernel.specs.Kept.{WakesAfter}
 

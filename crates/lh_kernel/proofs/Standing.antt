@@ -5,8 +5,8 @@ use Rattle.lh_unit.specs.World.{State}
 use Rattle.lh_unit.specs.Within.{Each}
 use Rattle.lh_eval.specs.declared.instance.Instance.{Instance}
 use Rattle.lh_elab.specs.Answer.{InstanceIs}
-use Rattle.lh_states.specs.declared.state.InstState.{InstState}
-use Rattle.lh_states.specs.Laws.{FittingStand}
+use Rattle.lh_kernel_states.specs.declared.state.InstState.{InstState}
+use Rattle.lh_kernel_states.specs.Laws.{FittingStand}
 use Rattle.lh_kernel.specs.States.{StatesStand, StatesFit}
 
 -- what fits stands for some states

@@ -4,7 +4,7 @@ use Rattle.std.specs.Prelude.{◌↔◌, slice_get}
 use Rattle.std.proofs.lemmas.List.{take_more, take_all}
 use Rattle.std.proofs.lemmas.Bool.{cases_lt}
 use Rattle.std.proofs.lemmas.Option.{slice_get_within, slice_get_read}
-use Rattle.lh_index.specs.declared.wakes.Wake.{Wake}
+use Rattle.lh_kernel_wakes.specs.declared.wakes.Wake.{Wake}
 use Rattle.lh_time.specs.declared.Instant.{Instant}
 use Rattle.lh_types.specs.declared.part.Range.{Range}
 use Rattle.lh_unit.specs.declared.inst.UnitKind.{UnitKind}
@@ -16,18 +16,18 @@ use Rattle.lh_unit.specs.World.{unit_of, start_by, start, starts, wake_of, bit_n
 use Rattle.lh_unit.specs.Within.{Each}
 use Rattle.lh_unit.proofs.Lists.{Each-item}
 use Rattle.lh_eval.specs.declared.instance.Instance.{Instance}
-use Rattle.lh_index.specs.Rising.{IsOneOf}
-use Rattle.lh_index.specs.Sensed.{Senses}
-use Rattle.lh_index.specs.Waking.{IsNoted}
+use Rattle.lh_kernel_wakes.specs.Rising.{IsOneOf}
+use Rattle.lh_kernel_wakes.specs.Sensed.{Senses}
+use Rattle.lh_kernel_wakes.specs.Waking.{IsNoted}
 use Rattle.lh_design.specs.declared.Signal.{Signal}
 use Rattle.lh_design.specs.Texts.{instance_text}
-use Rattle.lh_change.specs.Touched.{Touches, AreTouched, AreWithin}
-use Rattle.lh_change.proofs.Filled.{is_below}
+use Rattle.lh_kernel_changes.specs.Touched.{Touches, AreTouched, AreWithin}
+use Rattle.lh_kernel_changes.proofs.Filled.{is_below}
 use Rattle.lh_elab.specs.Answer.{InstanceIs}
 use Rattle.lh_elab.specs.Probed.{probed_by, AreProbes}
-use Rattle.lh_states.specs.declared.state.InstState.{InstState}
-use Rattle.lh_states.specs.States.{StateIs, StateFits, parts_sensed, wake_kept}
-use Rattle.lh_states.proofs.Standing.{senses-within, wakes-alike}
+use Rattle.lh_kernel_states.specs.declared.state.InstState.{InstState}
+use Rattle.lh_kernel_states.specs.States.{StateIs, StateFits, parts_sensed, wake_kept}
+use Rattle.lh_kernel_states.proofs.Standing.{senses-within, wakes-alike}
 use Rattle.lh_kernel.specs.States.{StatesStand, StatesFit, SensesSignal, WakesItself}
 use Rattle.lh_kernel.specs.Noted.{IsNotedFor, SensedWithin}
 use Rattle.lh_kernel.specs.Noting.{HasNoted}

@@ -11,9 +11,9 @@ use Rattle.lh_queue.specs.Holds.{entries}
 use Rattle.lh_queue.specs.Buckets.{buckets_of, next_in}
 use Rattle.lh_queue.specs.Places.{first_key, rest_from}
 use Rattle.lh_queue.proofs.Taking.{rest_first, rest_none, looked, looked_end, looked_none}
-use Rattle.lh_change.specs.Touched.{TouchesMore, AreSignals, bits_named, OthersStay}
-use Rattle.lh_change.proofs.Filled.{is_below}
-use Rattle.lh_change.proofs.Same.{only_written_change}
+use Rattle.lh_kernel_changes.specs.Touched.{TouchesMore, AreSignals, bits_named, OthersStay}
+use Rattle.lh_kernel_changes.proofs.Filled.{is_below}
+use Rattle.lh_kernel_changes.proofs.Same.{only_written_change}
 use Rattle.lh_kernel.specs.Touched.{first_in, bits_then, MayChange}
 
 -- from any bits: those after the wishes so far, which differ from these only at the signals so far, and from which the rest leads to the bits then

@@ -3,8 +3,8 @@ use Rattle.std.proofs.Common.{◌≡◌, ◌≢◌, ◌<◌, ℕ, List, [], ◌�
 use Rattle.lh_time.specs.declared.Instant.{Instant}
 use Rattle.lh_time.specs.Order.{instant_lt, instant_le}
 use Rattle.lh_time.proofs.OrderLemmas.{instant_le-lt, instant_lt-trans}
-use Rattle.lh_history.proofs.Instants.{le_trans, late_not_le}
-use Rattle.lh_history.specs.Frames.{due_entries}
+use Rattle.lh_history_laws.proofs.Instants.{le_trans, late_not_le}
+use Rattle.lh_history_laws.specs.Frames.{due_entries}
 use Rattle.lh_types.specs.History.{Claim, entries_of}
 use Rattle.std.proofs.lemmas.Bool.{both_ways}
 use Rattle.lh_unit.specs.Arena.{Arena}
@@ -14,7 +14,7 @@ use Rattle.lh_kernel.specs.Ran.{ActOfOne}
 use Rattle.lh_kernel.specs.Kept.{IsWaiting}
 use Rattle.lh_kernel.proofs.Putting.{entries_put}
 use Rattle.lh_kernel.proofs.Acts.{entries_ran}
-use Rattle.lh_index.specs.Rising.{AreAbove, IsRising}
+use Rattle.lh_kernel_wakes.specs.Rising.{AreAbove, IsRising}
 use Rattle.lh_kernel.specs.declared.run.Activation.{Activation}
 use Rattle.lh_unit.specs.Within.{Each}
 use Rattle.lh_unit.proofs.Lists.{Each-append}
@@ -23,7 +23,7 @@ use Rattle.lh_queue.specs.declared.wish.Wish.{Wish}
 use Rattle.lh_queue.specs.Queued.{QueuedWish, NoneCompetes, NamesOnce, IsUnnamed, BitsWithin, due_later}
 use Rattle.lh_queue.proofs.Keeping.{different_apart}
 use Rattle.lh_kernel.specs.Puts.{wishes_by, wishes_ran, AreApart, CanBePut}
-use Rattle.lh_meaning.proofs.Instants.{lt_self}
+use Rattle.lh_trace_laws.proofs.Instants.{lt_self}
 
 -- what is later is another one
 lt_other : (a b : Instant) → instant_lt a b ≡ true → b ≢ a

@@ -7,8 +7,8 @@ use Rattle.lh_unit.specs.Within.{Each}
 use Rattle.lh_queue.specs.Queued.{QueuedWish, EachWithin, EachNames}
 use Rattle.lh_elab.specs.Answer.{IsDesignOf}
 use Rattle.lh_elab.specs.Probed.{AreProbes}
-use Rattle.lh_states.specs.declared.state.InstState.{InstState}
-use Rattle.lh_states.specs.States.{wake_kept}
+use Rattle.lh_kernel_states.specs.declared.state.InstState.{InstState}
+use Rattle.lh_kernel_states.specs.States.{wake_kept}
 use Rattle.lh_kernel.specs.States.{StatesFit}
 use Rattle.lh_kernel.specs.Noted.{IsNotedFor}
 use Rattle.lh_kernel.specs.declared.machine.SimState.{SimState}

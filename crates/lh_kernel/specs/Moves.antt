@@ -4,12 +4,12 @@ use Rattle.lh_time.specs.declared.Instant.{Instant}
 use Rattle.lh_types.specs.declared.part.Range.{Range}
 use Rattle.lh_unit.specs.World.{bit_numbers}
 use Rattle.lh_design.specs.declared.Signal.{Signal}
-use Rattle.lh_index.specs.Rising.{IsOneOf}
-use Rattle.lh_index.specs.Sensed.{Senses}
-use Rattle.lh_index.specs.Waking.{IsNoted}
-use Rattle.lh_change.specs.Touched.{Touches, AreSignals, AreWithin}
-use Rattle.lh_states.specs.declared.state.InstState.{InstState}
-use Rattle.lh_states.specs.States.{parts_sensed, wake_kept}
+use Rattle.lh_kernel_wakes.specs.Rising.{IsOneOf}
+use Rattle.lh_kernel_wakes.specs.Sensed.{Senses}
+use Rattle.lh_kernel_wakes.specs.Waking.{IsNoted}
+use Rattle.lh_kernel_changes.specs.Touched.{Touches, AreSignals, AreWithin}
+use Rattle.lh_kernel_states.specs.declared.state.InstState.{InstState}
+use Rattle.lh_kernel_states.specs.States.{parts_sensed, wake_kept}
 use Rattle.lh_kernel.specs.declared.noted.Noted.{Noted}
 use Rattle.lh_kernel.specs.declared.noted.Move.{Move}
 use Rattle.lh_kernel.specs.declared.run.Activation.{Activation}

@@ -5,11 +5,11 @@ use Rattle.lh_types.specs.declared.part.Range.{Range}
 use Rattle.lh_unit.specs.Arena.{Arena}
 use Rattle.lh_eval.specs.declared.instance.Instance.{Instance}
 use Rattle.lh_design.specs.declared.Signal.{Signal}
-use Rattle.lh_index.specs.Sensed.{Senses}
-use Rattle.lh_index.specs.Waking.{IsNoted}
-use Rattle.lh_change.specs.Touched.{AreWithin}
-use Rattle.lh_states.specs.declared.state.InstState.{InstState}
-use Rattle.lh_states.specs.States.{parts_sensed}
+use Rattle.lh_kernel_wakes.specs.Sensed.{Senses}
+use Rattle.lh_kernel_wakes.specs.Waking.{IsNoted}
+use Rattle.lh_kernel_changes.specs.Touched.{AreWithin}
+use Rattle.lh_kernel_states.specs.declared.state.InstState.{InstState}
+use Rattle.lh_kernel_states.specs.States.{parts_sensed}
 use Rattle.lh_kernel.specs.States.{SensesSignal, WakesItself}
 use Rattle.lh_kernel.specs.declared.noted.Noted.{Noted}
 

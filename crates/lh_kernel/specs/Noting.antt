@@ -1,9 +1,9 @@
 -- What is noted of one instance more, or less: signals that it senses, and an instant at which it wakes by itself.
 use Rattle.std.specs.Prelude.{◌≡◌, ◌↔◌, ◌⊎◌, ℕ, List, length, Option, Some}
 use Rattle.lh_time.specs.declared.Instant.{Instant}
-use Rattle.lh_index.specs.Rising.{IsOneOf}
-use Rattle.lh_index.specs.Sensed.{Senses}
-use Rattle.lh_index.specs.Waking.{IsNoted}
+use Rattle.lh_kernel_wakes.specs.Rising.{IsOneOf}
+use Rattle.lh_kernel_wakes.specs.Sensed.{Senses}
+use Rattle.lh_kernel_wakes.specs.Waking.{IsNoted}
 use Rattle.lh_kernel.specs.declared.noted.Noted.{Noted}
 
 -- all this is noted of the instance, beside what was

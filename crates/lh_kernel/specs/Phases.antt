@@ -15,9 +15,9 @@ use Rattle.lh_unit.specs.Frames.{woken_at, signal_values, changes_by}
 use Rattle.lh_unit.specs.Within.{Each}
 use Rattle.lh_queue.specs.Queued.{NoneDueBefore}
 use Rattle.lh_queue.specs.Holds.{IsAfter}
-use Rattle.lh_index.specs.Waking.{IsNoted}
+use Rattle.lh_kernel_wakes.specs.Waking.{IsNoted}
 use Rattle.lh_design.specs.Texts.{signal_text, design_text}
-use Rattle.lh_change.specs.Touched.{AreSignals, OthersStay}
+use Rattle.lh_kernel_changes.specs.Touched.{AreSignals, OthersStay}
 use Rattle.lh_kernel.specs.States.{StatesStand}
 use Rattle.lh_kernel.specs.Touched.{bits_then}
 use Rattle.lh_kernel.specs.Woken.{awake_from}

@@ -6,8 +6,8 @@ use Rattle.lh_unit.specs.Arena.{Arena, contents, unit_text_at}
 use Rattle.lh_unit.specs.World.{State, Act, rules_of, runs}
 use Rattle.lh_eval.specs.declared.instance.Instance.{Instance}
 use Rattle.lh_design.specs.Texts.{instance_text}
-use Rattle.lh_states.specs.declared.state.InstState.{InstState}
-use Rattle.lh_states.specs.Runs.{ActIs, ActIsSound}
+use Rattle.lh_kernel_states.specs.declared.state.InstState.{InstState}
+use Rattle.lh_kernel_states.specs.Runs.{ActIs, ActIsSound}
 use Rattle.lh_kernel.specs.declared.run.Activation.{Activation}
 
 -- what an instance with this state does in the frame at `t`

@@ -7,7 +7,7 @@ use Rattle.lh_unit.specs.World.{World, bits_of}
 use Rattle.lh_queue.specs.Queued.{QueuedWish}
 use Rattle.lh_queue.specs.Holds.{HoldsFor}
 use Rattle.lh_design.specs.declared.Design.{Design}
-use Rattle.lh_states.specs.declared.state.InstState.{InstState}
+use Rattle.lh_kernel_states.specs.declared.state.InstState.{InstState}
 use Rattle.lh_kernel.specs.States.{StatesStand}
 use Rattle.lh_kernel.specs.declared.machine.SimState.{SimState}
 

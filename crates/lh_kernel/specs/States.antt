@@ -5,10 +5,10 @@ use Rattle.lh_unit.specs.Arena.{Arena}
 use Rattle.lh_unit.specs.World.{State, bit_numbers}
 use Rattle.lh_eval.specs.declared.instance.Instance.{Instance}
 use Rattle.lh_design.specs.declared.Signal.{Signal}
-use Rattle.lh_change.specs.Touched.{Touches}
+use Rattle.lh_kernel_changes.specs.Touched.{Touches}
 use Rattle.lh_elab.specs.Probed.{probed_by}
-use Rattle.lh_states.specs.declared.state.InstState.{InstState}
-use Rattle.lh_states.specs.States.{StateIs, StateFits, parts_sensed, wake_kept}
+use Rattle.lh_kernel_states.specs.declared.state.InstState.{InstState}
+use Rattle.lh_kernel_states.specs.States.{StateIs, StateFits, parts_sensed, wake_kept}
 
 -- what is kept of each stands for its state
 abbrev pub StatesStand : Arena → List Instance → List InstState → List State → Type 0

@@ -6,7 +6,7 @@ use Rattle.lh_queue.specs.Queued.{QueuedWish}
 use Rattle.lh_queue.specs.Holds.{entries}
 use Rattle.lh_queue.specs.declared.queue.Bucket.{Bucket}
 use Rattle.lh_design.specs.declared.Signal.{Signal}
-use Rattle.lh_change.specs.Touched.{AreSignals, OthersStay}
+use Rattle.lh_kernel_changes.specs.Touched.{AreSignals, OthersStay}
 
 -- the first key of the first bucket
 abbrev pub first_in : List Bucket → Option ℕ

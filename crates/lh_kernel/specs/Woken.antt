@@ -8,16 +8,16 @@ use Rattle.lh_unit.specs.Arena.{Arena}
 use Rattle.lh_unit.specs.World.{bit_numbers, bit_differs, Moment, wakes}
 use Rattle.lh_unit.specs.Within.{Each}
 use Rattle.lh_eval.specs.declared.instance.Instance.{Instance}
-use Rattle.lh_index.specs.Rising.{IsOneOf}
-use Rattle.lh_index.specs.Sensed.{Senses}
-use Rattle.lh_index.specs.Waking.{IsNoted}
+use Rattle.lh_kernel_wakes.specs.Rising.{IsOneOf}
+use Rattle.lh_kernel_wakes.specs.Sensed.{Senses}
+use Rattle.lh_kernel_wakes.specs.Waking.{IsNoted}
 use Rattle.lh_design.specs.declared.Signal.{Signal}
 use Rattle.lh_design.specs.declared.Design.{Design}
 use Rattle.lh_design.specs.Filling.{SignalsFill}
-use Rattle.lh_change.specs.Touched.{StaysSame}
+use Rattle.lh_kernel_changes.specs.Touched.{StaysSame}
 use Rattle.lh_elab.specs.Probed.{probed_by, AreProbes}
-use Rattle.lh_states.specs.declared.state.InstState.{InstState}
-use Rattle.lh_states.specs.States.{parts_sensed, wake_kept}
+use Rattle.lh_kernel_states.specs.declared.state.InstState.{InstState}
+use Rattle.lh_kernel_states.specs.States.{parts_sensed, wake_kept}
 use Rattle.lh_kernel.specs.States.{StatesFit}
 use Rattle.lh_kernel.specs.Noted.{IsNotedFor}
 use Rattle.lh_kernel.specs.declared.noted.Noted.{Noted}

@@ -2,19 +2,19 @@
 ghost use Rattle.std.specs.Prelude.{◌≡◌, ◌≢◌, ◌↔◌, ℕ, Some, length, IfOk, IsTrue};
 ghost use Rattle.lh_unit.specs.World.{bit_numbers};
 ghost use Rattle.lh_unit.specs.Within.{Each};
-ghost use Rattle.lh_index.specs.Rising.{IsOneOf};
+ghost use Rattle.lh_kernel_wakes.specs.Rising.{IsOneOf};
 ghost use Rattle.lh_design.specs.Filling.{SignalsFill};
-ghost use Rattle.lh_change.specs.Touched.{Touches, AreWithin};
-ghost use Rattle.lh_states.specs.States.{parts_sensed};
+ghost use Rattle.lh_kernel_changes.specs.Touched.{Touches, AreWithin};
+ghost use Rattle.lh_kernel_states.specs.States.{parts_sensed};
 ghost use Rattle.lh_kernel.specs.Moves.{IsMove, AreMoves, MovesKnown, AreBetween, SensesFit, SensesAsBefore};
 
 use crate::noted::Move;
 use crate::run::Activation;
-use lh_change::signals::signals_of;
 use lh_design::Design;
 use lh_exec::WaitOn;
-use lh_index::rising::Rising;
-use lh_states::state::InstState;
+use lh_kernel_changes::signals::signals_of;
+use lh_kernel_states::state::InstState;
+use lh_kernel_wakes::rising::Rising;
 use lh_time::Instant;
 use lh_types::part::{Range, RangeList};
 use lh_types::ty::NoMemory;

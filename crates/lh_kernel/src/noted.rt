@@ -1,13 +1,13 @@
 //! Who senses which signal and who wakes by itself when: what is noted of all instances, and how it moves.
 ghost use Rattle.std.specs.Prelude.{◌≡◌, ◌<◌, ℕ, List, length, IfOk, OnErr};
 ghost use Rattle.lh_design.specs.declared.Signal.{Signal};
-ghost use Rattle.lh_index.specs.Rising.{IsOneOf};
+ghost use Rattle.lh_kernel_wakes.specs.Rising.{IsOneOf};
 ghost use Rattle.lh_kernel.specs.Moves.{MovesKnown, AreFresh, HasEntered, HasEnteredSome, HasLeft, IsSameNoted};
 ghost use Rattle.lh_kernel.specs.Noting.{HasNoted, HasNotedSome, HasForgotten};
 
-use lh_index::rising::Rising;
-use lh_index::sensing::Index;
-use lh_index::wakes::Wakes;
+use lh_kernel_wakes::rising::Rising;
+use lh_kernel_wakes::sensing::Index;
+use lh_kernel_wakes::wakes::Wakes;
 use lh_time::Instant;
 use lh_types::ty::NoMemory;
 

@@ -9,9 +9,9 @@ ghost use Rattle.lh_kernel.specs.Puts.{wish_by, wishes_by, wishes_ran, WasPut, W
 use crate::run::Activation;
 use lh_bits::mostly_one::Items;
 use lh_bits::writes::{BitWrites, DueWrites};
+use lh_kernel_states::state::InstState;
 use lh_queue::queue::Queue;
 use lh_queue::wish::Wish;
-use lh_states::state::InstState;
 use lh_time::Instant;
 
 /// Takes what the instances did at an instant: their wishes into the queue, and their states. It takes no memory.

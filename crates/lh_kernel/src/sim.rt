@@ -7,7 +7,7 @@ ghost use Rattle.lh_unit.specs.Design as text;
 ghost use Rattle.lh_unit.specs.World.{World, first_world, next_instant};
 ghost use Rattle.lh_unit.specs.Trace.{signal_value};
 ghost use Rattle.lh_design.specs.Texts.{design_text};
-ghost use Rattle.lh_index.specs.Rising.{IsOneOf, IsRising};
+ghost use Rattle.lh_kernel_wakes.specs.Rising.{IsOneOf, IsRising};
 ghost use Rattle.lh_elab.specs.Answer.{IsDesignOf};
 ghost use Rattle.lh_kernel.specs.States.{SensesSignal};
 ghost use Rattle.lh_kernel.specs.Simulation.{StandsFor};

@@ -5,9 +5,9 @@ ghost use Rattle.lh_queue.specs.Queued.{NoneDueBefore, EachWithin};
 ghost use Rattle.lh_time.specs.Order.{instant_eq};
 ghost use Rattle.lh_kernel.specs.Touched.{MayChange, first_in};
 
-use lh_change::signals::touch_written;
 use lh_design::Design;
-use lh_index::rising::Rising;
+use lh_kernel_changes::signals::touch_written;
+use lh_kernel_wakes::rising::Rising;
 use lh_queue::queue::{Bucket, Queue};
 use lh_queue::wish::Wish;
 use lh_time::Instant;

@@ -2,17 +2,17 @@
 ghost use Rattle.std.specs.Prelude.{◌≡◌, ◌≤◌, ◌<◌, ◌↔◌, ℕ, List, Bool, true, length, IfOk, Some, None};
 ghost use Rattle.lh_time.specs.Order.{instant_le};
 ghost use Rattle.lh_unit.specs.Arena.{Arena};
-ghost use Rattle.lh_index.specs.Rising.{IsOneOf};
-ghost use Rattle.lh_index.specs.Waking.{IsNoted};
-ghost use Rattle.lh_change.specs.Touched.{AreSignals, OthersStay};
+ghost use Rattle.lh_kernel_wakes.specs.Rising.{IsOneOf};
+ghost use Rattle.lh_kernel_wakes.specs.Waking.{IsNoted};
+ghost use Rattle.lh_kernel_changes.specs.Touched.{AreSignals, OthersStay};
 ghost use Rattle.lh_kernel.specs.Woken.{awake_from, AreAsleep, HasRoused};
 
 use crate::noted::Noted;
 use lh_bits::bits::Bits;
-use lh_change::differ::{changed_part, differs_with};
 use lh_design::Design;
-use lh_index::rising::Rising;
-use lh_states::state::InstState;
+use lh_kernel_changes::differ::{changed_part, differs_with};
+use lh_kernel_states::state::InstState;
+use lh_kernel_wakes::rising::Rising;
 use lh_time::Instant;
 use lh_types::part::RangeList;
 use lh_types::ty::NoMemory;

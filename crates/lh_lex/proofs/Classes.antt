@@ -3,7 +3,7 @@ use Rattle.std.proofs.Common.{◌≡◌, ℕ, ◌<◌, ◌==◌, Bool, map, get_
 use Rattle.std.proofs.Math.ListN.{get_or-map}
 use Rattle.std.proofs.lemmas.List.FromFn.{get_or-map-range_with_len}
 use Rattle.std.specs.List.{range_with_len}
-use Rattle.lh_names.specs.Names.{is_name_byte}
+use Rattle.lh_unit_names.specs.Names.{is_name_byte}
 use Rattle.lh_unit.specs.Lexemes.{is_white, is_punct}
 use Rattle.lh_lex.specs.declared.TheConstants.{CLASSES}
 

@@ -2,7 +2,7 @@
 use Rattle.std.proofs.Common.{◌≡◌, ℕ, ◌+◌, ◌-◌, zero, suc, List, [], ◌∷◌, length, take, drop, nat_eq, nat_lt, Some, Ok, true, false, refl, ap, sym, ◌∙◌, subst, arith}
 use Rattle.std.proofs.lemmas.Grind.{common_steps}
 use Rattle.std.proofs.lemmas.List.{take_rest}
-use Rattle.lh_names.specs.Names.{is_name_byte, IsName}
+use Rattle.lh_unit_names.specs.Names.{is_name_byte, IsName}
 use Rattle.lh_unit.specs.Lexemes.{word, local, first_lexeme, run_len, fits_name}
 use Rattle.lh_unit.specs.Tokens.{first_token, lexeme_of, IsSpelling}
 use Rattle.lh_unit.specs.declared.token.TokenKind.{TokenKind}

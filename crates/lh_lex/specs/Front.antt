@@ -1,7 +1,7 @@
 -- The token in front of bytes.
 use Rattle.std.specs.Prelude.{◌≡◌, ℕ, Bool, true, false, ◌&&◌, nat_eq, nat_lt, List, [], ◌∷◌, take, Option, Some, None, Result, Ok, Err, if◌then◌else◌}
 use Rattle.std.proofs.Common.{zero, suc}
-use Rattle.lh_names.specs.Names.{is_name_byte}
+use Rattle.lh_unit_names.specs.Names.{is_name_byte}
 use Rattle.lh_unit.specs.Lexemes.{Lexeme, punct, first_lexeme, run_len, fits_name, is_white, is_comment}
 use Rattle.lh_unit.specs.Tokens.{lexeme_of}
 use Rattle.lh_unit.specs.declared.token.TokenKind.{TokenKind}

@@ -5,7 +5,7 @@
 #![tactic(auto)]
 
 ghost use Rattle.std.specs.Prelude.{◌≡◌, ◌≤◌, ◌+◌, [], ◌∷◌, ◌⊎◌, IfOk, IfErr, IfSome, IfNone, length, map, take, drop, false, Some, Result, Ok};
-ghost use Rattle.lh_names.specs.Names.{is_name_byte, IsName};
+ghost use Rattle.lh_unit_names.specs.Names.{is_name_byte, IsName};
 ghost use Rattle.lh_unit.specs.Lexemes as spec;
 ghost use Rattle.lh_unit.specs.Lexemes.{lexemes, first_lexeme, run_len, begins, is_comment, is_punct};
 ghost use Rattle.lh_unit.specs.Tokens.{tokens, first_token, named, lexeme_of, lexeme_at, IsSpelling, AreTokensOf, Covers};

@@ -2,7 +2,7 @@
 use Rattle.std.proofs.Common.{◌≡◌, List, refl, sym, subst}
 use Rattle.std.specs.Prelude.{Ok}
 use Rattle.lh_term.specs.declared.term.Node.{Node}
-use Rattle.lh_rows.specs.Regions.{Regions as RegionsOf, RegionRefusal, Regioned, no_regions}
+use Rattle.lh_region_def.specs.Regions.{Regions as RegionsOf, RegionRefusal, Regioned, no_regions}
 use Rattle.lh_region.specs.Stands.{AreRegions, RegionsOrReason}
 use Rattle.lh_region.specs.declared.rows.Regions.{Regions}
 use Rattle.lh_shape.specs.Answers.{IsShape}

@@ -4,21 +4,21 @@ use Rattle.std.specs.List.{flat_map}
 use Rattle.std.proofs.lemmas.List.{map-append, append-nil}
 use Rattle.std.proofs.lemmas.Option.{slice_get-get_or}
 use Rattle.std.proofs.lemmas.Grind.{flat_map-append}
-use Rattle.lh_names.specs.declared.name.UnitName.{UnitName}
+use Rattle.lh_unit_names.specs.declared.name.UnitName.{UnitName}
 use Rattle.lh_unit.specs.declared.inst.UnitId.{UnitId}
 use Rattle.lh_unit.specs.declared.inst.Item.{Item}
 use Rattle.lh_unit.specs.declared.inst.Item.TheVariants as item
 use Rattle.lh_unit.specs.declared.inst.UnitKind.{UnitKind}
 use Rattle.lh_unit.specs.declared.inst.UnitKind.TheVariants as unit_kind
-use Rattle.lh_names.specs.UnitNames.{same_unit_name}
+use Rattle.lh_unit_names.specs.UnitNames.{same_unit_name}
 use Rattle.lh_unit.specs.Contents.{ItemText, UnitText, unit_text, defines_unit}
 use Rattle.lh_unit.specs.Arena.{Arena, IsArena, contents, item_text_at, unit_text_at, unit_count, unit_name_at, no_unit_name, kind_at}
 use Rattle.lh_unit.specs.Within.{Each}
 use Rattle.lh_unit.proofs.Arenas.{same_unit_name-is}
-use Rattle.lh_lowered.specs.Lowering.{Outcome, outcome_in, in_place, verdict_of, lowered_as, lowered_item, row_as, item_row}
-use Rattle.lh_lowered.specs.Report.{RowText, row_text}
-use Rattle.lh_lowered.specs.declared.report.ReportRow.{ReportRow}
-use Rattle.lh_lowered.proofs.Keeping.{unit-name}
+use Rattle.lh_lower_def.specs.Lowering.{Outcome, outcome_in, in_place, verdict_of, lowered_as, lowered_item, row_as, item_row}
+use Rattle.lh_lower_def.specs.Report.{RowText, row_text}
+use Rattle.lh_lower_def.specs.declared.report.ReportRow.{ReportRow}
+use Rattle.lh_lower_def.proofs.Keeping.{unit-name}
 use Rattle.lh_lower.specs.Lowers.{IsBehind}
 
 -- ---- what stands behind

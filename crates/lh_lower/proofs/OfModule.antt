@@ -1,7 +1,7 @@
 -- What becomes of a process of a module, by its flat text.
 use Rattle.std.proofs.Common.{◌≡◌, ℕ, ◌<◌, ◌^◌, List, [], ◌∷◌, length, map, false, Some, Ok, refl, ap, sym, ◌∙◌, subst}
 use Rattle.std.proofs.lemmas.List.{length-map}
-use Rattle.lh_names.specs.declared.name.UnitName.{UnitName}
+use Rattle.lh_unit_names.specs.declared.name.UnitName.{UnitName}
 use Rattle.lh_unit.specs.declared.inst.Arg.{Arg}
 use Rattle.lh_unit.specs.declared.inst.UnitKind.TheVariants as unit_kind
 use Rattle.lh_unit.specs.Activation.{functions}
@@ -10,30 +10,30 @@ use Rattle.lh_unit.specs.Contents.{ArgText, UnitText}
 use Rattle.lh_unit.specs.Naming.{Naming, value_text, arg_text}
 use Rattle.lh_unit.specs.Reads.{args_repeat}
 use Rattle.lh_unit.specs.WellFormed.{IsWellFormed}
-use Rattle.lh_inlined.specs.Formed.{IsFormed}
-use Rattle.lh_inlined.proofs.Activating.{flat-is}
-use Rattle.lh_alike.specs.Formed.{FlatTextsAreFormed}
+use Rattle.lh_flat_laws.specs.Formed.{IsFormed}
+use Rattle.lh_flat_laws.proofs.Activating.{flat-is}
+use Rattle.lh_flat_state_laws.specs.Formed.{FlatTextsAreFormed}
 use Rattle.lh_flat.specs.Below.{IdsBelow}
 use Rattle.lh_flat.specs.Flat.{FlatText, FlatRefusal, Flattened, refused, flattened, flat_of, flat_unit}
 use Rattle.lh_flat.specs.Marks.{UnitsAreNamed}
 use Rattle.lh_flat.specs.Reads.{flat_text, refusal_text, GivesRefusal, ReadsAs, Flattens}
 use Rattle.lh_flat.specs.declared.flat.Flat.{Flat}
 use Rattle.lh_flat.specs.declared.fault.FlatFault.{FlatFault}
-use Rattle.lh_parts.specs.declared.table.PartTable.{PartTable}
-use Rattle.lh_parts.specs.Steps.{IsPartTable}
+use Rattle.lh_flat_parts.specs.declared.table.PartTable.{PartTable}
+use Rattle.lh_flat_parts.specs.Steps.{IsPartTable}
 use Rattle.lh_term.specs.declared.term.Node.{Node}
 use Rattle.lh_region.specs.Forms.{Names, HasForm}
-use Rattle.lh_walk.proofs.HavingSteps.{has-steps}
+use Rattle.lh_region_walk.proofs.HavingSteps.{has-steps}
 use Rattle.lh_shape.specs.Answers.{IsShape}
 use Rattle.lh_shape.specs.Reasons.{flat_reason}
 use Rattle.lh_shape.specs.Shapes.{shape_of_text}
 use Rattle.lh_shape.specs.declared.kinds.Shape.{Shape}
-use Rattle.lh_origin.specs.Firsts.{AreFirsts}
-use Rattle.lh_origin.specs.Origins.{IsOrigin}
-use Rattle.lh_origin.specs.declared.origin.Origin.{Origin}
-use Rattle.lh_lowered.specs.Lowering as text
-use Rattle.lh_stand.specs.Given.{CombIsGiven, EdgeIsGiven, OnceIsGiven}
-use Rattle.lh_stand.proofs.Few.{unit-args-few}
+use Rattle.lh_emit_source.specs.Firsts.{AreFirsts}
+use Rattle.lh_emit_source.specs.Origins.{IsOrigin}
+use Rattle.lh_emit_source.specs.declared.origin.Origin.{Origin}
+use Rattle.lh_lower_def.specs.Lowering as text
+use Rattle.lh_entity_laws.specs.Given.{CombIsGiven, EdgeIsGiven, OnceIsGiven}
+use Rattle.lh_entity_laws.proofs.Few.{unit-args-few}
 use Rattle.lh_lower.specs.Outcomes.{IsOutcome, IsOutcomeAt, HasArgs, CanEmit, IsOutcomeOf, IsOutcomeBy}
 use Rattle.lh_lower.specs.declared.outcome.Outcome.{Outcome}
 use Rattle.lh_lower.specs.declared.outcome.Outcome.TheVariants as outcome

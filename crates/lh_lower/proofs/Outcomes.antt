@@ -1,40 +1,40 @@
 -- What becomes of a process, from its body, its shape and its flat text.
 use Rattle.std.proofs.Common.{◌≡◌, ◌<◌, ◌≤◌, ◌^◌, List, [], ◌∷◌, length, false, Result, Ok, Err, IfOk, refl, ap, sym, ◌∙◌, subst}
 use Rattle.std.proofs.lemmas.List.{append-nil}
-use Rattle.lh_names.specs.declared.name.UnitName.{UnitName}
+use Rattle.lh_unit_names.specs.declared.name.UnitName.{UnitName}
 use Rattle.lh_unit.specs.Contents.{LineText, BlockText, UnitText}
 use Rattle.lh_unit.specs.Naming.{Naming}
 use Rattle.lh_unit.specs.Reads.{args_repeat}
 use Rattle.lh_unit.specs.Within.{Each}
-use Rattle.lh_spelled.specs.Printable.{results_repeat}
-use Rattle.lh_inlined.specs.Formed.{IsFormed}
+use Rattle.lh_text_laws.specs.Printable.{results_repeat}
+use Rattle.lh_flat_laws.specs.Formed.{IsFormed}
 use Rattle.lh_flat.specs.Flat.{FlatText, flat_unit}
 use Rattle.lh_flat.specs.Reads.{flat_text}
 use Rattle.lh_term.specs.declared.part.Part.{Part}
 use Rattle.lh_term.specs.declared.term.Node.{Node}
 use Rattle.lh_edge.specs.Triggers.{EdgeRowTree}
 use Rattle.lh_edge.specs.declared.triggers.EdgeRow.{EdgeRow}
-use Rattle.lh_rows.specs.Rows.{Drive}
+use Rattle.lh_region_def.specs.Rows.{Drive}
 use Rattle.lh_region.specs.declared.rows.DriveRow.{DriveRow}
 use Rattle.lh_shape.specs.Answers.{IsShape}
 use Rattle.lh_shape.specs.Shapes.{ShapeText, comb, edge, once, left, shape_of_text}
 use Rattle.lh_shape.specs.declared.kinds.Shape.{Shape}
 use Rattle.lh_shape.specs.declared.kinds.Shape.TheVariants as shape
 use Rattle.lh_shape.specs.declared.reason.Reason.{Reason}
-use Rattle.lh_emission.specs.Emitted.{Source, PartStep, source_of}
-use Rattle.lh_emission.specs.Entities.{Emission, emits, entity_with, comb_emission, edge_emission, once_emission}
-use Rattle.lh_emission.specs.Laws.{IsEntityOf, IsRightEntity, HasApartArgs, CombIsEntity, CombIsRight, EdgeIsEntity, EdgeIsRight, OnceIsEntity, OnceIsRight}
-use Rattle.lh_emission.specs.Ways.{WaitIsGiven, DriveIsGiven, RowIsGiven}
-use Rattle.lh_origin.specs.Origins.{source_by, IsOrigin}
-use Rattle.lh_bodies.specs.Bodies.{IsBody, BodyOrTooLarge, IsFlatOf, steps_of, DrivesGiven, CanDrive, IsComb, IsOnce, RowsGiven, CanRegister, IsEdge}
-use Rattle.lh_origin.specs.declared.origin.Origin.{Origin}
-use Rattle.lh_body.specs.declared.body.Body.{Body}
-use Rattle.lh_body.specs.declared.lines.EmitFault.{EmitFault}
-use Rattle.lh_body.specs.declared.lines.EmitFault.TheVariants as emit
-use Rattle.lh_lowered.specs.declared.report.Kind.{Kind}
-use Rattle.lh_lowered.specs.declared.report.Kind.TheVariants as kind
-use Rattle.lh_lowered.specs.Lowering as text
-use Rattle.lh_stand.specs.Given.{source_in, CombIsGiven, EdgeIsGiven, OnceIsGiven}
+use Rattle.lh_emit_def.specs.Emitted.{Source, PartStep, source_of}
+use Rattle.lh_emit_def.specs.Entities.{Emission, emits, entity_with, comb_emission, edge_emission, once_emission}
+use Rattle.lh_emit_def.specs.Laws.{IsEntityOf, IsRightEntity, HasApartArgs, CombIsEntity, CombIsRight, EdgeIsEntity, EdgeIsRight, OnceIsEntity, OnceIsRight}
+use Rattle.lh_emit_def.specs.Ways.{WaitIsGiven, DriveIsGiven, RowIsGiven}
+use Rattle.lh_emit_source.specs.Origins.{source_by, IsOrigin}
+use Rattle.lh_emit_shapes.specs.Bodies.{IsBody, BodyOrTooLarge, IsFlatOf, steps_of, DrivesGiven, CanDrive, IsComb, IsOnce, RowsGiven, CanRegister, IsEdge}
+use Rattle.lh_emit_source.specs.declared.origin.Origin.{Origin}
+use Rattle.lh_emit_body.specs.declared.body.Body.{Body}
+use Rattle.lh_emit_body.specs.declared.lines.EmitFault.{EmitFault}
+use Rattle.lh_emit_body.specs.declared.lines.EmitFault.TheVariants as emit
+use Rattle.lh_lower_def.specs.declared.report.Kind.{Kind}
+use Rattle.lh_lower_def.specs.declared.report.Kind.TheVariants as kind
+use Rattle.lh_lower_def.specs.Lowering as text
+use Rattle.lh_entity_laws.specs.Given.{source_in, CombIsGiven, EdgeIsGiven, OnceIsGiven}
 use Rattle.lh_lower.specs.Outcomes.{IsEntityBody}
 use Rattle.lh_lower.specs.Outcomes.{IsOutcome, IsOutcomeWith, IsShapeGiven, HasShape, CanEmit, IsOutcomeOf}
 use Rattle.lh_lower.specs.declared.outcome.Outcome.{Outcome}

@@ -6,8 +6,8 @@ use Rattle.std.proofs.lemmas.Grind.{flat_map-append}
 use Rattle.lh_unit.specs.Arena.{Arena}
 use Rattle.lh_unit.specs.Within.{Each}
 use Rattle.lh_unit.proofs.Lists.{Each-item}
-use Rattle.lh_lowered.specs.Report.{RowText, row_text, row_line, report_text}
-use Rattle.lh_lowered.specs.declared.report.ReportRow.{ReportRow}
+use Rattle.lh_lower_def.specs.Report.{RowText, row_text, row_line, report_text}
+use Rattle.lh_lower_def.specs.declared.report.ReportRow.{ReportRow}
 use Rattle.lh_term.proofs.Swaps.{take_whole}
 
 -- the lines of the first i rows

@@ -14,18 +14,18 @@ use Rattle.lh_unit.specs.Contents.{ItemText, LineText, UnitText, unit_text, decl
 use Rattle.lh_unit.specs.Naming.{kind_text}
 use Rattle.lh_unit.specs.Arena.{Arena, IsArena, contents, item_text_at, unit_text_at, unit_count, unit_name_at, kind_at}
 use Rattle.lh_unit.specs.Within.{Each}
-use Rattle.lh_emission.specs.Entities.{entity_with}
-use Rattle.lh_body.specs.Bodies.{IsBody}
-use Rattle.lh_body.specs.declared.body.Body.{Body}
-use Rattle.lh_copy.specs.Copying.{IsCopying, CanAdd, CopiesMore, CopiesUnit}
-use Rattle.lh_copy.specs.Putting.{CanPut}
-use Rattle.lh_lowered.specs.declared.report.Kind.{Kind}
-use Rattle.lh_lowered.specs.declared.report.Verdict.{Verdict}
-use Rattle.lh_lowered.specs.declared.report.Verdict.TheVariants as verdict
-use Rattle.lh_lowered.specs.Lowering as text
-use Rattle.lh_lowered.specs.Lowering.{lowered_item, item_row, outcome_in, report}
-use Rattle.lh_lowered.specs.Report.{RowText, row_text}
-use Rattle.lh_lowered.specs.declared.report.ReportRow.{ReportRow}
+use Rattle.lh_emit_def.specs.Entities.{entity_with}
+use Rattle.lh_emit_body.specs.Bodies.{IsBody}
+use Rattle.lh_emit_body.specs.declared.body.Body.{Body}
+use Rattle.lh_lower_copy.specs.Copying.{IsCopying, CanAdd, CopiesMore, CopiesUnit}
+use Rattle.lh_lower_copy.specs.Putting.{CanPut}
+use Rattle.lh_lower_def.specs.declared.report.Kind.{Kind}
+use Rattle.lh_lower_def.specs.declared.report.Verdict.{Verdict}
+use Rattle.lh_lower_def.specs.declared.report.Verdict.TheVariants as verdict
+use Rattle.lh_lower_def.specs.Lowering as text
+use Rattle.lh_lower_def.specs.Lowering.{lowered_item, item_row, outcome_in, report}
+use Rattle.lh_lower_def.specs.Report.{RowText, row_text}
+use Rattle.lh_lower_def.specs.declared.report.ReportRow.{ReportRow}
 use Rattle.lh_shape.specs.declared.reason.Reason.{Reason}
 use Rattle.lh_lower.specs.Outcomes.{IsOutcomeAt}
 use Rattle.lh_lower.specs.Lowers.{IsLowering, IsBehind, IsNext, LowersItem}

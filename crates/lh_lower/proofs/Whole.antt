@@ -5,7 +5,7 @@ use Rattle.lh_unit.specs.Arena.{Arena, contents}
 use Rattle.lh_unit.specs.Trace.{SameTrace}
 use Rattle.lh_unit.specs.WellFormed.{IsWellFormed}
 use Rattle.lh_flat.specs.Marks.{UnitsAreNamed}
-use Rattle.lh_same.specs.Same.{IsSourceModule, LoweredIsWellFormed, LoweredSameTrace}
+use Rattle.lh_lower_laws.specs.Same.{IsSourceModule, LoweredIsWellFormed, LoweredSameTrace}
 use Rattle.lh_lower.specs.Lowers.{IsLowered, IsLowering, IsBehind, IsNext, LowersItem}
 use Rattle.lh_lower.specs.declared.lowering.Lowering.{Lowering}
 use Rattle.lh_lower.proofs.Taking.{all-seen, behind, take-next}

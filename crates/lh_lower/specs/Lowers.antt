@@ -4,10 +4,10 @@ use Rattle.std.specs.List.{flat_map}
 use Rattle.lh_unit.specs.Arena.{Arena, IsArena, contents, item_text_at, unit_count}
 use Rattle.lh_unit.specs.declared.inst.Item.{Item}
 use Rattle.lh_unit.specs.Within.{Each}
-use Rattle.lh_lowered.specs.Lowering.{lowered, lowered_item, item_row, report}
-use Rattle.lh_lowered.specs.Report.{row_text}
-use Rattle.lh_lowered.specs.declared.report.ReportRow.{ReportRow}
-use Rattle.lh_copy.specs.Copying.{IsCopying}
+use Rattle.lh_lower_def.specs.Lowering.{lowered, lowered_item, item_row, report}
+use Rattle.lh_lower_def.specs.Report.{row_text}
+use Rattle.lh_lower_def.specs.declared.report.ReportRow.{ReportRow}
+use Rattle.lh_lower_copy.specs.Copying.{IsCopying}
 use Rattle.lh_lower.specs.declared.lowering.Lowering.{Lowering}
 
 -- The module is the lowered one, and the rows are its report.

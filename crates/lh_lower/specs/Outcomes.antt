@@ -5,7 +5,7 @@ use Rattle.lh_unit.specs.Contents.{LineText, ArgText, UnitText}
 use Rattle.lh_unit.specs.Naming.{Naming}
 use Rattle.lh_unit.specs.Reads.{args_repeat}
 use Rattle.lh_unit.specs.Within.{Each}
-use Rattle.lh_spelled.specs.Printable.{results_repeat}
+use Rattle.lh_text_laws.specs.Printable.{results_repeat}
 use Rattle.lh_flat.specs.declared.flat.Flat.{Flat}
 use Rattle.lh_flat.specs.Below.{IdsBelow}
 use Rattle.lh_flat.specs.Flat.{flattened}
@@ -16,18 +16,18 @@ use Rattle.lh_shape.specs.Answers.{IsShape}
 use Rattle.lh_shape.specs.Shapes.{ShapeText, comb, edge, once, left}
 use Rattle.lh_shape.specs.declared.kinds.Shape.{Shape}
 use Rattle.lh_shape.specs.declared.reason.Reason.TheVariants as reason
-use Rattle.lh_emission.specs.Emitted.{Source}
-use Rattle.lh_emission.specs.Entities.{entity_with}
-use Rattle.lh_emission.specs.Ways.{WaitIsGiven, DriveIsGiven, RowIsGiven}
-use Rattle.lh_origin.specs.Origins.{source_by}
-use Rattle.lh_body.specs.Bodies.{IsBody}
-use Rattle.lh_bodies.specs.Bodies.{IsFlatOf, steps_of}
-use Rattle.lh_origin.specs.declared.origin.Origin.{Origin}
-use Rattle.lh_body.specs.declared.body.Body.{Body}
-use Rattle.lh_body.specs.declared.lines.EmitFault.{EmitFault}
-use Rattle.lh_body.specs.declared.lines.EmitFault.TheVariants as emit
-use Rattle.lh_lowered.specs.declared.report.Kind.{Kind}
-use Rattle.lh_lowered.specs.Lowering as text
+use Rattle.lh_emit_def.specs.Emitted.{Source}
+use Rattle.lh_emit_def.specs.Entities.{entity_with}
+use Rattle.lh_emit_def.specs.Ways.{WaitIsGiven, DriveIsGiven, RowIsGiven}
+use Rattle.lh_emit_source.specs.Origins.{source_by}
+use Rattle.lh_emit_body.specs.Bodies.{IsBody}
+use Rattle.lh_emit_shapes.specs.Bodies.{IsFlatOf, steps_of}
+use Rattle.lh_emit_source.specs.declared.origin.Origin.{Origin}
+use Rattle.lh_emit_body.specs.declared.body.Body.{Body}
+use Rattle.lh_emit_body.specs.declared.lines.EmitFault.{EmitFault}
+use Rattle.lh_emit_body.specs.declared.lines.EmitFault.TheVariants as emit
+use Rattle.lh_lower_def.specs.declared.report.Kind.{Kind}
+use Rattle.lh_lower_def.specs.Lowering as text
 use Rattle.lh_lower.specs.declared.outcome.Outcome.{Outcome}
 use Rattle.lh_lower.specs.declared.outcome.Outcome.TheVariants as outcome
 

@@ -9,10 +9,10 @@ ghost use Rattle.lh_flat.specs.Marks.{UnitsAreNamed};
 ghost use Rattle.lh_lower.specs.Lowers.{IsLowered, IsLowering, IsNext, LowersItem};
 
 use crate::outcome::{Outcome, outcome_of};
-use lh_copy::Copying;
 use lh_flat::Flattener;
-use lh_lowered::{ReportList, ReportRow, Verdict};
-use lh_same::laws::{same_trace_law, well_formed_law};
+use lh_lower_copy::Copying;
+use lh_lower_def::{ReportList, ReportRow, Verdict};
+use lh_lower_laws::laws::{same_trace_law, well_formed_law};
 use lh_types::ty::NoMemory;
 use lh_unit::inst::{Item, UnitId, UnitKind};
 use lh_unit::module::Module;

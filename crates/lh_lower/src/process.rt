@@ -9,10 +9,10 @@ ghost use Rattle.lh_shape.specs.Shapes.{shape_of_text};
 
 use lh_flat::Flat;
 use lh_region::RegionFault;
+use lh_region_walk::regions;
 use lh_shape::{Reason, Shape, shape_of_regions};
 use lh_term::terms::Terms;
 use lh_types::ty::NoMemory;
-use lh_walk::regions;
 use std::alloc::Global;
 
 /// The shape of a process with this flat text: the first reason why it stays, if there is one.

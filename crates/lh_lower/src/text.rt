@@ -2,10 +2,10 @@
 ghost use Rattle.std.specs.Prelude.{◌≡◌, ◌<◌, ◌++◌, map, IfOk, OnOk};
 ghost use Rattle.lh_unit.specs.Arena.{unit_count};
 ghost use Rattle.lh_unit.specs.Within.{Each};
-ghost use Rattle.lh_lowered.specs.Report.{row_text, row_line, report_text};
-ghost use Rattle.lh_lowered.specs.declared.report.ReportRow.{ReportRow as Row};
+ghost use Rattle.lh_lower_def.specs.Report.{row_text, row_line, report_text};
+ghost use Rattle.lh_lower_def.specs.declared.report.ReportRow.{ReportRow as Row};
 
-use lh_lowered::ReportRow;
+use lh_lower_def::ReportRow;
 use lh_types::text::put;
 use lh_types::ty::NoMemory;
 use lh_unit::module::Module;

@@ -2,8 +2,8 @@
 use Rattle.std.proofs.Common.{◌≡◌, List, ℕ, [], ◌∷◌, ◌++◌, map, refl, ap, sym, ◌∙◌, append_assoc}
 use Rattle.std.proofs.lemmas.List.{append-nil}
 use Rattle.lh_types.specs.Types.{TypeTree, row_of}
-use Rattle.lh_text.specs.Writing.{Written, Writes, Leaves}
-use Rattle.lh_text.proofs.Parts.{less-left, still-left}
+use Rattle.lh_text_buffer.specs.Writing.{Written, Writes, Leaves}
+use Rattle.lh_text_buffer.proofs.Parts.{less-left, still-left}
 use Rattle.lh_unit.specs.Marks.{comma}
 use Rattle.lh_unit.specs.Canon.{text_of}
 use Rattle.lh_unit.specs.Pieces.{Piece, token, space, render, commas, behind_commas}

@@ -2,7 +2,7 @@
 #![tactic(auto, using(crate::proofs::Joined::steps))]
 
 ghost use Rattle.std.specs.Prelude.{◌≡◌, ◌<◌, ◌++◌, ◌∷◌, map};
-ghost use Rattle.lh_text.specs.Writing.{Writes};
+ghost use Rattle.lh_text_buffer.specs.Writing.{Writes};
 ghost use Rattle.lh_unit.specs.Table.{ArgsWithin};
 ghost use Rattle.lh_unit.specs.Arena.{value_count, naming, args_at, result_type_at};
 ghost use Rattle.lh_unit.specs.Naming.{arg_text};
@@ -11,7 +11,7 @@ ghost use Rattle.lh_unit.specs.Canon.{argument, arguments, on_side, side_of, por
 
 use crate::names::put_value;
 use crate::types::put_type;
-use lh_text::Text;
+use lh_text_buffer::Text;
 use lh_unit::inst::Arg;
 use lh_unit::view::UnitView;
 

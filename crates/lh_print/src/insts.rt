@@ -2,7 +2,7 @@
 #![tactic(auto, using(crate::proofs::Joined::steps))]
 
 ghost use Rattle.std.specs.Prelude.{◌≡◌, ◌<◌, ◌++◌, [], map};
-ghost use Rattle.lh_text.specs.Writing.{Writes};
+ghost use Rattle.lh_text_buffer.specs.Writing.{Writes};
 ghost use Rattle.lh_unit.specs.Contents.{st_text, drv_text, reg_text, child_text, call_text, phi_text, br_text, branch_text, wait_text, ret_text};
 ghost use Rattle.lh_unit.specs.Arena.{unit_count, label_count, naming, sizes, inst_text_at, InstPlaced};
 ghost use Rattle.lh_unit.specs.Within.{Each, InstWithin, OperandWithin, TriggerWithin, EdgeWithin, ValueWithin, MaybeWithin};
@@ -17,7 +17,7 @@ use crate::operands::{
 };
 use crate::types::put_type;
 use crate::values::put_const;
-use lh_text::Text;
+use lh_text_buffer::Text;
 use lh_types::ty::{NoMemory, Ty};
 use lh_unit::constant::Constant;
 use lh_unit::inst::{BlockId, Inst, PhiEdge, RegTrigger, Typed, UnitId, ValueId};

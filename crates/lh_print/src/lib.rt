@@ -14,7 +14,7 @@ mod units;
 mod values;
 mod words;
 
-use lh_text::Text;
+use lh_text_buffer::Text;
 use lh_types::ty::NoMemory;
 use lh_unit::module::Module;
 use std::alloc::Global;

@@ -2,17 +2,17 @@
 #![tactic(auto, using(crate::proofs::Joined::steps))]
 
 ghost use Rattle.std.specs.Prelude.{◌≡◌, ◌<◌, ◌++◌};
-ghost use Rattle.lh_text.specs.Writing.{Writes};
+ghost use Rattle.lh_text_buffer.specs.Writing.{Writes};
 ghost use Rattle.lh_unit.specs.Arena.{value_count, label_count, value_name_at, label_name_at, naming, sizes, unit_name_at};
 ghost use Rattle.lh_unit.specs.Naming.{maybe_text};
 ghost use Rattle.lh_unit.specs.Within.{MaybeWithin};
 ghost use Rattle.lh_unit.specs.Pieces.{render};
 ghost use Rattle.lh_unit.specs.Canon.{unit_name_pieces, maybe};
 
-use lh_names::name::{Name, UnitName};
-use lh_text::Text;
+use lh_text_buffer::Text;
 use lh_unit::inst::{BlockId, ValueId};
 use lh_unit::view::UnitView;
+use lh_unit_names::name::{Name, UnitName};
 
 /// Writes a text, and then the name of a unit.
 #[inline]

@@ -2,7 +2,7 @@
 #![tactic(auto, using(crate::proofs::Joined::steps))]
 
 ghost use Rattle.std.specs.Prelude.{◌≡◌, ◌<◌, ◌++◌, ◌∷◌, map, decimal};
-ghost use Rattle.lh_text.specs.Writing.{Writes};
+ghost use Rattle.lh_text_buffer.specs.Writing.{Writes};
 ghost use Rattle.lh_unit.specs.Arena.{naming, sizes};
 ghost use Rattle.lh_unit.specs.Naming.{operand_text, trigger_text, edge_text, value_text};
 ghost use Rattle.lh_unit.specs.Within.{Each, OperandWithin, TriggerWithin, EdgeWithin, ValueWithin};
@@ -14,7 +14,7 @@ ghost use Rattle.lh_unit.specs.Canon.{operand, operands, operation, trigger, edg
 use crate::names::{put_label, put_maybe, put_value};
 use crate::types::put_type;
 use crate::words::{mode_word, op_word};
-use lh_text::Text;
+use lh_text_buffer::Text;
 use lh_types::op::Op;
 use lh_unit::inst::{PhiEdge, RegTrigger, Typed, ValueId};
 use lh_unit::view::UnitView;

@@ -2,12 +2,12 @@
 #![tactic(auto, using(crate::proofs::Joined::steps))]
 
 ghost use Rattle.std.specs.Prelude.{◌≡◌, ◌++◌};
-ghost use Rattle.lh_text.specs.Writing.{Writes};
+ghost use Rattle.lh_text_buffer.specs.Writing.{Writes};
 ghost use Rattle.lh_types.specs.Types.{row_of};
 ghost use Rattle.lh_unit.specs.Pieces.{render};
 ghost use Rattle.lh_unit.specs.CanonTypes.{type_pieces, row_pieces};
 
-use lh_text::Text;
+use lh_text_buffer::Text;
 use lh_types::ty::{Ty, TyKind};
 
 /// Writes a type.

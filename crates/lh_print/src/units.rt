@@ -2,7 +2,7 @@
 #![tactic(auto, using(crate::proofs::Joined::steps))]
 
 ghost use Rattle.std.specs.Prelude.{◌≡◌, ◌<◌, ◌++◌, ◌∷◌, [], map};
-ghost use Rattle.lh_text.specs.Writing.{Writes};
+ghost use Rattle.lh_text_buffer.specs.Writing.{Writes};
 ghost use Rattle.lh_unit.specs.Contents.{unit_text};
 ghost use Rattle.lh_unit.specs.Table.{line_at};
 ghost use Rattle.lh_unit.specs.Naming.{maybe_text, line_text, label_text, block_text};
@@ -18,12 +18,12 @@ use crate::arguments::{put_ports, put_signature};
 use crate::insts::put_inst;
 use crate::names::{put_label, put_unit_name, put_value};
 use crate::types::{put_type, put_types};
-use lh_names::name::UnitName;
-use lh_text::Text;
+use lh_text_buffer::Text;
 use lh_types::ty::Ty;
 use lh_unit::inst::{BlockId, Declare, InstId, Item, UnitKind, ValueId};
 use lh_unit::module::Module;
 use lh_unit::view::UnitView;
+use lh_unit_names::name::UnitName;
 
 /// Writes `%r = ` where there is a result.
 fn put_assigned(out: &mut Text, view: UnitView<'_>, value: Option<ValueId>)

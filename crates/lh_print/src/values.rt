@@ -2,12 +2,12 @@
 #![tactic(auto, using(crate::proofs::Joined::steps))]
 
 ghost use Rattle.std.specs.Prelude.{◌≡◌, ◌++◌, ◌∷◌, [], decimal};
-ghost use Rattle.lh_text.specs.Writing.{Writes};
+ghost use Rattle.lh_text_buffer.specs.Writing.{Writes};
 ghost use Rattle.lh_types.specs.ValueOf.{datum_of};
 ghost use Rattle.lh_unit.specs.Pieces.{render};
 ghost use Rattle.lh_unit.specs.CanonTypes.{time_text, steps_pieces, time_pieces, const_pieces};
 
-use lh_text::Text;
+use lh_text_buffer::Text;
 use lh_types::val::Val;
 
 /// Writes a number and the word that follows it directly.

@@ -5,7 +5,7 @@ use Rattle.lh_time.specs.declared.Instant.{Instant}
 use Rattle.lh_time.specs.Order.{instant_lt}
 use Rattle.lh_time.proofs.OrderLemmas.{instant_lt-le_lt, is_less}
 use Rattle.lh_types.specs.History.{Claim, claim_cmp, IsAmong, entries_of}
-use Rattle.lh_history.proofs.Claims.{among_parts}
+use Rattle.lh_history_laws.proofs.Claims.{among_parts}
 use Rattle.lh_queue.specs.declared.wish.Wish.{Wish}
 use Rattle.lh_queue.specs.Queued.{QueuedWish, is_before, IsBeforeAll, AreInOrder, NamesOnce, IsUnnamed, EachNamesOnce, with_held, due_later}
 use Rattle.lh_queue.specs.Holds.{wish_entries, entries, IsAfter, IsFrom, HoldsFor, HoldsOn, HoldsMore}

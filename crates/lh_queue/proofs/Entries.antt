@@ -11,8 +11,8 @@ use Rattle.lh_time.specs.declared.Instant.{Instant}
 use Rattle.lh_time.specs.Order.{instant_cmp, instant_lt, instant_le, instant_eq}
 use Rattle.lh_time.proofs.OrderLemmas.{instant_cmp_total, instant_lt-not_le, instant_lt-le_lt}
 use Rattle.lh_types.specs.History.{Claim, claim_cmp, is_due_by, greater, greatest_from, value_by, values_by, entries_of}
-use Rattle.lh_history.proofs.Instants.{instant_one}
-use Rattle.lh_history.proofs.Claims.{AllLate, greatest_late}
+use Rattle.lh_history_laws.proofs.Instants.{instant_one}
+use Rattle.lh_history_laws.proofs.Claims.{AllLate, greatest_late}
 use Rattle.lh_queue.specs.declared.wish.Wish.{Wish}
 use Rattle.lh_queue.specs.Queued.{QueuedWish, wish_cmp, is_before, IsBeforeAll, AreInOrder, NoneDueBefore, due_later}
 use Rattle.lh_queue.specs.Holds.{entries}

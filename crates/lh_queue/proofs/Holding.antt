@@ -10,11 +10,11 @@ use Rattle.lh_time.specs.declared.Instant.{Instant}
 use Rattle.lh_time.specs.Order.{instant_cmp, instant_lt, instant_le}
 use Rattle.lh_time.proofs.OrderLemmas.{instant_lt-not_le}
 use Rattle.lh_types.specs.History.{Made, Claim, claims, claim_cmp, is_due_by, greatest_from, greater, value_by, values_by, bits_at, IsAmong, IsGreatest, sooner, soonest_due, entries_of, bits_after}
-use Rattle.lh_history.specs.Greatest.{IsGreatestIfAny}
-use Rattle.lh_history.proofs.Orders.{le_of, level}
-use Rattle.lh_history.proofs.Instants.{instant_one, le_self, le_trans, not_lt_le}
-use Rattle.lh_history.proofs.Claims.{claim_total, due_bit, due_time, among_parts}
-use Rattle.lh_history.proofs.Greatest.{greatest_is_found}
+use Rattle.lh_history_laws.specs.Greatest.{IsGreatestIfAny}
+use Rattle.lh_history_laws.proofs.Orders.{le_of, level}
+use Rattle.lh_history_laws.proofs.Instants.{instant_one, le_self, le_trans, not_lt_le}
+use Rattle.lh_history_laws.proofs.Claims.{claim_total, due_bit, due_time, among_parts}
+use Rattle.lh_history_laws.proofs.Greatest.{greatest_is_found}
 use Rattle.lh_queue.specs.declared.wish.Wish.{Wish}
 use Rattle.lh_queue.specs.Queued.{QueuedWish, AreInOrder, EachNamesOnce, IsBeforeAll, NoneDueBefore, IsLeastDue}
 use Rattle.lh_queue.specs.Holds.{wish_entries, entries, IsAfter, IsFrom, HoldsFor, AreBitsAt, IsSoonestDue}

@@ -2,8 +2,8 @@
 use Rattle.std.proofs.Common.{◌≡◌, ◌≢◌, ◌⊎◌, inl, inr, [], ◌∷◌, Bool, true, false, if◌then◌else◌}
 use Rattle.std.specs.Ordering.{nat_cmp, ordering_then}
 use Rattle.lh_time.specs.Order.{instant_cmp, instant_lt}
-use Rattle.lh_history.proofs.Orders.{then_equal, nat_one}
-use Rattle.lh_history.proofs.Instants.{instant_one, le_trans}
+use Rattle.lh_history_laws.proofs.Orders.{then_equal, nat_one}
+use Rattle.lh_history_laws.proofs.Instants.{instant_one, le_trans}
 use Rattle.lh_queue.specs.Queued.{is_before, with_held, due_later, NoneCompetes, NoneDueBefore, EachWithin, EachNames}
 use Rattle.lh_queue.specs.Laws.{MoreWithin, MoreNames, MoreApart, MoreDue, LaterWithin, LaterNames, LaterApart, SoonerDue, DifferentApart}
 

@@ -9,8 +9,8 @@ use Rattle.lh_unit.specs.Held.{Env, as_test, test_at}
 use Rattle.lh_unit.specs.Hierarchy.{lines_of}
 use Rattle.lh_unit.specs.Pass.{Passed, mode_holds, fires, triggers_from, passes, pass_from}
 use Rattle.lh_unit.specs.Within.{Each}
-use Rattle.lh_sound.specs.Finding.{TriggerFinds, FindsInPass, FindsAll}
-use Rattle.lh_sound.proofs.NamedOnce.{IsFirst}
+use Rattle.lh_eval_laws.specs.Finding.{TriggerFinds, FindsInPass, FindsAll}
+use Rattle.lh_eval_laws.proofs.NamedOnce.{IsFirst}
 use Rattle.lh_react.specs.declared.triggers.Gate.{Gate}
 use Rattle.lh_react.specs.declared.triggers.Gate.TheVariants as gate
 use Rattle.lh_react.specs.declared.triggers.TriggerBit.{TriggerBit}

@@ -8,7 +8,7 @@ use Rattle.lh_unit.specs.Within.{Each, OperandWithin, TriggerWithin, MaybeWithin
 use Rattle.lh_unit.specs.declared.inst.ValueId.{ValueId}
 use Rattle.lh_unit.specs.declared.inst.Typed.{Typed}
 use Rattle.lh_unit.specs.declared.inst.RegTrigger.{RegTrigger}
-use Rattle.lh_formed.specs.Operands.{RowIs, IsOf, TriggerIs}
+use Rattle.lh_verify_laws.specs.Operands.{RowIs, IsOf, TriggerIs}
 use Rattle.lh_eval.specs.Holding.{datum_in, part_in, MaybeIn}
 use Rattle.lh_eval.specs.Fitting.{OperandsFit, ProbeFits, DriveFits}
 use Rattle.lh_eval.specs.Sound.{HasOperands}
@@ -16,7 +16,7 @@ use Rattle.lh_types.specs.declared.op.Op.{Op}
 use Rattle.lh_react.specs.declared.pass.PassRun.{PassRun}
 use Rattle.lh_react.specs.Standing.{RunFits}
 use Rattle.lh_react.specs.Registers.{TriggerIn, TriggerFits}
-use Rattle.lh_sound.proofs.SlotsFit.{operation-has, probe-has, drive-has}
+use Rattle.lh_eval_laws.proofs.SlotsFit.{operation-has, probe-has, drive-has}
 
 module _ (a : Arena) (u w : ℕ) (r : PassRun) (f : RunFits a u w r) where
   pub slots-long : length r.slots ≡ value_count a u

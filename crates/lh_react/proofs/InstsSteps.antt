@@ -8,7 +8,7 @@ use Rattle.lh_unit.specs.declared.inst.InstId.{InstId}
 use Rattle.lh_eval.specs.Sound.{InstIsSound}
 use Rattle.lh_react.specs.declared.pass.PassRun.{PassRun}
 use Rattle.lh_react.specs.Standing.{StandsForPass, RunFits, ContinuesPass, line_in, passed_all}
-use Rattle.lh_sound.proofs.FitLaws.{keeps-fit}
+use Rattle.lh_eval_laws.proofs.FitLaws.{keeps-fit}
 
 module _ (a : Arena) (u : ℕ) (now : List Bool) (memory : Option (List Bool)) (t : Instant) where
   pub more-fit : (r s : PassRun) (i : InstId) → RunFits a u (length now) r → InstIsSound (unit_text_at a u) (line_in a u i)

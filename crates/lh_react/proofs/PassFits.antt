@@ -6,13 +6,13 @@ use Rattle.lh_types.specs.Wish.{Wish}
 use Rattle.lh_unit.specs.Contents.{OperandText, TriggerText, InstText, drv_text, reg_text, LineText, UnitText}
 use Rattle.lh_unit.specs.Pass.{Passed, trigger_now, fires, delay_of, stored, triggers_from, passes, pass_from}
 use Rattle.lh_unit.specs.Within.{Each}
-use Rattle.lh_formed.specs.Operands.{RowIs, IsOf, TriggerIs}
+use Rattle.lh_verify_laws.specs.Operands.{RowIs, IsOf, TriggerIs}
 use Rattle.lh_eval.specs.Fitting.{Fits}
 use Rattle.lh_eval.specs.Sound.{InstIsSound}
 use Rattle.lh_eval.specs.Wishing.{WishWithin}
 use Rattle.lh_eval.proofs.Wishing.{due-within, driven-within}
 use Rattle.lh_react.specs.Standing.{triggers_in, trigger_count}
-use Rattle.lh_sound.proofs.FitLaws.{keeps-fit}
+use Rattle.lh_eval_laws.proofs.FitLaws.{keeps-fit}
 
 if-within : (w : ℕ) (b : Bool) (x y : Wish) → WishWithin w x → WishWithin w y → WishWithin w (if b then x else y)
 if-within w true x y p q = p

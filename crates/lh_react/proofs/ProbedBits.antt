@@ -13,7 +13,7 @@ use Rattle.lh_types.specs.Parts.{bits_within}
 use Rattle.lh_types.specs.declared.op.Op.TheVariants as op
 use Rattle.lh_types.specs.declared.part.Range.{Range}
 use Rattle.lh_unit.specs.Contents.{LineText, UnitText, args_define}
-use Rattle.lh_names.specs.Names.{same_name}
+use Rattle.lh_unit_names.specs.Names.{same_name}
 use Rattle.lh_unit.specs.Typing.{line_giving, carried}
 use Rattle.lh_unit.specs.Held.{Held, Env, datum_held, part_held, as_part, part_at, as_test}
 use Rattle.lh_unit.specs.Effects.{read_bits}
@@ -35,12 +35,12 @@ use Rattle.lh_unit.specs.declared.inst.Arg.{Arg}
 use Rattle.lh_unit.specs.declared.table.Line.{Line}
 use Rattle.lh_unit.specs.ById.{is_sig}
 use Rattle.lh_unit.proofs.Giving.{same-argument}
-use Rattle.lh_names.proofs.NameLists.{same_name-refl}
+use Rattle.lh_unit_names.proofs.NameLists.{same_name-refl}
 use Rattle.lh_eval.specs.Holding.{Holds, slot_at}
 use Rattle.lh_eval.proofs.BeginSteps.{entity-blocks, entity-lines, entity-insts, begun}
 use Rattle.lh_eval.specs.Beginning.{args_given, signals_given, next_given}
-use Rattle.lh_sound.proofs.FitLaws.{unit-is-sound}
-use Rattle.lh_sound.proofs.NamedOnce.{IsFirst, each-first}
+use Rattle.lh_eval_laws.proofs.FitLaws.{unit-is-sound}
+use Rattle.lh_eval_laws.proofs.NamedOnce.{IsFirst, each-first}
 use Rattle.lh_react.specs.Standing.{line_in}
 use Rattle.lh_react.specs.Quiet.{test_of, IsProbedInt, AreCompared}
 use Rattle.lh_react.specs.TriggerBits.{number_at, LiesIn, IsBitAt, IsIntAt, IsSameAt, AreSameAt}

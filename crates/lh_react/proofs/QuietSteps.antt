@@ -10,15 +10,15 @@ use Rattle.lh_types.specs.declared.op.Op.TheVariants.{Eq}
 use Rattle.lh_types.specs.declared.part.Range.{Range}
 use Rattle.lh_types.proofs.Tests.{not_both}
 use Rattle.lh_unit.specs.Contents.{OperandText, TriggerText, InstText, const_text, pure_text, prb_text, drv_text, reg_text, ArgText, UnitText, args_define}
-use Rattle.lh_names.specs.Names.{same_name}
+use Rattle.lh_unit_names.specs.Names.{same_name}
 use Rattle.lh_unit.specs.Typing.{line_giving, carried, or_else}
 use Rattle.lh_unit.specs.Held.{Held, datum_held, part_held, nothing_held, with_args, Env, as_datum, as_part, as_test, datum_at, part_at, test_at, with_held, front}
 use Rattle.lh_unit.specs.Effects.{operated, read_bits, probed, condition_at}
 use Rattle.lh_unit.specs.Hierarchy.{lines_of, if_held, with_parts, signal_names}
 use Rattle.lh_unit.specs.Pass.{Passed, mode_holds, past_of, trigger_now, fires, stored, triggers_from, passes}
-use Rattle.lh_names.proofs.NameLists.{same_name-is}
-use Rattle.lh_sound.proofs.NamedOnce.{IsFirst}
-use Rattle.lh_sound.proofs.FitLaws.{triggers-hold}
+use Rattle.lh_unit_names.proofs.NameLists.{same_name-is}
+use Rattle.lh_eval_laws.proofs.NamedOnce.{IsFirst}
+use Rattle.lh_eval_laws.proofs.FitLaws.{triggers-hold}
 use Rattle.lh_react.specs.Quiet.{test_of, BeginsBy, IsProbe, IsProbedBit, IsProbedInt, IsComparedBit, IsKnownBit, KnowsProbes, KnowsCompared, KnowsProbedBits, IsShut, HoldsBack}
 use Rattle.lh_eval.proofs.ValuesFit.{test-truth}
 

@@ -4,7 +4,7 @@ ghost use Rattle.lh_types.specs.Raised.{raised};
 ghost use Rattle.lh_unit.specs.Arena.{IsArena, unit_count, kind_at, contents, unit_text_at, block_insts_at};
 ghost use Rattle.lh_unit.specs.Pass.{pass};
 ghost use Rattle.lh_unit.specs.WellFormed.{IsWellFormed};
-ghost use Rattle.lh_sound.specs.Ranges.{InstanceFits};
+ghost use Rattle.lh_eval_laws.specs.Ranges.{InstanceFits};
 ghost use Rattle.lh_react.specs.Standing.{Reacts};
 ghost use Rattle.lh_react.specs.TriggerBits.{TriggersFit};
 

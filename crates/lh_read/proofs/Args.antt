@@ -13,7 +13,7 @@ use Rattle.lh_unit.specs.Builders.{HasContents, FindsUnit, BeginsUnit, AddsArg, 
 use Rattle.lh_unit.specs.Reads.{headed_unit, args_repeat}
 use Rattle.lh_unit.specs.declared.inst.UnitId.{UnitId}
 use Rattle.lh_unit.specs.declared.inst.ValueId.{ValueId}
-use Rattle.lh_names.specs.declared.name.UnitName.{UnitName}
+use Rattle.lh_unit_names.specs.declared.name.UnitName.{UnitName}
 use Rattle.lh_unit.specs.declared.inst.UnitKind.{UnitKind}
 use Rattle.lh_unit.specs.declared.inst.UnitKind.TheVariants as kind
 use Rattle.lh_unit.specs.declared.inst.UnitFault.{UnitFault}

@@ -5,9 +5,9 @@ use Rattle.lh_unit.specs.Lines.{lines_of}
 use Rattle.lh_unit.specs.Spells.{LineItem}
 use Rattle.lh_unit.specs.Reads.{ReadState, start, Takes, Walk, BadKind, syntax, IsBad, FirstBadFrom, Reads, FirstBad}
 use Rattle.lh_lex.specs.Front.{lexemes_to_bad}
-use Rattle.lh_syntax.specs.Items.{item_at}
-use Rattle.lh_syntax.specs.SpelledBy.{SpelledBy}
-use Rattle.lh_syntax.proofs.SpelledItems.{spelled_by}
+use Rattle.lh_read_lines.specs.Items.{item_at}
+use Rattle.lh_read_lines.specs.SpelledBy.{SpelledBy}
+use Rattle.lh_read_lines.proofs.SpelledItems.{spelled_by}
 use Rattle.lh_read.specs.Steps.{step}
 use Rattle.lh_read.specs.Reading.{ReadsOrIsBad}
 use Rattle.lh_read.proofs.Texts.{closed, taken-line, bad-line, unspelled-line, reads-once, reads-bad, first_bad-once}

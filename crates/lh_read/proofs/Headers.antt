@@ -7,7 +7,7 @@ use Rattle.lh_unit.specs.Arena.{Arena, contents}
 use Rattle.lh_unit.specs.Builders.{AddsDeclare}
 use Rattle.lh_unit.specs.Spells.{header_item, declare_item}
 use Rattle.lh_unit.specs.Reads.{ReadState, place_of, may_stand, defines_again, args_repeat, is_assert, headed_unit, syntax, duplicate_name}
-use Rattle.lh_names.specs.declared.name.UnitName.{UnitName}
+use Rattle.lh_unit_names.specs.declared.name.UnitName.{UnitName}
 use Rattle.lh_unit.specs.declared.inst.UnitId.{UnitId}
 use Rattle.lh_unit.specs.declared.inst.UnitKind.{UnitKind}
 use Rattle.lh_unit.specs.declared.inst.Declare.{Declare}

@@ -7,7 +7,7 @@ use Rattle.lh_unit.specs.Within.{Sizes, Each, ValueWithin, MaybeWithin, OperandW
 use Rattle.lh_unit.specs.Arena.{Arena, KeepsEntries, Grows, naming, sizes, value_count, value_name_at}
 use Rattle.lh_unit.specs.Contents.{OperandText, TriggerText, st_text, drv_text, reg_text, child_text, call_text, branch_text, wait_text}
 use Rattle.lh_unit.specs.Builders.{FindsUnit, FindsValue, FindsLabel}
-use Rattle.lh_names.specs.declared.name.UnitName.{UnitName}
+use Rattle.lh_unit_names.specs.declared.name.UnitName.{UnitName}
 use Rattle.lh_types.specs.Types.{TypeTree}
 use Rattle.lh_types.specs.declared.ty.NoMemory.{NoMemory}
 use Rattle.lh_unit.specs.declared.inst.UnitId.{UnitId}
@@ -18,8 +18,8 @@ use Rattle.lh_unit.specs.declared.inst.RegTrigger.{RegTrigger}
 use Rattle.lh_unit.specs.declared.inst.Typed.{Typed}
 use Rattle.lh_unit.specs.declared.inst.Inst.TheVariants as inst
 use Rattle.lh_unit.proofs.ModuleLaws.{KeepsEntries-trans, Grows-refl, Grows-trans, Each-push, ValueWithin-keeps, MaybeWithin-keeps, OperandWithin-keeps, TriggerWithin-keeps, EdgeWithin-keeps, value_text-keeps, maybe_text-keeps, operand_text-keeps, trigger_text-keeps, edge_text-keeps}
-use Rattle.lh_phrase.specs.declared.syntax.Operand.{Operand}
-use Rattle.lh_phrase.specs.SyntaxOf.{operand_of, operands_of}
+use Rattle.lh_read_phrases.specs.declared.syntax.Operand.{Operand}
+use Rattle.lh_read_phrases.specs.SyntaxOf.{operand_of, operands_of}
 use Rattle.lh_read.specs.Placing.{LabelWithin, label_said, Placed, LabelPlaced, ValuePlaced, MaybePlaced, OperandPlaced, TriggerPlaced, EdgePlaced, AllPlaced, OperandsPlaced, TriggersPlaced, SignalsPlaced, InstPlacedAs}
 use Rattle.lh_read.specs.Mentions.{Mention, names_unit, one_value, one_label, maybe_value, operand_mentions, operands_mention, trigger_mentions, EntersOnly}
 use Rattle.lh_read.proofs.Entering.{flat_map-push, enters-none, enters-both, enters-unit, enters-value, enters-label}

@@ -6,7 +6,7 @@ use Rattle.lh_unit.specs.Contents.{ArgText, LineText, BlockText, UnitText, ItemT
 use Rattle.lh_unit.specs.Arena.{Arena, KeepsEntries, Grows, IsOpen, no_arena, contents, unit_count, value_count, label_count, unit_name_at, value_name_at, label_name_at, unit_text_at}
 use Rattle.lh_unit.specs.Builders.{HasContents, AddsDeclare, FindsUnit}
 use Rattle.lh_unit.specs.Table.{Table, no_table}
-use Rattle.lh_names.specs.declared.name.UnitName.{UnitName}
+use Rattle.lh_unit_names.specs.declared.name.UnitName.{UnitName}
 use Rattle.lh_unit.specs.declared.inst.UnitId.{UnitId}
 use Rattle.lh_unit.specs.declared.inst.UnitKind.{UnitKind}
 use Rattle.lh_unit.specs.declared.inst.UnitKind.TheVariants as kind

@@ -8,7 +8,7 @@ use Rattle.lh_unit.specs.Builders.{HasLabels, HasContents}
 use Rattle.lh_unit.specs.Spells.{header_item, declare_item, label_item, inst_item, close_item}
 use Rattle.lh_unit.specs.Reads as reads
 use Rattle.lh_unit.specs.Reads.{outside, in_entity, before_labels, in_empty_block, in_block, has_lines, place_after, place_in, place_in_last, place_of, may_stand, headed_unit}
-use Rattle.lh_names.specs.declared.name.UnitName.{UnitName}
+use Rattle.lh_unit_names.specs.declared.name.UnitName.{UnitName}
 use Rattle.lh_unit.specs.declared.inst.Declare.{Declare}
 use Rattle.lh_unit.specs.declared.inst.UnitId.{UnitId}
 use Rattle.lh_unit.specs.declared.inst.UnitKind.{UnitKind}

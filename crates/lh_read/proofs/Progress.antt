@@ -7,10 +7,10 @@ use Rattle.lh_unit.specs.Lines.{lines_of}
 use Rattle.lh_unit.specs.Spells.{LineItem}
 use Rattle.lh_unit.specs.Arena.{Arena, contents}
 use Rattle.lh_unit.specs.Reads.{ReadState, start, Takes, Walk, BadKind, syntax, unit_too_large, duplicate_name, IsBad, FirstBadFrom, Reads, FirstBad}
-use Rattle.lh_scan.specs.declared.fault.ScanFault.{ScanFault}
-use Rattle.lh_scan.specs.declared.fault.ScanFault.TheVariants as scan
+use Rattle.lh_read_pieces.specs.declared.fault.ScanFault.{ScanFault}
+use Rattle.lh_read_pieces.specs.declared.fault.ScanFault.TheVariants as scan
 use Rattle.lh_lex.specs.Front.{lexemes_to_bad}
-use Rattle.lh_syntax.specs.SpelledBy.{SpelledBy}
+use Rattle.lh_read_lines.specs.SpelledBy.{SpelledBy}
 use Rattle.lh_read.specs.declared.faults.LineFault.{LineFault}
 use Rattle.lh_read.specs.declared.faults.LineFault.TheVariants as line
 use Rattle.lh_read.specs.declared.reader.Reader.{Reader}

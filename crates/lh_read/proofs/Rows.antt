@@ -10,15 +10,15 @@ use Rattle.lh_unit.specs.Reads.{Reads, FirstBad, syntax, duplicate_name}
 use Rattle.lh_unit.specs.declared.inst.UnitKind.{UnitKind}
 use Rattle.lh_unit.specs.declared.inst.UnitKind.TheVariants as kind
 use Rattle.lh_unit.specs.declared.inst.Declare.TheVariants as declare
-use Rattle.lh_phrase.specs.Operations.{last_mark_at}
-use Rattle.lh_syntax.specs.Headers.{params_at, types_at, func_at, ports_at, unit_at, declare_func_at, declare_at, head_at}
-use Rattle.lh_syntax.specs.Insts.{const_at, last_typed_at, last_local_at, sig_at, br_at, wait_at, halt_at, ret_at, worded_at, inst_at}
-use Rattle.lh_syntax.specs.Items.{label_at, word_label_at, assigned_at, alone_at, close_at, item_at}
-use Rattle.lh_phrase.specs.Operands.{typed_at, maybe_at, param_at}
-use Rattle.lh_phrase.specs.Words.{head_of, form_of}
-use Rattle.lh_scan.specs.Numbers.{integer_at}
-use Rattle.lh_scan.specs.Pieces.{name_at}
-use Rattle.lh_scan.specs.Types.{data_at, base_at, suffix_at, type_at}
+use Rattle.lh_read_phrases.specs.Operations.{last_mark_at}
+use Rattle.lh_read_lines.specs.Headers.{params_at, types_at, func_at, ports_at, unit_at, declare_func_at, declare_at, head_at}
+use Rattle.lh_read_lines.specs.Insts.{const_at, last_typed_at, last_local_at, sig_at, br_at, wait_at, halt_at, ret_at, worded_at, inst_at}
+use Rattle.lh_read_lines.specs.Items.{label_at, word_label_at, assigned_at, alone_at, close_at, item_at}
+use Rattle.lh_read_phrases.specs.Operands.{typed_at, maybe_at, param_at}
+use Rattle.lh_read_phrases.specs.Words.{head_of, form_of}
+use Rattle.lh_read_pieces.specs.Numbers.{integer_at}
+use Rattle.lh_read_pieces.specs.Pieces.{name_at}
+use Rattle.lh_read_pieces.specs.Types.{data_at, base_at, suffix_at, type_at}
 use Rattle.lh_read.specs.Steps.{step}
 use Rattle.lh_read.proofs.Computed.{read_of-reads, read_of-bad}
 

@@ -8,9 +8,9 @@ use Rattle.lh_unit.specs.Spells.{LineItem, Spells}
 use Rattle.lh_unit.specs.Reads.{ReadState, start, place_of, may_stand, too_large, defines_again, after, LineSpells, Takes, Walk, Reads, BadKind, syntax, unit_too_large, duplicate_name, IsBad, FirstBadFrom, FirstBad}
 use Rattle.lh_lex.specs.Front.{lexemes_to_bad}
 use Rattle.lh_lex.proofs.ToBad.{lexemes-all, those-lexemes}
-use Rattle.lh_syntax.specs.Items.{item_at}
-use Rattle.lh_syntax.specs.SpelledBy.{SpelledBy}
-use Rattle.lh_syntax.proofs.SpelledItems.{spelled_by}
+use Rattle.lh_read_lines.specs.Items.{item_at}
+use Rattle.lh_read_lines.specs.SpelledBy.{SpelledBy}
+use Rattle.lh_read_lines.proofs.SpelledItems.{spelled_by}
 use Rattle.lh_read.specs.Steps.{step}
 use Rattle.lh_read.proofs.SpelledTokens.{spelled-tokens}
 use Rattle.lh_read.proofs.Stepping.{IsFree, step-free, HasFault, step-fault}

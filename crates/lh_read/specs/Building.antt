@@ -5,7 +5,7 @@ use Rattle.lh_unit.specs.Contents.{ArgText, UnitText, unit_text, new_unit, chang
 use Rattle.lh_unit.specs.Spells.{TypedName}
 use Rattle.lh_unit.specs.Arena.{Arena, IsOpen, OfOpen, contents, unit_count}
 use Rattle.lh_unit.specs.Reads.{ReadState, headed_unit, args_repeat, Takes, BadKind, syntax, unit_too_large, duplicate_name, IsBad}
-use Rattle.lh_names.specs.declared.name.UnitName.{UnitName}
+use Rattle.lh_unit_names.specs.declared.name.UnitName.{UnitName}
 use Rattle.lh_unit.specs.declared.inst.UnitId.{UnitId}
 use Rattle.lh_unit.specs.declared.inst.UnitKind.{UnitKind}
 use Rattle.lh_read.specs.declared.faults.LineFault.{LineFault}

@@ -1,6 +1,6 @@
 -- The fault of a line that spells nothing, or that the module refuses.
-use Rattle.lh_scan.specs.declared.fault.ScanFault.{ScanFault}
-use Rattle.lh_scan.specs.declared.fault.ScanFault.TheVariants as scan
+use Rattle.lh_read_pieces.specs.declared.fault.ScanFault.{ScanFault}
+use Rattle.lh_read_pieces.specs.declared.fault.ScanFault.TheVariants as scan
 use Rattle.lh_unit.specs.declared.inst.UnitFault.{UnitFault}
 use Rattle.lh_unit.specs.declared.inst.UnitFault.TheVariants as unit
 use Rattle.lh_read.specs.declared.faults.LineFault.{LineFault}

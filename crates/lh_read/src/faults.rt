@@ -1,5 +1,5 @@
 //! Why a line is faulty.
-use lh_scan::fault::ScanFault;
+use lh_read_pieces::fault::ScanFault;
 use lh_types::ty::NoMemory;
 use lh_unit::inst::UnitFault;
 

@@ -5,14 +5,14 @@
 ghost use Rattle.std.specs.Prelude.{◌≡◌, ◌<◌, map, IfOk};
 ghost use Rattle.lh_unit.specs.Arena.{unit_count};
 ghost use Rattle.lh_unit.specs.Builders.{FindsUnit};
-ghost use Rattle.lh_scan.specs.LexemeOf.{unit_name_of};
-ghost use Rattle.lh_phrase.specs.SyntaxOf.{operand_of, operands_of, trigger_of, edge_of};
+ghost use Rattle.lh_read_pieces.specs.LexemeOf.{unit_name_of};
+ghost use Rattle.lh_read_phrases.specs.SyntaxOf.{operand_of, operands_of, trigger_of, edge_of};
 ghost use Rattle.lh_read.specs.Placing.{ValuePlaced, MaybePlaced, LabelPlaced, OperandPlaced, TriggerPlaced, EdgePlaced, OperandsPlaced, TriggersPlaced, EdgesPlaced, SignalsPlaced};
 
 use crate::known::{Known, digest, is_named};
 use crate::taken::Taken;
-use lh_phrase::syntax::{EdgeSyntax, Operand, TriggerSyntax};
-use lh_scan::tokens::{NameText, UnitNameText};
+use lh_read_phrases::syntax::{EdgeSyntax, Operand, TriggerSyntax};
+use lh_read_pieces::tokens::{NameText, UnitNameText};
 use lh_types::few::{Few, FewOf};
 use lh_types::list::ListOf;
 use lh_types::ty::NoMemory;

@@ -4,8 +4,8 @@
 ghost use Rattle.std.specs.Prelude.{◌<◌, map, IfOk};
 ghost use Rattle.lh_unit.specs.Arena.{unit_count};
 ghost use Rattle.lh_unit.specs.Contents.{pure_text, var_text, ld_text, st_text, sig_text, prb_text, drv_text, reg_text, child_text, call_text, phi_text, br_text, branch_text, wait_text, ret_text};
-ghost use Rattle.lh_scan.specs.LexemeOf.{unit_name_of};
-ghost use Rattle.lh_phrase.specs.SyntaxOf.{operand_of, maybe_operand_of, operands_of, trigger_of, edge_of, inst_of};
+ghost use Rattle.lh_read_pieces.specs.LexemeOf.{unit_name_of};
+ghost use Rattle.lh_read_phrases.specs.SyntaxOf.{operand_of, maybe_operand_of, operands_of, trigger_of, edge_of, inst_of};
 ghost use Rattle.lh_read.specs.Placing.{InstPlacedAs};
 
 use crate::ids::{
@@ -13,8 +13,8 @@ use crate::ids::{
     value_id,
 };
 use crate::known::Known;
-use lh_phrase::syntax::{EdgeSyntax, InstSyntax, Operand, TriggerSyntax};
-use lh_scan::tokens::{NameText, UnitNameText};
+use lh_read_phrases::syntax::{EdgeSyntax, InstSyntax, Operand, TriggerSyntax};
+use lh_read_pieces::tokens::{NameText, UnitNameText};
 use lh_types::few::FewOf;
 use lh_types::list::ListOf;
 use lh_types::op::Op;

@@ -2,7 +2,7 @@
 ghost use Rattle.std.specs.Prelude.{◌≡◌, ◌<◌, true};
 ghost use Rattle.lh_unit.specs.Arena.{unit_count, value_count, value_name_at};
 
-use lh_scan::tokens::NameText;
+use lh_read_pieces::tokens::NameText;
 use lh_types::written::SharedTypes;
 use lh_unit::inst::{UnitId, ValueId};
 use lh_unit::module::Module;

@@ -6,8 +6,8 @@ ghost use Rattle.lh_read.specs.InOrder.{IsInOrder, state_of};
 
 use crate::faults::LineFault;
 use crate::reader::Reader;
-use lh_scan::tokens::Tokens;
-use lh_syntax::item;
+use lh_read_lines::item;
+use lh_read_pieces::tokens::Tokens;
 use memchr::memchr;
 use std::alloc::Global;
 

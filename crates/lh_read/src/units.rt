@@ -2,15 +2,15 @@
 ghost use Rattle.std.specs.Prelude.{◌≡◌, ◌<◌, map, None, Some, ⊤};
 ghost use Rattle.lh_unit.specs.Arena.{IsOpen, OfOpen, unit_count};
 ghost use Rattle.lh_unit.specs.Spells.{input_of};
-ghost use Rattle.lh_scan.specs.LexemeOf.{unit_name_of};
-ghost use Rattle.lh_phrase.specs.SyntaxOf.{ports_of};
+ghost use Rattle.lh_read_pieces.specs.LexemeOf.{unit_name_of};
+ghost use Rattle.lh_read_phrases.specs.SyntaxOf.{ports_of};
 ghost use Rattle.lh_read.specs.Building.{arg_of, UnitBegunOrFault, AddsArgs, Heads};
 
 use crate::faults::LineFault;
 use crate::ids::{unit_id, value_id};
 use crate::known::Known;
-use lh_phrase::syntax::{Param, Ports};
-use lh_scan::tokens::UnitNameText;
+use lh_read_phrases::syntax::{Param, Ports};
+use lh_read_pieces::tokens::UnitNameText;
 use lh_types::ty::Ty;
 use lh_unit::inst::{UnitId, UnitKind};
 use lh_unit::module::Module;

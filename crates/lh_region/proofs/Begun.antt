@@ -17,18 +17,18 @@ use Rattle.lh_term.specs.Arena.{StandsForTree}
 use Rattle.lh_term.specs.declared.part.Part.{Part}
 use Rattle.lh_term.specs.declared.term.TermId.{TermId}
 use Rattle.lh_term.specs.declared.term.Node.{Node}
-use Rattle.lh_rows.specs.Known.{Known, known_value, known_cell, known_part, Knowledge, as_value, as_cell, value_known, cell_known, part_known}
-use Rattle.lh_rows.specs.Joins.{RegionEdge, selector, merged, on_each, merged_by, first_one, joined}
-use Rattle.lh_rows.specs.Typed.{IsCondition}
-use Rattle.lh_joins.specs.declared.edge.Edge.{Edge}
-use Rattle.lh_joins.specs.Joins.{AreConditions, edge_on, edges_on, after_first, chosen_by, on_conditions}
-use Rattle.lh_joins.proofs.Conditions.{stands-condition}
-use Rattle.lh_joins.proofs.Merged.{merged-by-conditions}
-use Rattle.lh_places.specs.declared.state.PlaceState.{PlaceState}
-use Rattle.lh_places.specs.Asked.{kept_by, kept_at, keeps, source_of, edges_at, sources, IsBelow, KnownTerms, AreOfOneType, Joins, IsJoin, Tells}
+use Rattle.lh_region_def.specs.Known.{Known, known_value, known_cell, known_part, Knowledge, as_value, as_cell, value_known, cell_known, part_known}
+use Rattle.lh_region_def.specs.Joins.{RegionEdge, selector, merged, on_each, merged_by, first_one, joined}
+use Rattle.lh_region_def.specs.Typed.{IsCondition}
+use Rattle.lh_region_joins.specs.declared.edge.Edge.{Edge}
+use Rattle.lh_region_joins.specs.Joins.{AreConditions, edge_on, edges_on, after_first, chosen_by, on_conditions}
+use Rattle.lh_region_joins.proofs.Conditions.{stands-condition}
+use Rattle.lh_region_joins.proofs.Merged.{merged-by-conditions}
+use Rattle.lh_region_places.specs.declared.state.PlaceState.{PlaceState}
+use Rattle.lh_region_places.specs.Asked.{kept_by, kept_at, keeps, source_of, edges_at, sources, IsBelow, KnownTerms, AreOfOneType, Joins, IsJoin, Tells}
 use Rattle.lh_region.specs.Walking.{as_term, term_known, Story, TellsKnown, AreEdges}
 use Rattle.lh_region.specs.Begins.{told_by, with_place, AreOfType, CanBegin, IsBegun, StaysKnown, TellsJoined, BeginsJoined}
-use Rattle.lh_places.proofs.Placing.{kept-at, edges-of}
+use Rattle.lh_region_places.proofs.Placing.{kept-at, edges-of}
 
 -- ---- what edges join, under one name
 

@@ -10,15 +10,15 @@ use Rattle.lh_term.specs.declared.term.TermId.{TermId}
 use Rattle.lh_term.specs.declared.term.Node.{Node}
 use Rattle.lh_term.proofs.Sound.{one_wide}
 use Rattle.lh_term.proofs.Swaps.{tree_grown, stands_grown}
-use Rattle.lh_rows.specs.Typed.{IsCondition}
-use Rattle.lh_rows.specs.Places.{both}
-use Rattle.lh_rows.proofs.Merging.{not-condition}
-use Rattle.lh_joins.specs.Joins.{IsConditionAt}
-use Rattle.lh_joins.proofs.Conditions.{stands-condition}
-use Rattle.lh_places.specs.declared.state.PlaceState.{PlaceState}
-use Rattle.lh_places.specs.Asked.{KnownTerms, Tells, CanAsk, StillTold, IsTold}
+use Rattle.lh_region_def.specs.Typed.{IsCondition}
+use Rattle.lh_region_def.specs.Places.{both}
+use Rattle.lh_region_def.proofs.Merging.{not-condition}
+use Rattle.lh_region_joins.specs.Joins.{IsConditionAt}
+use Rattle.lh_region_joins.proofs.Conditions.{stands-condition}
+use Rattle.lh_region_places.specs.declared.state.PlaceState.{PlaceState}
+use Rattle.lh_region_places.specs.Asked.{KnownTerms, Tells, CanAsk, StillTold, IsTold}
 use Rattle.lh_region.specs.Branches.{CanTest, negation, IsAnd, IsAndNot}
-use Rattle.lh_places.proofs.Telling.{tells-grown}
+use Rattle.lh_region_places.proofs.Telling.{tells-grown}
 
 pub takes-not : (x : Tree) → IsCondition x → TakesTypes Not (type_of x ∷ [])
 takes-not x i =

@@ -11,15 +11,15 @@ use Rattle.lh_term.specs.Arena.{trees_at, AreIn, StandsForTree, Grows}
 use Rattle.lh_term.specs.declared.term.TermId.{TermId}
 use Rattle.lh_term.specs.declared.term.Node.{Node}
 use Rattle.lh_term.proofs.Swaps.{grows_on}
-use Rattle.lh_joins.specs.Joins.{AreTerms}
-use Rattle.lh_joins.proofs.Conditions.{grows-none}
-use Rattle.lh_joins.proofs.Selecting.{terms-grown, terms-push}
-use Rattle.lh_places.specs.declared.state.PlaceState.{PlaceState}
+use Rattle.lh_region_joins.specs.Joins.{AreTerms}
+use Rattle.lh_region_joins.proofs.Conditions.{grows-none}
+use Rattle.lh_region_joins.proofs.Selecting.{terms-grown, terms-push}
+use Rattle.lh_region_places.specs.declared.state.PlaceState.{PlaceState}
 use Rattle.lh_region.specs.declared.taking.PlaceValue.{PlaceValue}
-use Rattle.lh_places.specs.Asked.{KnownTerms, Tells, CanAsk, SamePlaces, StillTold, IsTold}
+use Rattle.lh_region_places.specs.Asked.{KnownTerms, Tells, CanAsk, SamePlaces, StillTold, IsTold}
 use Rattle.lh_region.specs.Taken.{told_of, AllThere, CanAskAll, StillToldAll, AreTold, asks_at, IsOperation, IsOperated}
-use Rattle.lh_places.proofs.Placing.{same-length}
-use Rattle.lh_places.proofs.Telling.{made-trees, tells-grown}
+use Rattle.lh_region_places.proofs.Placing.{same-length}
+use Rattle.lh_region_places.proofs.Telling.{made-trees, tells-grown}
 
 -- ---- lists
 

@@ -7,10 +7,10 @@ use Rattle.lh_term.specs.Tree.{Tree}
 use Rattle.lh_term.specs.Arena.{Grows}
 use Rattle.lh_term.specs.declared.term.Node.{Node}
 use Rattle.lh_term.proofs.Swaps.{stands_grown}
-use Rattle.lh_rows.specs.Joins.{RegionPlace, RegionEdge}
-use Rattle.lh_rows.specs.Places.{Region, Here, Midst, next_place, goes}
-use Rattle.lh_rows.specs.Regions.{is_place, edges_to}
-use Rattle.lh_joins.specs.declared.edge.Edge.{Edge}
+use Rattle.lh_region_def.specs.Joins.{RegionPlace, RegionEdge}
+use Rattle.lh_region_def.specs.Places.{Region, Here, Midst, next_place, goes}
+use Rattle.lh_region_def.specs.Regions.{is_place, edges_to}
+use Rattle.lh_region_joins.specs.declared.edge.Edge.{Edge}
 use Rattle.lh_region.specs.declared.ahead.Ahead.{Ahead}
 use Rattle.lh_region.specs.Ahead.{led_to, IsLedAlso}
 use Rattle.lh_region.specs.Walking.{Story, IsEdge, AreEdges, place_of, AreAhead, LeadsOn}

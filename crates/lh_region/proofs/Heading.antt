@@ -4,7 +4,7 @@ use Rattle.std.specs.List.{list_any}
 use Rattle.std.specs.Option.{option_map, option_and_then}
 use Rattle.std.proofs.Math.Bool.{or-false}
 use Rattle.lh_unit.specs.Contents.{LineText}
-use Rattle.lh_names.specs.Names.{same_name}
+use Rattle.lh_unit_names.specs.Names.{same_name}
 use Rattle.lh_unit.specs.Places as places
 use Rattle.lh_unit.specs.Naming.{Naming, inst_text}
 use Rattle.lh_unit.specs.Within.{Each}
@@ -12,12 +12,12 @@ use Rattle.lh_unit.specs.declared.inst.BlockId.{BlockId}
 use Rattle.lh_unit.specs.declared.inst.Inst.{Inst}
 use Rattle.lh_unit.specs.declared.inst.Inst.TheVariants as inst
 use Rattle.lh_unit.proofs.Lists.{Same, same, other, same_or, nat_eq-refl, nat_eq-other}
-use Rattle.lh_names.proofs.NameLists.{same_name-is, same_name-refl}
+use Rattle.lh_unit_names.proofs.NameLists.{same_name-is, same_name-refl}
 use Rattle.lh_flat.specs.Reads.{flat_line_text, flat_blocks_text}
 use Rattle.lh_flat.specs.declared.flat.FlatInst.{FlatInst}
 use Rattle.lh_flat.specs.declared.flat.FlatBlock.{FlatBlock}
-use Rattle.lh_rows.specs.Places.{block_number}
-use Rattle.lh_rows.specs.Regions as rows
+use Rattle.lh_region_def.specs.Places.{block_number}
+use Rattle.lh_region_def.specs.Regions as rows
 use Rattle.lh_region.specs.Heads.{leads_then, leads_on, leads_to, names, is_named, entry_id, head_if, head_in, LeadsWithin, IsNoBranch, BranchIsLast, LabelsDiffer, HeadsAgree}
 
 -- names of labels are one where their numbers are

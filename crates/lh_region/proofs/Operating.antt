@@ -1,7 +1,7 @@
 -- The operand of a `phi` by ids is that of the text.
 use Rattle.std.proofs.Common.{◌≡◌, ℕ, List, [], ◌∷◌, map, Bool, true, false, nat_eq, if◌then◌else◌, Option, Some, refl}
 use Rattle.std.specs.Option.{option_map}
-use Rattle.lh_names.specs.Names.{same_name}
+use Rattle.lh_unit_names.specs.Names.{same_name}
 use Rattle.lh_unit.specs.Activation.{edge_from}
 use Rattle.lh_unit.specs.Naming.{Naming, value_text, edge_text}
 use Rattle.lh_unit.specs.declared.inst.ValueId.{ValueId}

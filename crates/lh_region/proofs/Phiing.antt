@@ -7,14 +7,14 @@ use Rattle.lh_term.specs.Arena.{StandsForTree, Grows}
 use Rattle.lh_term.specs.declared.term.TermId.{TermId}
 use Rattle.lh_term.specs.declared.term.Node.{Node}
 use Rattle.lh_term.proofs.Arenas.{map_length}
-use Rattle.lh_joins.specs.declared.edge.Edge.{Edge}
-use Rattle.lh_joins.specs.Joins.{chosen_by}
-use Rattle.lh_places.specs.declared.state.PlaceState.{PlaceState}
+use Rattle.lh_region_joins.specs.declared.edge.Edge.{Edge}
+use Rattle.lh_region_joins.specs.Joins.{chosen_by}
+use Rattle.lh_region_places.specs.declared.state.PlaceState.{PlaceState}
 use Rattle.lh_region.specs.declared.taking.PlaceValue.{PlaceValue}
-use Rattle.lh_places.specs.Asked.{source_of, edges_at, IsBelow, IsJoin, CanJoin, IsJoined, SamePlaces, IsSelectedAt, joined_by}
+use Rattle.lh_region_places.specs.Asked.{source_of, edges_at, IsBelow, IsJoin, CanJoin, IsJoined, SamePlaces, IsSelectedAt, joined_by}
 use Rattle.lh_region.specs.Taken.{told_of, CanAskAll, StillToldAll, AreTold, phi_ask, phi_asks, IsMerge, IsMerged}
-use Rattle.lh_places.proofs.Placing.{edges-of, same-edges}
-use Rattle.lh_places.proofs.Telling.{made-trees, made-length, can-join, selectors-grown, conds-at, tells-grown, tells-selected}
+use Rattle.lh_region_places.proofs.Placing.{edges-of, same-edges}
+use Rattle.lh_region_places.proofs.Telling.{made-trees, made-length, can-join, selectors-grown, conds-at, tells-grown, tells-selected}
 use Rattle.lh_region.proofs.Gathering.{there-from}
 
 phi-within : (n i : ℕ) (operands : List PhiEdge) (es : List Edge) → i < n → Each (IsBelow i) (map source_of es) → Each (λ (a : PlaceValue). a.place < n) (phi_asks operands es)

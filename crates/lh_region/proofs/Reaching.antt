@@ -1,6 +1,6 @@
 -- As many blocks as there are, with no edge to one of them.
 use Rattle.std.proofs.Common.{◌≡◌, ℕ, zero, suc, List, [], ◌∷◌, ◌++◌, length, refl, ap, sym, ◌∙◌}
-use Rattle.lh_joins.specs.declared.edge.Edge.{Edge}
+use Rattle.lh_region_joins.specs.declared.edge.Edge.{Edge}
 use Rattle.lh_region.specs.Ahead.{led_to, LeadsNowhere}
 
 pub nowhere-first : LeadsNowhere 0 []

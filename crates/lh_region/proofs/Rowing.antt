@@ -9,17 +9,17 @@ use Rattle.lh_term.specs.declared.part.Part.{Part}
 use Rattle.lh_term.specs.declared.term.TermId.{TermId}
 use Rattle.lh_term.specs.declared.term.Node.{Node}
 use Rattle.lh_term.proofs.Swaps.{stands_grown, tree_grown, in_grown, grows_on}
-use Rattle.lh_rows.specs.Rows as text
-use Rattle.lh_rows.specs.Places.{Midst}
-use Rattle.lh_joins.specs.Joins.{IsConditionAt, AreTerms}
-use Rattle.lh_joins.proofs.Selecting.{terms-grown}
-use Rattle.lh_places.specs.declared.state.PlaceState.{PlaceState}
+use Rattle.lh_region_def.specs.Rows as text
+use Rattle.lh_region_def.specs.Places.{Midst}
+use Rattle.lh_region_joins.specs.Joins.{IsConditionAt, AreTerms}
+use Rattle.lh_region_joins.proofs.Selecting.{terms-grown}
+use Rattle.lh_region_places.specs.declared.state.PlaceState.{PlaceState}
 use Rattle.lh_region.specs.declared.rows.Rows.{Rows}
 use Rattle.lh_region.specs.declared.rows.DriveRow.{DriveRow}
 use Rattle.lh_region.specs.declared.rows.EndRow.{EndRow}
 use Rattle.lh_region.specs.declared.rows.Way.{Way}
 use Rattle.lh_region.specs.declared.effects.DriveAt.{DriveAt}
-use Rattle.lh_places.specs.Asked.{CanAsk, StillTold, IsTold}
+use Rattle.lh_region_places.specs.Asked.{CanAsk, StillTold, IsTold}
 use Rattle.lh_region.specs.Taken.{asks_at, AreTold}
 use Rattle.lh_region.specs.Stands.{IsDrive, AreDrives, IsEnd, AreEnds, AreRows, way_text}
 use Rattle.lh_region.specs.Effects.{CanDrive, StillDriven, IsProbed, IsDriven, AreAsserted, IsEnded, IsWithAsserts}

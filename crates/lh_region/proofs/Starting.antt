@@ -7,8 +7,8 @@ use Rattle.lh_term.specs.Arena.{Grows}
 use Rattle.lh_term.specs.declared.term.TermId.{TermId}
 use Rattle.lh_term.specs.declared.term.Node.{Node}
 use Rattle.lh_term.proofs.Swaps.{stands_grown, grows_on}
-use Rattle.lh_places.specs.declared.state.PlaceState.{PlaceState}
-use Rattle.lh_places.specs.Asked.{kept_by}
+use Rattle.lh_region_places.specs.declared.state.PlaceState.{PlaceState}
+use Rattle.lh_region_places.specs.Asked.{kept_by}
 use Rattle.lh_region.specs.Starts.{constant_as, constant_given, StandsMaybe, KnowsConstants, IsTaken, TakesConstant}
 
 else-none : (o : Option Tree) → or_else o None ≡ o

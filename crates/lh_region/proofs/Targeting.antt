@@ -4,8 +4,8 @@ use Rattle.std.proofs.lemmas.List.{drop_all}
 use Rattle.lh_unit.proofs.Lists.{drop-item}
 use Rattle.std.specs.List.{list_all}
 use Rattle.std.specs.Option.{option_and_then}
-use Rattle.lh_rows.specs.Rows as text
-use Rattle.lh_rows.specs.Regions as texts
+use Rattle.lh_region_def.specs.Rows as text
+use Rattle.lh_region_def.specs.Regions as texts
 use Rattle.lh_region.specs.declared.rows.EndRow.{EndRow}
 use Rattle.lh_region.specs.Stands.{way_text}
 use Rattle.lh_region.specs.Targets.{ways_of, end_by, target_by, TargetByWays}

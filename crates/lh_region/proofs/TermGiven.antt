@@ -4,23 +4,23 @@ use Rattle.std.specs.Option.{is_some, option_and_then, option_map_or}
 use Rattle.std.proofs.lemmas.Bool.{cond-true, cond-false}
 use Rattle.std.proofs.lemmas.Option.{slice_get_within}
 use Rattle.std.proofs.Math.Nat.{ne_of_gt}
-use Rattle.lh_names.specs.Names.{same_name}
+use Rattle.lh_unit_names.specs.Names.{same_name}
 use Rattle.lh_unit.specs.Within.{Each}
 use Rattle.lh_unit.proofs.Lists.{Same, same, other, same_or, nat_eq-refl, nat_eq-other}
-use Rattle.lh_names.proofs.NameLists.{same_name-is, same_name-refl}
+use Rattle.lh_unit_names.proofs.NameLists.{same_name-is, same_name-refl}
 use Rattle.lh_unit.proofs.Within.{Each-more}
 use Rattle.lh_term.specs.Tree.{Tree}
 use Rattle.lh_term.specs.Arena.{StandsForTree}
 use Rattle.lh_term.specs.declared.term.TermId.{TermId}
 use Rattle.lh_term.specs.declared.term.Node.{Node}
-use Rattle.lh_rows.specs.Known.{Known, Knowledge, with_known}
-use Rattle.lh_joins.specs.declared.edge.Edge.{Edge}
-use Rattle.lh_places.specs.declared.state.PlaceState.{PlaceState}
-use Rattle.lh_places.specs.Asked.{kept_at, keeps, source_of, edges_at, sources, IsBelow, KnownTerms, Joins, Tells, SamePlaces, IsWithAt}
+use Rattle.lh_region_def.specs.Known.{Known, Knowledge, with_known}
+use Rattle.lh_region_joins.specs.declared.edge.Edge.{Edge}
+use Rattle.lh_region_places.specs.declared.state.PlaceState.{PlaceState}
+use Rattle.lh_region_places.specs.Asked.{kept_at, keeps, source_of, edges_at, sources, IsBelow, KnownTerms, Joins, Tells, SamePlaces, IsWithAt}
 use Rattle.lh_region.specs.Walking.{as_term, term_known, Story, TellsKnown}
 use Rattle.lh_region.specs.Gives.{with_term, ValuesDiffer, GivesTerm}
-use Rattle.lh_places.proofs.Placing.{same-edges, same-sources, Kept, new_one, old_one, kept-with, with-same}
-use Rattle.lh_places.proofs.Telling.{places-replaced, with-join}
+use Rattle.lh_region_places.proofs.Placing.{same-edges, same-sources, Kept, new_one, old_one, kept-with, with-same}
+use Rattle.lh_region_places.proofs.Telling.{places-replaced, with-join}
 
 -- the sources of a place are below the last one
 sources-last : (ps : List PlaceState) (i j : ℕ) → i + 1 ≡ length ps → Each (IsBelow j) (sources ps j) → Each (IsBelow i) (sources ps j)

@@ -1,7 +1,7 @@
 -- The edges that lead to places which are still to be treated.
 use Rattle.std.specs.Prelude.{◌≡◌, ℕ, List, [], ◌∷◌, ◌++◌, length, Bool, true, false, ◌&&◌, nat_eq, if◌then◌else◌, slice_get}
 use Rattle.std.specs.Option.{option_map_or}
-use Rattle.lh_joins.specs.declared.edge.Edge.{Edge}
+use Rattle.lh_region_joins.specs.declared.edge.Edge.{Edge}
 
 -- the edges that lead to the block of this number
 abbrev pub led_to : List (List Edge) → ℕ → List Edge

@@ -5,12 +5,12 @@ use Rattle.lh_unit.specs.Within.{Each}
 use Rattle.lh_term.specs.Tree.{Tree}
 use Rattle.lh_term.specs.Types.{IsTyped, type_of}
 use Rattle.lh_term.specs.declared.term.Node.{Node}
-use Rattle.lh_rows.specs.Known.{Knowledge}
-use Rattle.lh_rows.specs.Joins.{RegionEdge, joined}
-use Rattle.lh_rows.specs.Typed.{IsCondition}
-use Rattle.lh_joins.specs.declared.edge.Edge.{Edge}
-use Rattle.lh_places.specs.declared.state.PlaceState.{PlaceState}
-use Rattle.lh_places.specs.Asked.{kept_by, Tells}
+use Rattle.lh_region_def.specs.Known.{Knowledge}
+use Rattle.lh_region_def.specs.Joins.{RegionEdge, joined}
+use Rattle.lh_region_def.specs.Typed.{IsCondition}
+use Rattle.lh_region_joins.specs.declared.edge.Edge.{Edge}
+use Rattle.lh_region_places.specs.declared.state.PlaceState.{PlaceState}
+use Rattle.lh_region_places.specs.Asked.{kept_by, Tells}
 use Rattle.lh_region.specs.Walking.{Story, term_known, TellsKnown, AreEdges}
 
 -- what is told of a value where this is known under the names of values

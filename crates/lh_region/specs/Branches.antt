@@ -5,10 +5,10 @@ pub use Rattle.lh_term.specs.Make.{negation}
 use Rattle.lh_term.specs.Arena.{StandsForTree}
 use Rattle.lh_term.specs.declared.term.TermId.{TermId}
 use Rattle.lh_term.specs.declared.term.Node.{Node}
-use Rattle.lh_rows.specs.Typed.{IsCondition}
-use Rattle.lh_rows.specs.Places.{both}
-use Rattle.lh_places.specs.declared.state.PlaceState.{PlaceState}
-use Rattle.lh_places.specs.Asked.{KnownTerms, Tells}
+use Rattle.lh_region_def.specs.Typed.{IsCondition}
+use Rattle.lh_region_def.specs.Places.{both}
+use Rattle.lh_region_places.specs.declared.state.PlaceState.{PlaceState}
+use Rattle.lh_region_places.specs.Asked.{KnownTerms, Tells}
 
 -- a condition is told of value v at a place
 pub record CanTest (ns : List Node) (ps : List PlaceState) (v i : ℕ) : Type 0 where

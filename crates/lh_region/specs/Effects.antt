@@ -7,12 +7,12 @@ use Rattle.lh_term.specs.Arena.{trees, tree_at, StandsForTree}
 use Rattle.lh_term.specs.declared.part.Part.{Part}
 use Rattle.lh_term.specs.declared.term.TermId.{TermId}
 use Rattle.lh_term.specs.declared.term.Node.{Node}
-use Rattle.lh_rows.specs.Places.{Region, Here, Midst, probes, drives, asserts, ends}
-use Rattle.lh_places.specs.declared.state.PlaceState.{PlaceState}
+use Rattle.lh_region_def.specs.Places.{Region, Here, Midst, probes, drives, asserts, ends}
+use Rattle.lh_region_places.specs.declared.state.PlaceState.{PlaceState}
 use Rattle.lh_region.specs.declared.rows.Rows.{Rows}
 use Rattle.lh_region.specs.declared.rows.Way.{Way}
 use Rattle.lh_region.specs.declared.effects.DriveAt.{DriveAt}
-use Rattle.lh_places.specs.Asked.{KnownTerms, Tells}
+use Rattle.lh_region_places.specs.Asked.{KnownTerms, Tells}
 use Rattle.lh_region.specs.Taken.{told_of, asks_at}
 use Rattle.lh_region.specs.Stands.{AreRows, way_text}
 

@@ -1,12 +1,12 @@
 -- What is asked of a flat text by ids whose regions are asked for: by some names it is formed, as that of a process of a well-formed module is.
 use Rattle.std.specs.Prelude.{◌≡◌, ◌<◌, ℕ, length}
-use Rattle.lh_names.specs.declared.name.UnitName.{UnitName}
+use Rattle.lh_unit_names.specs.declared.name.UnitName.{UnitName}
 use Rattle.lh_unit.specs.Naming.{Naming}
 use Rattle.lh_flat.specs.declared.flat.Flat.{Flat}
 use Rattle.lh_flat.specs.Flat.{flat_unit}
 use Rattle.lh_flat.specs.Below.{IdsBelow}
 use Rattle.lh_flat.specs.Reads.{flat_text}
-use Rattle.lh_inlined.specs.Formed.{IsFormed}
+use Rattle.lh_flat_laws.specs.Formed.{IsFormed}
 
 -- names for the ids of a flat text, no two of which are alike, by which it is formed
 pub record Names (t : Flat) (f : Naming) : Type 0 where

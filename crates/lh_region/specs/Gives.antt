@@ -4,9 +4,9 @@ use Rattle.lh_term.specs.Tree.{Tree}
 use Rattle.lh_term.specs.Arena.{StandsForTree}
 use Rattle.lh_term.specs.declared.term.TermId.{TermId}
 use Rattle.lh_term.specs.declared.term.Node.{Node}
-use Rattle.lh_rows.specs.Known.{Known, Knowledge, with_known}
-use Rattle.lh_places.specs.declared.state.PlaceState.{PlaceState}
-use Rattle.lh_places.specs.Asked.{Tells}
+use Rattle.lh_region_def.specs.Known.{Known, Knowledge, with_known}
+use Rattle.lh_region_places.specs.declared.state.PlaceState.{PlaceState}
+use Rattle.lh_region_places.specs.Asked.{Tells}
 use Rattle.lh_region.specs.Walking.{as_term, Story, TellsKnown}
 
 -- the story with this term of a value at a place

@@ -11,7 +11,7 @@ use Rattle.lh_flat.specs.declared.flat.FlatInst.{FlatInst}
 use Rattle.lh_flat.specs.declared.flat.FlatBlock.{FlatBlock}
 use Rattle.lh_flat.specs.declared.flat.Flat.{Flat}
 use Rattle.lh_flat.specs.Reads.{flat_text}
-use Rattle.lh_rows.specs.Regions.{head_of}
+use Rattle.lh_region_def.specs.Regions.{head_of}
 
 -- where an instruction of an entry leads that stands behind constants
 abbrev pub leads_then : Inst → (next : Option BlockId) → Option BlockId

@@ -4,11 +4,11 @@ use Rattle.std.specs.Option.{option_map_or}
 use Rattle.lh_unit.specs.Within.{Each}
 use Rattle.lh_term.specs.declared.term.Node.{Node}
 use Rattle.lh_term.specs.Arena.{trees, tree_at, IsIn, StandsForTree}
-use Rattle.lh_rows.specs.Rows as text
-use Rattle.lh_rows.specs.Regions as texts
-use Rattle.lh_rows.specs.Typed.{IsOfType}
-use Rattle.lh_joins.specs.Joins.{IsConditionAt, AreTerms}
-use Rattle.lh_rows.specs.Regions.{RegionRefusal, head_phi, too_many_turns, region_too_large, Regioned, no_regions, has_regions}
+use Rattle.lh_region_def.specs.Rows as text
+use Rattle.lh_region_def.specs.Regions as texts
+use Rattle.lh_region_def.specs.Typed.{IsOfType}
+use Rattle.lh_region_joins.specs.Joins.{IsConditionAt, AreTerms}
+use Rattle.lh_region_def.specs.Regions.{RegionRefusal, head_phi, too_many_turns, region_too_large, Regioned, no_regions, has_regions}
 use Rattle.lh_region.specs.declared.rows.Way.{Way}
 use Rattle.lh_region.specs.declared.rows.Way.TheVariants as way
 use Rattle.lh_region.specs.declared.rows.DriveRow.{DriveRow}

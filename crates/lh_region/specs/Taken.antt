@@ -12,12 +12,12 @@ use Rattle.lh_term.specs.Make.{make_operation}
 use Rattle.lh_term.specs.Arena.{StandsForTree}
 use Rattle.lh_term.specs.declared.term.TermId.{TermId}
 use Rattle.lh_term.specs.declared.term.Node.{Node}
-use Rattle.lh_joins.specs.declared.edge.Edge.{Edge}
-use Rattle.lh_joins.specs.Joins.{AreTerms}
-use Rattle.lh_places.specs.declared.state.PlaceState.{PlaceState}
+use Rattle.lh_region_joins.specs.declared.edge.Edge.{Edge}
+use Rattle.lh_region_joins.specs.Joins.{AreTerms}
+use Rattle.lh_region_places.specs.declared.state.PlaceState.{PlaceState}
 use Rattle.lh_region.specs.declared.taking.PlaceValue.{PlaceValue}
 use Rattle.lh_region.specs.Operands.{operand_in}
-use Rattle.lh_places.specs.Asked.{KnownTerms, Tells, AreOfOneType, edges_at, joined_by}
+use Rattle.lh_region_places.specs.Asked.{KnownTerms, Tells, AreOfOneType, edges_at, joined_by}
 
 -- what is told of the value that is asked for
 abbrev pub told_of : KnownTerms → PlaceValue → Option Tree

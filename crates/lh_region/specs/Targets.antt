@@ -1,9 +1,9 @@
 -- The one block for which all ends of a region wait, by the ways in which they end.
 use Rattle.std.specs.Prelude.{◌≡◌, ℕ, List, [], map, true, Option}
 use Rattle.lh_term.specs.Make.{bit_of}
-use Rattle.lh_rows.specs.Known.{nothing_known}
-use Rattle.lh_rows.specs.Rows as text
-use Rattle.lh_rows.specs.Regions as texts
+use Rattle.lh_region_def.specs.Known.{nothing_known}
+use Rattle.lh_region_def.specs.Rows as text
+use Rattle.lh_region_def.specs.Regions as texts
 use Rattle.lh_region.specs.declared.rows.EndRow.{EndRow}
 use Rattle.lh_region.specs.Stands.{way_text}
 

@@ -5,15 +5,15 @@ use Rattle.lh_unit.specs.Naming.{Naming}
 use Rattle.lh_term.specs.Tree.{Tree}
 use Rattle.lh_term.specs.Arena.{StandsForTree}
 use Rattle.lh_term.specs.declared.term.Node.{Node}
-use Rattle.lh_rows.specs.Known.{Known, known_value, known_cell, known_part, Knowledge}
-use Rattle.lh_rows.specs.Rows as text
-use Rattle.lh_rows.specs.Joins.{RegionPlace, RegionEdge}
-use Rattle.lh_rows.specs.Places.{Region, Here, Midst, goes}
-use Rattle.lh_rows.specs.Regions.{edges_to, edges_of_ends}
-use Rattle.lh_joins.specs.declared.edge.Edge.{Edge}
+use Rattle.lh_region_def.specs.Known.{Known, known_value, known_cell, known_part, Knowledge}
+use Rattle.lh_region_def.specs.Rows as text
+use Rattle.lh_region_def.specs.Joins.{RegionPlace, RegionEdge}
+use Rattle.lh_region_def.specs.Places.{Region, Here, Midst, goes}
+use Rattle.lh_region_def.specs.Regions.{edges_to, edges_of_ends}
+use Rattle.lh_region_joins.specs.declared.edge.Edge.{Edge}
 use Rattle.lh_region.specs.declared.ahead.Ahead.{Ahead}
 use Rattle.lh_region.specs.Ahead.{led_to}
-use Rattle.lh_places.specs.Asked.{KnownTerms}
+use Rattle.lh_region_places.specs.Asked.{KnownTerms}
 
 -- the term of a value, or of what a variable holds; of a part there is none
 abbrev pub as_term : Known → Option Tree

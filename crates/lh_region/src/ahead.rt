@@ -3,7 +3,7 @@
 ghost use Rattle.std.specs.Prelude.{◌≡◌, ◌<◌, ◌++◌, ◌∷◌, [], ℕ, ◌&&◌, length, replicate, IfOk, OnOk};
 ghost use Rattle.lh_region.specs.Ahead.{led_to, none_led, LeadsNowhere, IsLedAlso, IsReached};
 
-use lh_joins::Edge;
+use lh_region_joins::Edge;
 use lh_types::list::ListOf;
 use lh_types::ty::NoMemory;
 use std::alloc::Global;

@@ -3,8 +3,8 @@ ghost use Rattle.std.specs.Prelude.{OnOk};
 ghost use Rattle.lh_region.specs.Begins.{IsBegun, BeginsJoined};
 
 use crate::ahead::EdgeList;
-use lh_places::places::Places;
-use lh_places::state::PlaceState;
+use lh_region_places::places::Places;
+use lh_region_places::state::PlaceState;
 use lh_types::ty::NoMemory;
 use std::alloc::Global;
 

@@ -1,13 +1,13 @@
 //! Conditions at a place: those of drives, and of the edges of a branch.
 ghost use Rattle.std.specs.Prelude.{◌≡◌, ◌<◌, length, IfOk, OnOk};
 ghost use Rattle.lh_term.specs.Arena.{trees, tree_at, StandsForTree, Grows};
-ghost use Rattle.lh_joins.specs.Joins.{IsConditionAt};
-ghost use Rattle.lh_places.specs.Asked.{SamePlaces, StillTold};
+ghost use Rattle.lh_region_joins.specs.Joins.{IsConditionAt};
+ghost use Rattle.lh_region_places.specs.Asked.{SamePlaces, StillTold};
 ghost use Rattle.lh_region.specs.Branches.{CanTest, negation, IsAnd, IsAndNot};
 
-use lh_joins::logic::and;
-use lh_places::asking::value_at;
-use lh_places::places::Places;
+use lh_region_joins::logic::and;
+use lh_region_places::asking::value_at;
+use lh_region_places::places::Places;
 use lh_term::term::TermId;
 use lh_term::terms::Terms;
 use lh_types::op::Op;

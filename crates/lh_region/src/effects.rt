@@ -2,20 +2,20 @@
 ghost use Rattle.std.specs.Prelude.{◌≡◌, ◌<◌, ◌++◌, ◌∷◌, [], length, Some, IsSome, IfOk, OnOk};
 ghost use Rattle.lh_types.specs.Types.{IsData};
 ghost use Rattle.lh_term.specs.Arena.{StandsForTree, Grows};
-ghost use Rattle.lh_parts.specs.Steps.{part_at};
-ghost use Rattle.lh_joins.specs.Joins.{IsConditionAt};
-ghost use Rattle.lh_places.specs.Asked.{SamePlaces};
+ghost use Rattle.lh_flat_parts.specs.Steps.{part_at};
+ghost use Rattle.lh_region_joins.specs.Joins.{IsConditionAt};
+ghost use Rattle.lh_region_places.specs.Asked.{SamePlaces};
 ghost use Rattle.lh_region.specs.Taken as taken;
 ghost use Rattle.lh_region.specs.Effects as effects;
 
 use crate::ahead::EdgeList;
 use crate::rows::{DriveRow, EndRow, Rows, Way};
 use crate::taking::{ask_all, asks_at};
-use lh_joins::Edge;
-use lh_joins::logic::never_holds;
-use lh_parts::PartTable;
-use lh_places::asking::value_at;
-use lh_places::places::Places;
+use lh_flat_parts::PartTable;
+use lh_region_joins::Edge;
+use lh_region_joins::logic::never_holds;
+use lh_region_places::asking::value_at;
+use lh_region_places::places::Places;
 use lh_term::part::Part;
 use lh_term::term::TermId;
 use lh_term::terms::Terms;

@@ -1,9 +1,9 @@
 //! A place gives terms to values and variables.
 ghost use Rattle.std.specs.Prelude.{◌≡◌, ◌<◌, length, OnOk};
-ghost use Rattle.lh_places.specs.Asked.{IsWithAt};
+ghost use Rattle.lh_region_places.specs.Asked.{IsWithAt};
 ghost use Rattle.lh_region.specs.Gives.{GivesTerm};
 
-use lh_places::places::Places;
+use lh_region_places::places::Places;
 use lh_term::term::TermId;
 use lh_types::ty::NoMemory;
 

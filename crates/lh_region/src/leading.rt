@@ -1,13 +1,13 @@
 //! Where control goes from a place.
 ghost use Rattle.std.specs.Prelude.{◌≡◌, ◌<◌, ◌≤◌, ◌⊎◌, length, OnOk, IfErr};
-ghost use Rattle.lh_rows.specs.Places.{next_place};
-ghost use Rattle.lh_rows.specs.Regions.{max_turns};
+ghost use Rattle.lh_region_def.specs.Places.{next_place};
+ghost use Rattle.lh_region_def.specs.Regions.{max_turns};
 ghost use Rattle.lh_region.specs.declared.rows.RegionFault.TheVariants.{TooManyTurns as TooMany, OutOfMemory as NoMemoryLeft};
 ghost use Rattle.lh_region.specs.Walking.{place_of, LeadsOn};
 
 use crate::ahead::Ahead;
 use crate::rows::RegionFault;
-use lh_joins::Edge;
+use lh_region_joins::Edge;
 
 /// How many turns a region may have.
 pub const MAX_TURNS: u32 = 256;

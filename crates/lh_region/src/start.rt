@@ -6,7 +6,7 @@ ghost use Rattle.lh_term.specs.Arena.{Grows};
 ghost use Rattle.lh_region.specs.Starts.{GivenFits, lines_left, KnowsConstants, TakesConstant};
 
 use lh_flat::{Flat, FlatInst};
-use lh_places::state::PlaceState;
+use lh_region_places::state::PlaceState;
 use lh_term::terms::Terms;
 use lh_types::ty::NoMemory;
 use lh_unit::inst::Inst;

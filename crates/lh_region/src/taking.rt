@@ -1,13 +1,13 @@
 //! The values that an instruction takes, and what an operation or a `phi` makes of them.
 ghost use Rattle.std.specs.Prelude.{◌≡◌, ◌<◌, ◌++◌, ◌∷◌, [], length, IfOk, OnOk};
 ghost use Rattle.lh_term.specs.Arena.{Grows};
-ghost use Rattle.lh_places.specs.Asked.{edges_at, SamePlaces};
+ghost use Rattle.lh_region_places.specs.Asked.{edges_at, SamePlaces};
 ghost use Rattle.lh_region.specs.Taken as taken;
 
 use crate::operand::operand_from;
-use lh_joins::Edge;
-use lh_places::asking::{merged_at, value_at};
-use lh_places::places::Places;
+use lh_region_joins::Edge;
+use lh_region_places::asking::{merged_at, value_at};
+use lh_region_places::places::Places;
 use lh_term::term::{TermId, TermList};
 use lh_term::terms::Terms;
 use lh_types::op::Op;

@@ -1,15 +1,15 @@
 //! The one block for which all ends of a region wait.
 ghost use Rattle.std.specs.Prelude.{◌≡◌, ◌&&◌, List, None, Some, IfOk, MatchOption};
 ghost use Rattle.lh_term.specs.declared.part.Part.{Part as PartOf};
-ghost use Rattle.lh_cover.specs.Bits.{same_bits};
-ghost use Rattle.lh_cover.specs.Runs.{IsCover};
-ghost use Rattle.lh_rows.specs.Regions as texts;
+ghost use Rattle.lh_term_cover.specs.Bits.{same_bits};
+ghost use Rattle.lh_term_cover.specs.Runs.{IsCover};
+ghost use Rattle.lh_region_def.specs.Regions as texts;
 ghost use Rattle.lh_region.specs.Stands.{way_text};
 ghost use Rattle.lh_region.specs.Targets.{ways_of, target_by};
 
 use crate::rows::{EndRow, Rows, Way};
-use lh_cover::Cover;
 use lh_term::part::PartList;
+use lh_term_cover::Cover;
 use lh_types::ty::NoMemory;
 use std::alloc::Global;
 

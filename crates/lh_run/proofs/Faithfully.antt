@@ -7,19 +7,19 @@ use Rattle.lh_unit.specs.Canon.{canon}
 use Rattle.lh_unit.specs.Contents.{ItemText}
 use Rattle.lh_unit.specs.Reads.{Reads}
 use Rattle.lh_watch.specs.Members.{Member}
-use Rattle.lh_words.specs.Forms.{FileRequest, lower, WordsAskForSelfTest}
-use Rattle.lh_words.proofs.Forms.{one_form, no_file}
-use Rattle.lh_lowered.specs.Lowering.{lowered, report}
-use Rattle.lh_lowered.specs.Report.{report_text}
-use Rattle.lh_outcome.specs.Account.{Use, use_of, Puts, OfSource}
-use Rattle.lh_outcome.specs.Called.{Calls}
+use Rattle.lh_args.specs.Forms.{FileRequest, lower, WordsAskForSelfTest}
+use Rattle.lh_args.proofs.Forms.{one_form, no_file}
+use Rattle.lh_lower_def.specs.Lowering.{lowered, report}
+use Rattle.lh_lower_def.specs.Report.{report_text}
+use Rattle.lh_result.specs.Account.{Use, use_of, Puts, OfSource}
+use Rattle.lh_result.specs.Called.{Calls}
 use Rattle.lh_run.specs.Faithful.{IsSameDesign, LowersFaithfully, KeepsTrace, LowersFile}
-use Rattle.lh_outcome.specs.Steps.{IsLoaded, Loads}
-use Rattle.lh_outcome.specs.StatusLines.{status_line}
-use Rattle.lh_outcome.specs.declared.status.Status.{Status}
-use Rattle.lh_outcome.specs.declared.status.Status.TheVariants.{Usage, Done}
-use Rattle.lh_outcome.proofs.Accounts.{OfSource-weaker}
-use Rattle.lh_outcome.proofs.Writes.{Appends_more}
+use Rattle.lh_result.specs.Steps.{IsLoaded, Loads}
+use Rattle.lh_result.specs.StatusLines.{status_line}
+use Rattle.lh_result.specs.declared.status.Status.{Status}
+use Rattle.lh_result.specs.declared.status.Status.TheVariants.{Usage, Done}
+use Rattle.lh_result.proofs.Accounts.{OfSource-weaker}
+use Rattle.lh_result.proofs.Writes.{Appends_more}
 
 same-design : (bytes : List ℕ) (file : List ItemText) → Reads bytes file → KeepsTrace file → IsSameDesign bytes (canon (lowered file)) (report_text (report file))
 same-design bytes file reads k = record {

@@ -5,13 +5,13 @@ use Rattle.lh_unit.specs.Contents.{ItemText}
 use Rattle.lh_unit.specs.Reads.{Reads}
 use Rattle.lh_unit.specs.Trace.{SameTrace}
 use Rattle.lh_unit.specs.WellFormed.{IsWellFormed}
-use Rattle.lh_words.specs.Forms.{FileRequest, lower}
-use Rattle.lh_lowered.specs.Kept.{Kept}
-use Rattle.lh_lowered.specs.Lowering.{lowered, report}
-use Rattle.lh_lowered.specs.Report.{RowText, report_text}
-use Rattle.lh_outcome.specs.Account.{Use, Gained}
-use Rattle.lh_outcome.specs.declared.status.Status.{Status}
-use Rattle.lh_outcome.specs.declared.status.Status.TheVariants.{Done}
+use Rattle.lh_args.specs.Forms.{FileRequest, lower}
+use Rattle.lh_lower_def.specs.Kept.{Kept}
+use Rattle.lh_lower_def.specs.Lowering.{lowered, report}
+use Rattle.lh_lower_def.specs.Report.{RowText, report_text}
+use Rattle.lh_result.specs.Account.{Use, Gained}
+use Rattle.lh_result.specs.declared.status.Status.{Status}
+use Rattle.lh_result.specs.declared.status.Status.TheVariants.{Done}
 
 -- The bytes `after` are the same design as the bytes `before`, and these lines tell what became of its processes. Both read as well-formed
 -- files; in the second an entity stands for each process that has a shape, in its place, and everything else is as it was; and for every

@@ -1,20 +1,20 @@
 //! The commands on a well-formed file.
 ghost use Rattle.std.specs.Prelude.{◌≤◌, map};
 ghost use Rattle.lh_unit.specs.Arena.{contents};
-ghost use Rattle.lh_words.specs.Meant.{meant};
-ghost use Rattle.lh_outcome.specs.Called.{HasFrames};
-ghost use Rattle.lh_outcome.specs.Account.{use_of};
-ghost use Rattle.lh_outcome.specs.Steps.{Carries};
+ghost use Rattle.lh_args.specs.Meant.{meant};
+ghost use Rattle.lh_result.specs.Called.{HasFrames};
+ghost use Rattle.lh_result.specs.Account.{use_of};
+ghost use Rattle.lh_result.specs.Steps.{Carries};
 ghost use Rattle.lh_run.specs.Faithful.{LowersFile};
 
 use crate::lowering::lower_file;
+use lh_args::command::FileCommand;
 use lh_io::stream::Sink;
-use lh_outcome::check::check;
-use lh_outcome::simulate::{simulate, status_of};
-use lh_outcome::status::Status;
+use lh_result::check::check;
+use lh_result::simulate::{simulate, status_of};
+use lh_result::status::Status;
 use lh_verify::verify::Verified;
 use lh_watch::watcher::Watcher;
-use lh_words::command::FileCommand;
 use std::alloc::Global;
 
 /// Carries out a command on a well-formed file; all of a run but the reading and the status line.

@@ -6,4 +6,4 @@ mod lowering;
 mod selftest;
 pub mod top;
 
-pub use lh_outcome::status;
+pub use lh_result::status;

@@ -1,18 +1,18 @@
 //! The command `lower`.
 ghost use Rattle.std.specs.Prelude.{◌≡◌, ◌≤◌, IfOk};
 ghost use Rattle.lh_unit.specs.Arena.{contents};
-ghost use Rattle.lh_outcome.specs.Account.{use_of};
-ghost use Rattle.lh_outcome.specs.Steps.{ended};
-ghost use Rattle.lh_outcome.specs.Written.{WritesLowered, IsTexts};
-ghost use Rattle.lh_outcome.specs.declared.status.Status.TheVariants.{Done};
+ghost use Rattle.lh_result.specs.Account.{use_of};
+ghost use Rattle.lh_result.specs.Steps.{ended};
+ghost use Rattle.lh_result.specs.Written.{WritesLowered, IsTexts};
+ghost use Rattle.lh_result.specs.declared.status.Status.TheVariants.{Done};
 ghost use Rattle.lh_run.specs.Faithful.{KeepsTrace};
 
 use lh_io::stream::Sink;
 use lh_lower::{lower, text_of};
-use lh_lowered::laws::lowering_law;
-use lh_outcome::status::Status;
-use lh_outcome::texts::{Texts, write_texts};
+use lh_lower_def::laws::lowering_law;
 use lh_print::print;
+use lh_result::status::Status;
+use lh_result::texts::{Texts, write_texts};
 use lh_types::ty::NoMemory;
 use lh_verify::verify::Verified;
 use std::alloc::Global;

@@ -1,17 +1,17 @@
 //! The command `selftest`.
 ghost use Rattle.std.specs.Prelude.{◌≤◌, IfOk};
 ghost use Rattle.lh_unit.specs.Arena.{contents};
-ghost use Rattle.lh_lowered.specs.Lowering.{lowered as lowered_to};
-ghost use Rattle.lh_generator.specs.Summary.{IsSummaryOf};
-ghost use Rattle.lh_words.specs.Forms.{max_links};
+ghost use Rattle.lh_lower_def.specs.Lowering.{lowered as lowered_to};
+ghost use Rattle.lh_selftest_design.specs.Summary.{IsSummaryOf};
+ghost use Rattle.lh_args.specs.Forms.{max_links};
 ghost use Rattle.lh_selftest.specs.SelfTest.{HasDesign, IsSelfTest, units_of};
-ghost use Rattle.lh_outcome.specs.Account.{use_of};
-ghost use Rattle.lh_outcome.specs.Steps.{WritesSelfTest, ended};
+ghost use Rattle.lh_result.specs.Account.{use_of};
+ghost use Rattle.lh_result.specs.Steps.{WritesSelfTest, ended};
 
 use lh_io::stream::Sink;
 use lh_io::whole::write_all;
 use lh_lower::lower;
-use lh_outcome::status::Status;
+use lh_result::status::Status;
 use lh_selftest::chain::chain;
 use lh_selftest::{answer_law, compared};
 use lh_types::ty::NoMemory;

@@ -2,20 +2,20 @@
 ghost use Rattle.std.specs.Prelude.{◌≡◌, ◌≤◌, ◌↔◌, ℕ, List, IfSome, map};
 ghost use Rattle.lh_io.specs.Streams.{Rose};
 ghost use Rattle.lh_io.specs.Whole.{TakesBytes};
-ghost use Rattle.lh_outcome.specs.Called.{AskSelfTest, IsMisuse};
+ghost use Rattle.lh_result.specs.Called.{AskSelfTest, IsMisuse};
 ghost use Rattle.lh_run.specs.Faithful.{LowersFaithfully};
-ghost use Rattle.lh_outcome.specs.Account.{use_of, OfSource, IsCountFor, IsReadToEndFor, Performs, Account, HasOneResult, IsResultOrNoMemory};
+ghost use Rattle.lh_result.specs.Account.{use_of, OfSource, IsCountFor, IsReadToEndFor, Performs, Account, HasOneResult, IsResultOrNoMemory};
 
 use crate::command::carry_out;
 use crate::selftest::test_itself;
-use lh_chain::laws::reading_law;
+use lh_args::command::Command;
 use lh_io::stream::{Sink, Source};
-use lh_outcome::called::called;
-use lh_outcome::load::load;
-use lh_outcome::status::Status;
+use lh_result::called::called;
+use lh_result::load::load;
+use lh_result::status::Status;
+use lh_selftest_laws::laws::reading_law;
 use lh_types::list::TextList;
 use lh_watch::watcher::Watcher;
-use lh_words::command::Command;
 use std::alloc::Global;
 
 // Does what the words ask for; all of a run but its status line.

@@ -12,10 +12,10 @@ use Rattle.lh_kernel.specs.Simulation.{Simulation, StandsFor}
 use Rattle.lh_read.specs.Reading.{ModuleOrNoMemory}
 use Rattle.lh_read.specs.declared.TextFault.{TextFault}
 use Rattle.lh_read.specs.declared.TextFault.TheVariants.{Syntax, UnitTooLarge, DuplicateName, OutOfMemory}
-use Rattle.lh_lowered.specs.Lowering.{lowered}
-use Rattle.lh_generator.specs.Summary.{chain_name, max_frames, WentSo, IsSummaryOf, summary}
-use Rattle.lh_generator.specs.declared.summary.RunSummary.{RunSummary}
-use Rattle.lh_generator.specs.declared.summary.Units.{Units}
+use Rattle.lh_lower_def.specs.Lowering.{lowered}
+use Rattle.lh_selftest_design.specs.Summary.{chain_name, max_frames, WentSo, IsSummaryOf, summary}
+use Rattle.lh_selftest_design.specs.declared.summary.RunSummary.{RunSummary}
+use Rattle.lh_selftest_design.specs.declared.summary.Units.{Units}
 use Rattle.lh_selftest.specs.SelfTest.{HasDesign, IsChain, IsTextOf, IsSelfTest, units_of}
 use Rattle.lh_selftest.specs.Courses.{course_on}
 

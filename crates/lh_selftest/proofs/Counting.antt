@@ -4,10 +4,10 @@ use Rattle.std.proofs.lemmas.List.Sums.{sum_by-cons}
 use Rattle.lh_unit.specs.Arena.{Arena, item_text_at, contents}
 use Rattle.lh_unit.specs.declared.inst.Item.{Item}
 use Rattle.lh_unit.specs.declared.inst.Item.TheVariants as item
-use Rattle.lh_lowered.specs.Lowering.{report}
-use Rattle.lh_lowered.specs.Report.{RowText, row_text}
-use Rattle.lh_lowered.specs.declared.report.ReportRow.{ReportRow}
-use Rattle.lh_lowered.specs.declared.report.Verdict.{Verdict}
+use Rattle.lh_lower_def.specs.Lowering.{report}
+use Rattle.lh_lower_def.specs.Report.{RowText, row_text}
+use Rattle.lh_lower_def.specs.declared.report.ReportRow.{ReportRow}
+use Rattle.lh_lower_def.specs.declared.report.Verdict.{Verdict}
 use Rattle.lh_selftest.specs.SelfTest.{is_unit, is_lowered, units_of}
 use Rattle.lh_selftest.specs.Counted.{is_unit_item}
 

@@ -16,12 +16,12 @@ use Rattle.lh_kernel.specs.Simulation.{Simulation, StandsFor}
 use Rattle.lh_kernel.specs.declared.sim.SimStep.{SimStep}
 use Rattle.lh_kernel.specs.declared.sim.SimStep.TheVariants as sim_step
 use Rattle.lh_kernel.specs.Stepped.{Stepped, IsNextFrame, world_then}
-use Rattle.lh_meaning.proofs.TraceLaw.{bits_stay_law}
-use Rattle.lh_generator.specs.Summary.{counts_of, ending_of}
-use Rattle.lh_generator.specs.declared.summary.Counts.{Counts}
-use Rattle.lh_generator.specs.declared.summary.RunSummary.{RunSummary}
-use Rattle.lh_generator.specs.declared.summary.Ending.{Ending}
-use Rattle.lh_generator.specs.declared.summary.Ending.TheVariants.{Quiet, Runaway}
+use Rattle.lh_trace_laws.proofs.TraceLaw.{bits_stay_law}
+use Rattle.lh_selftest_design.specs.Summary.{counts_of, ending_of}
+use Rattle.lh_selftest_design.specs.declared.summary.Counts.{Counts}
+use Rattle.lh_selftest_design.specs.declared.summary.RunSummary.{RunSummary}
+use Rattle.lh_selftest_design.specs.declared.summary.Ending.{Ending}
+use Rattle.lh_selftest_design.specs.declared.summary.Ending.TheVariants.{Quiet, Runaway}
 use Rattle.lh_selftest.specs.Courses.{course_behind, course_on, GoesOn, ComesTo}
 
 -- a run of which some frames were counted, and which has ended

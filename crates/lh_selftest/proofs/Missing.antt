@@ -7,8 +7,8 @@ use Rattle.lh_unit.specs.Builders.{Locates}
 use Rattle.lh_unit.specs.Contents.{UnitText}
 use Rattle.lh_unit.specs.Design.{elab_named, elab, refused, top_missing}
 use Rattle.lh_unit.specs.Hierarchy.{hierarchies, hierarchy_of, hierarchy_named}
-use Rattle.lh_names.specs.UnitNames.{same_unit_name}
-use Rattle.lh_names.specs.declared.name.UnitName.{UnitName}
+use Rattle.lh_unit_names.specs.UnitNames.{same_unit_name}
+use Rattle.lh_unit_names.specs.declared.name.UnitName.{UnitName}
 use Rattle.lh_unit.specs.declared.inst.UnitId.{UnitId}
 use Rattle.lh_unit.specs.declared.inst.UnitKind.{UnitKind}
 use Rattle.lh_unit.specs.declared.inst.Item.{Item}

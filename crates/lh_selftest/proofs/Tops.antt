@@ -3,7 +3,7 @@ use Rattle.std.proofs.Common.{◌≡◌, ℕ, ◌<◌, refl, ap, sym, ◌∙◌,
 use Rattle.lh_unit.specs.Arena.{Arena, IsArena, unit_count, unit_name_at, kind_at, contents}
 use Rattle.lh_unit.specs.Builders.{Locates}
 use Rattle.lh_unit.specs.Design.{Design, elab, Elaborated, refused, built, Refusal, top_missing}
-use Rattle.lh_names.specs.declared.name.UnitName.{UnitName}
+use Rattle.lh_unit_names.specs.declared.name.UnitName.{UnitName}
 use Rattle.lh_unit.specs.declared.inst.UnitKind.{UnitKind}
 use Rattle.lh_design.specs.declared.Design.{Design as ByIds}
 use Rattle.lh_design.specs.Texts.{design_text}
@@ -11,7 +11,7 @@ use Rattle.lh_elab.specs.Elaborates.{RefusedFor}
 use Rattle.lh_elab.specs.Refusals.{refusal_text}
 use Rattle.lh_elab.specs.declared.fault.ElabFault.{ElabFault}
 use Rattle.lh_elab.specs.declared.fault.ElabFault.TheVariants.{TopIsFunction, InstCycle, TooDeep, TooManyInstances, TooManyBits, OutOfMemory}
-use Rattle.lh_generator.specs.Summary.{chain_name}
+use Rattle.lh_selftest_design.specs.Summary.{chain_name}
 use Rattle.lh_selftest.specs.SelfTest.{HasDesign}
 use Rattle.lh_selftest.proofs.Missing.{elab-not_there, elab-not_defined}
 

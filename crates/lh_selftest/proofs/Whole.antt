@@ -2,9 +2,9 @@
 use Rattle.std.proofs.Common.{◌≡◌, ℕ, List, ap, ◌∙◌}
 use Rattle.lh_unit.specs.Contents.{ItemText}
 use Rattle.lh_unit.specs.Trace.{Trace, refuses, ran, trace}
-use Rattle.lh_lowered.specs.Lowering.{lowered}
-use Rattle.lh_generator.specs.Summary.{chain_name, max_frames, WentSo, IsSummaryOf, summary}
-use Rattle.lh_generator.specs.declared.summary.RunSummary.{RunSummary}
+use Rattle.lh_lower_def.specs.Lowering.{lowered}
+use Rattle.lh_selftest_design.specs.Summary.{chain_name, max_frames, WentSo, IsSummaryOf, summary}
+use Rattle.lh_selftest_design.specs.declared.summary.RunSummary.{RunSummary}
 use Rattle.lh_selftest.specs.SelfTest.{IsSelfTest, units_of}
 use Rattle.lh_selftest.specs.Answer.{course_in, answer_of, AnswerIsOfFile}
 

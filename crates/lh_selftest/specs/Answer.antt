@@ -3,11 +3,11 @@ use Rattle.std.specs.Prelude.{◌≡◌, ℕ, List, []}
 use Rattle.lh_unit.specs.Contents.{ItemText}
 use Rattle.lh_unit.specs.Reads.{Reads}
 use Rattle.lh_unit.specs.Trace.{Trace, refuses, ran, trace}
-use Rattle.lh_lowered.specs.Lowering.{lowered}
-use Rattle.lh_generator.specs.Generated.{generated}
-use Rattle.lh_generator.specs.Summary.{chain_name, max_frames, counts_of, course_of, summary}
-use Rattle.lh_generator.specs.declared.summary.RunSummary.{RunSummary}
-use Rattle.lh_generator.specs.declared.summary.Ending.TheVariants.{Quiet}
+use Rattle.lh_lower_def.specs.Lowering.{lowered}
+use Rattle.lh_selftest_design.specs.Generated.{generated}
+use Rattle.lh_selftest_design.specs.Summary.{chain_name, max_frames, counts_of, course_of, summary}
+use Rattle.lh_selftest_design.specs.declared.summary.RunSummary.{RunSummary}
+use Rattle.lh_selftest_design.specs.declared.summary.Ending.TheVariants.{Quiet}
 use Rattle.lh_selftest.specs.SelfTest.{IsSelfTest, units_of}
 
 -- how the run of a trace goes; a top that is refused, which no chain is, would have no frames

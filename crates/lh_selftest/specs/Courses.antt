@@ -9,10 +9,10 @@ use Rattle.lh_unit.specs.Frames.{pictures, values_before}
 use Rattle.lh_design.specs.declared.Design.{Design}
 use Rattle.lh_design.specs.Texts.{design_text}
 use Rattle.lh_kernel.specs.Simulation.{Simulation, StandsFor}
-use Rattle.lh_generator.specs.Summary.{counts_of, ending_of}
-use Rattle.lh_generator.specs.declared.summary.Counts.{Counts}
-use Rattle.lh_generator.specs.declared.summary.RunSummary.{RunSummary}
-use Rattle.lh_generator.specs.declared.summary.Ending.{Ending}
+use Rattle.lh_selftest_design.specs.Summary.{counts_of, ending_of}
+use Rattle.lh_selftest_design.specs.declared.summary.Counts.{Counts}
+use Rattle.lh_selftest_design.specs.declared.summary.RunSummary.{RunSummary}
+use Rattle.lh_selftest_design.specs.declared.summary.Ending.{Ending}
 
 -- how frames that were seen and then a run go, where the last frame that was seen has these values
 abbrev pub course_behind : (seen : List Picture) → (before : Option (List Datum)) → Run → RunSummary

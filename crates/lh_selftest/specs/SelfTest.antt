@@ -4,13 +4,13 @@ use Rattle.lh_unit.specs.Contents.{ItemText, unit_text, declare_text}
 use Rattle.lh_unit.specs.Design.{Design, elab, built}
 use Rattle.lh_unit.specs.Reads.{Reads}
 use Rattle.lh_unit.specs.WellFormed.{IsFaultless}
-use Rattle.lh_lowered.specs.declared.report.Verdict.{Verdict}
-use Rattle.lh_lowered.specs.declared.report.Verdict.TheVariants as verdict
-use Rattle.lh_lowered.specs.Lowering.{lowered, report}
-use Rattle.lh_lowered.specs.Report.{RowText}
-use Rattle.lh_generator.specs.Generated.{generated}
-use Rattle.lh_generator.specs.Summary.{chain_name, IsSummaryOf}
-use Rattle.lh_generator.specs.declared.summary.Units.{Units}
+use Rattle.lh_lower_def.specs.declared.report.Verdict.{Verdict}
+use Rattle.lh_lower_def.specs.declared.report.Verdict.TheVariants as verdict
+use Rattle.lh_lower_def.specs.Lowering.{lowered, report}
+use Rattle.lh_lower_def.specs.Report.{RowText}
+use Rattle.lh_selftest_design.specs.Generated.{generated}
+use Rattle.lh_selftest_design.specs.Summary.{chain_name, IsSummaryOf}
+use Rattle.lh_selftest_design.specs.declared.summary.Units.{Units}
 
 -- the item defines a unit
 abbrev pub is_unit : ItemText → Bool

@@ -5,9 +5,9 @@ ghost use Rattle.lh_unit.specs.WellFormed.{IsFaultless, IsSpelled};
 ghost use Rattle.lh_verify.specs.Verifying.{HasCause};
 ghost use Rattle.lh_selftest.specs.SelfTest.{CanRun, IsChain, IsTextOf, RunsAs};
 
-use lh_chain::laws::{elaborates_law, reading_law, well_formed_law};
-use lh_generator::generator::generated;
 use lh_read::{TextFault, read};
+use lh_selftest_design::generator::generated;
+use lh_selftest_laws::laws::{elaborates_law, reading_law, well_formed_law};
 use lh_types::ty::NoMemory;
 use lh_unit::module::Module;
 use lh_verify::verify::{Verified, VerifyCause, VerifyFault, verify};

@@ -5,14 +5,14 @@ ghost use Rattle.lh_unit.specs.Arena.{contents};
 ghost use Rattle.lh_unit.specs.Trace.{at_bound, trace};
 ghost use Rattle.lh_unit.specs.World.{World, next_instant};
 ghost use Rattle.lh_kernel.specs.Simulation.{StandsFor};
-ghost use Rattle.lh_generator.specs.Summary.{WentSo, chain_name, counts_of, ending_of};
+ghost use Rattle.lh_selftest_design.specs.Summary.{WentSo, chain_name, counts_of, ending_of};
 ghost use Rattle.lh_selftest.specs.SelfTest.{HasDesign};
 ghost use Rattle.lh_selftest.specs.Courses.{ComesTo, course_on};
 
 use crate::design::design_of;
-use lh_generator::summary::{Counts, Ending, RunSummary};
 use lh_io::count::Count;
 use lh_kernel::{Sim, SimStep};
+use lh_selftest_design::summary::{Counts, Ending, RunSummary};
 use lh_types::tally::Tally;
 use lh_types::ty::NoMemory;
 use lh_verify::verify::Verified;

@@ -4,7 +4,7 @@ ghost use Rattle.lh_unit.specs.Arena.{contents, unit_count, unit_name_at, kind_a
 ghost use Rattle.lh_unit.specs.Design.{elab, built};
 ghost use Rattle.lh_design.specs.Texts.{design_text};
 ghost use Rattle.lh_elab.specs.Answer.{IsDesignOf};
-ghost use Rattle.lh_generator.specs.Summary.{chain_name};
+ghost use Rattle.lh_selftest_design.specs.Summary.{chain_name};
 ghost use Rattle.lh_selftest.specs.SelfTest.{HasDesign};
 
 use lh_design::Design;

@@ -5,9 +5,9 @@
 ghost use Rattle.std.specs.Prelude.{◌≡◌, map, IfOk};
 ghost use Rattle.lh_unit.specs.Arena.{contents};
 ghost use Rattle.lh_unit.specs.Trace.{SameTrace};
-ghost use Rattle.lh_lowered.specs.Lowering.{lowered as lowered_to, report};
-ghost use Rattle.lh_lowered.specs.Report.{row_text};
-ghost use Rattle.lh_generator.specs.Summary.{IsSummaryOf};
+ghost use Rattle.lh_lower_def.specs.Lowering.{lowered as lowered_to, report};
+ghost use Rattle.lh_lower_def.specs.Report.{row_text};
+ghost use Rattle.lh_selftest_design.specs.Summary.{IsSummaryOf};
 ghost use Rattle.lh_selftest.specs.SelfTest.{HasDesign, units_of};
 ghost use Rattle.lh_selftest.specs.Answer.{AnswerIsOfFile};
 
@@ -18,8 +18,8 @@ mod units;
 
 use crate::course::course_of;
 use crate::units::count_units;
-use lh_generator::summary::put_summary;
-use lh_lowered::ReportRow;
+use lh_lower_def::ReportRow;
+use lh_selftest_design::summary::put_summary;
 use lh_types::ty::NoMemory;
 use lh_verify::verify::Verified;
 use std::alloc::Global;

@@ -1,14 +1,14 @@
 //! How many units a file has, and what became of its processes.
 ghost use Rattle.std.specs.Prelude.{◌≡◌, map, count_by, not};
 ghost use Rattle.lh_unit.specs.Arena.{contents};
-ghost use Rattle.lh_lowered.specs.Lowering.{report};
-ghost use Rattle.lh_lowered.specs.Report.{row_text};
-ghost use Rattle.lh_lowered.specs.declared.report.ReportRow.{ReportRow as Row};
+ghost use Rattle.lh_lower_def.specs.Lowering.{report};
+ghost use Rattle.lh_lower_def.specs.Report.{row_text};
+ghost use Rattle.lh_lower_def.specs.declared.report.ReportRow.{ReportRow as Row};
 ghost use Rattle.lh_selftest.specs.Counted.{is_unit_item};
 ghost use Rattle.lh_selftest.specs.SelfTest.{is_lowered as became_entity, units_of};
 
-use lh_generator::summary::Units;
-use lh_lowered::{ReportRow, Verdict};
+use lh_lower_def::{ReportRow, Verdict};
+use lh_selftest_design::summary::Units;
 use lh_unit::inst::Item;
 use lh_unit::module::Module;
 

@@ -11,14 +11,14 @@ use Rattle.lh_term.specs.declared.part.Part.{Part}
 use Rattle.lh_term.specs.declared.term.Node.{Node}
 use Rattle.lh_term.specs.declared.term.TermId.{TermId}
 use Rattle.lh_edge.specs.Atoms.{contains_past}
-use Rattle.lh_rows.specs.Rows as text
-use Rattle.lh_rows.specs.Regions as texts
-use Rattle.lh_rows.specs.Regions.{waited_parts}
-use Rattle.lh_rows.specs.Typed.{IsOfType}
-use Rattle.lh_rows.specs.Right.{DriveTyped}
-use Rattle.lh_joins.proofs.Conditions.{stands-condition}
+use Rattle.lh_region_def.specs.Rows as text
+use Rattle.lh_region_def.specs.Regions as texts
+use Rattle.lh_region_def.specs.Regions.{waited_parts}
+use Rattle.lh_region_def.specs.Typed.{IsOfType}
+use Rattle.lh_region_def.specs.Right.{DriveTyped}
+use Rattle.lh_region_joins.proofs.Conditions.{stands-condition}
 use Rattle.lh_region.specs.Stands.{IsDrive, AreDrives, way_text, AreEnds, AreRows, MaybeRows, AreRegions}
-use Rattle.lh_joins.specs.Joins.{AreTerms}
+use Rattle.lh_region_joins.specs.Joins.{AreTerms}
 use Rattle.lh_region.specs.declared.rows.DriveRow.{DriveRow}
 use Rattle.lh_region.specs.declared.rows.EndRow.{EndRow}
 use Rattle.lh_region.specs.declared.rows.Rows.{Rows}

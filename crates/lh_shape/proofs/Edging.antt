@@ -16,9 +16,9 @@ use Rattle.lh_edge.specs.declared.triggers.EdgeFault.{EdgeFault}
 use Rattle.lh_edge.specs.declared.triggers.EdgeFault.TheVariants.{TooManyAtoms, NoEdge, OutOfMemory}
 use Rattle.lh_edge.specs.declared.triggers.EdgeRow.{EdgeRow}
 use Rattle.lh_edge.specs.declared.triggers.Trigger.{Trigger}
-use Rattle.lh_rows.specs.Rows as text
-use Rattle.lh_rows.specs.Regions as texts
-use Rattle.lh_joins.proofs.Conditions.{grows-none}
+use Rattle.lh_region_def.specs.Rows as text
+use Rattle.lh_region_def.specs.Regions as texts
+use Rattle.lh_region_joins.proofs.Conditions.{grows-none}
 use Rattle.lh_region.specs.Stands.{IsDrive, AreDrives, AreRegions}
 use Rattle.lh_region.specs.declared.rows.DriveRow.{DriveRow}
 use Rattle.lh_region.specs.declared.rows.Regions.{Regions}

@@ -16,15 +16,15 @@ use Rattle.lh_term.specs.declared.part.Part.{Part}
 use Rattle.lh_term.specs.declared.term.Node.{Node}
 use Rattle.lh_term.specs.declared.term.TermId.{TermId}
 use Rattle.lh_term.proofs.Swaps.{tree_grown, in_grown, stands_grown, grows_on}
-use Rattle.lh_rows.specs.Rows as text
-use Rattle.lh_rows.specs.Typed.{IsOfType}
-use Rattle.lh_rows.specs.Joins.{in_each}
-use Rattle.lh_rows.specs.Adjacent.{beyond, drive_merged}
+use Rattle.lh_region_def.specs.Rows as text
+use Rattle.lh_region_def.specs.Typed.{IsOfType}
+use Rattle.lh_region_def.specs.Joins.{in_each}
+use Rattle.lh_region_def.specs.Adjacent.{beyond, drive_merged}
 use Rattle.lh_term.proofs.Conditions.{AllBits, conjuncts_are_bits, filter-bits}
-use Rattle.lh_rows.proofs.Merging.{or-condition, made-choice, beyond-condition}
-use Rattle.lh_joins.specs.Joins.{IsConditionAt, edge_on}
-use Rattle.lh_joins.proofs.Conditions.{condition-grown, stands-condition, grows-none}
-use Rattle.lh_joins.proofs.Selecting.{bits-conditions}
+use Rattle.lh_region_def.proofs.Merging.{or-condition, made-choice, beyond-condition}
+use Rattle.lh_region_joins.specs.Joins.{IsConditionAt, edge_on}
+use Rattle.lh_region_joins.proofs.Conditions.{condition-grown, stands-condition, grows-none}
+use Rattle.lh_region_joins.proofs.Selecting.{bits-conditions}
 use Rattle.lh_region.specs.Stands.{IsDrive, AreDrives}
 use Rattle.lh_region.specs.declared.rows.DriveRow.{DriveRow}
 use Rattle.lh_region.proofs.Rowing.{drives-grown, drives-push}

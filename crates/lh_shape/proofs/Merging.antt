@@ -9,14 +9,14 @@ use Rattle.lh_unit.specs.Within.{Each}
 use Rattle.lh_term.specs.Mean.{Valuation, IsFitting}
 use Rattle.lh_term.specs.Same.{same_part, same_part-is}
 use Rattle.lh_term.specs.SameTree.{same_tree, same_tree-is}
-use Rattle.lh_rows.specs.Rows.{Drive}
-use Rattle.lh_rows.specs.Means.{with_row, with_rows}
-use Rattle.lh_rows.specs.Right.{DriveTyped}
-use Rattle.lh_rows.specs.Adjacent.{drive_merged}
-use Rattle.lh_rows.proofs.Adjacent.{adjacent-drives-merge, merged-drives-typed}
+use Rattle.lh_region_def.specs.Rows.{Drive}
+use Rattle.lh_region_def.specs.Means.{with_row, with_rows}
+use Rattle.lh_region_def.specs.Right.{DriveTyped}
+use Rattle.lh_region_def.specs.Adjacent.{drive_merged}
+use Rattle.lh_region_def.proofs.Adjacent.{adjacent-drives-merge, merged-drives-typed}
 use Rattle.lh_shape.specs.Merging.{are_alike, merged_from}
 use Rattle.lh_shape.specs.Laws.{MergedDrivesWish, MergedDrivesAreTyped, MergedDrivesRead, MergedDrivesDrive}
-use Rattle.lh_rows.specs.Typed.{Among}
+use Rattle.lh_region_def.specs.Typed.{Among}
 use Rattle.lh_shape.proofs.Reading.{merged-read, merged-drive}
 
 pub part-alike : (a b : Drive) → are_alike a b ≡ true → b.part ≡ a.part

@@ -5,7 +5,7 @@ use Rattle.lh_types.specs.Values.{time_value}
 use Rattle.lh_types.specs.Apply.{apply}
 use Rattle.lh_types.specs.ApplyInt.{integer_row, row_width}
 use Rattle.lh_types.specs.declared.op.Op.TheVariants.{Not, And, Or, Neq}
-use Rattle.lh_names.specs.declared.name.UnitName.{UnitName}
+use Rattle.lh_unit_names.specs.declared.name.UnitName.{UnitName}
 use Rattle.lh_term.specs.Tree.{Tree, constant, past_of, now_of}
 use Rattle.lh_term.specs.Make.{bit_of, make_operation}
 use Rattle.lh_term.specs.declared.part.Part.{Part}
@@ -13,9 +13,9 @@ use Rattle.lh_edge.specs.Atoms.{edge_part, atoms_of}
 use Rattle.lh_edge.specs.Shown.{has_too_many_atoms, is_edge_shown}
 use Rattle.lh_edge.specs.Triggers.{gate_of, triggers_of}
 use Rattle.lh_flat.specs.Flat.{refused, recursive_call, call_too_deep, flat_too_large}
-use Rattle.lh_rows.specs.Known.{nothing_known}
-use Rattle.lh_rows.specs.Rows.{Drive, Way, halts, enters_head, waits, RegionEnd, Rows}
-use Rattle.lh_rows.specs.Regions.{Regions, no_regions, head_phi, too_many_turns, region_too_large}
+use Rattle.lh_region_def.specs.Known.{nothing_known}
+use Rattle.lh_region_def.specs.Rows.{Drive, Way, halts, enters_head, waits, RegionEnd, Rows}
+use Rattle.lh_region_def.specs.Regions.{Regions, no_regions, head_phi, too_many_turns, region_too_large}
 use Rattle.lh_shape.specs.declared.reason.Reason.TheVariants as reason
 use Rattle.lh_shape.specs.Shapes.{comb, edge, once, left, shape_by_rows, shape_by_regions, shape_by_text}
 

@@ -10,7 +10,7 @@ use Rattle.lh_edge.specs.declared.triggers.EdgeFault.{EdgeFault}
 use Rattle.lh_edge.specs.declared.triggers.EdgeFault.TheVariants.{TooManyAtoms, NoEdge}
 use Rattle.lh_edge.specs.declared.triggers.EdgeRow.{EdgeRow}
 use Rattle.lh_edge.specs.declared.triggers.Trigger.{Trigger}
-use Rattle.lh_rows.specs.Rows.{Drive}
+use Rattle.lh_region_def.specs.Rows.{Drive}
 use Rattle.lh_region.specs.Stands.{AreDrives}
 use Rattle.lh_region.specs.declared.rows.DriveRow.{DriveRow}
 use Rattle.lh_shape.specs.ByIds.{drives_at}

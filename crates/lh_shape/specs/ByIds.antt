@@ -6,10 +6,10 @@ use Rattle.lh_term.specs.Make.{is_constant}
 use Rattle.lh_term.specs.Arena.{trees, tree_at}
 use Rattle.lh_term.specs.declared.part.Part.{Part}
 use Rattle.lh_term.specs.declared.term.Node.{Node}
-use Rattle.lh_cover.specs.Bits.{covers}
+use Rattle.lh_term_cover.specs.Bits.{covers}
 use Rattle.lh_edge.specs.Atoms.{contains_past}
-use Rattle.lh_rows.specs.Rows as text
-use Rattle.lh_rows.specs.Regions.{waited_parts}
+use Rattle.lh_region_def.specs.Rows as text
+use Rattle.lh_region_def.specs.Regions.{waited_parts}
 use Rattle.lh_region.specs.Stands.{way_text}
 pub use Rattle.lh_region.specs.Stands.{DriveFits, DrivesFit, later_drives, RegionsFit}
 use Rattle.lh_region.specs.declared.rows.DriveRow.{DriveRow}

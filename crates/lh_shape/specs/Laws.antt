@@ -6,9 +6,9 @@ use Rattle.lh_types.specs.declared.part.Range.{Range}
 use Rattle.lh_unit.specs.Within.{Each}
 use Rattle.lh_term.specs.Mean.{Valuation, IsFitting}
 use Rattle.lh_term.specs.declared.part.Part.{Part}
-use Rattle.lh_rows.specs.Rows.{Drive}
-use Rattle.lh_rows.specs.Means.{with_rows}
-use Rattle.lh_rows.specs.Right.{DriveTyped}
+use Rattle.lh_region_def.specs.Rows.{Drive}
+use Rattle.lh_region_def.specs.Means.{with_rows}
+use Rattle.lh_region_def.specs.Right.{DriveTyped}
 use Rattle.lh_shape.specs.Merging.{merged_drives}
 use Rattle.lh_shape.specs.Reading.{ReadAmong, DriveAmong}
 

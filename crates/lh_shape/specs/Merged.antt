@@ -1,7 +1,7 @@
 -- What the calls that merge drives compute on the way.
 use Rattle.std.specs.Prelude.{◌≡◌, List, [], ◌∷◌, ◌++◌, Bool, true, false}
 use Rattle.lh_term.specs.declared.term.Node.{Node}
-use Rattle.lh_rows.specs.Adjacent.{drive_merged}
+use Rattle.lh_region_def.specs.Adjacent.{drive_merged}
 use Rattle.lh_region.specs.Stands.{IsDrive}
 use Rattle.lh_region.specs.declared.rows.DriveRow.{DriveRow}
 use Rattle.lh_shape.specs.Merging.{are_alike}

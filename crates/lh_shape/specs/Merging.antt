@@ -2,8 +2,8 @@
 use Rattle.std.specs.Prelude.{List, [], ◌∷◌, Bool, ◌&&◌, if◌then◌else◌}
 use Rattle.lh_term.specs.Same.{same_part}
 use Rattle.lh_term.specs.SameTree.{same_tree}
-use Rattle.lh_rows.specs.Rows.{Drive}
-use Rattle.lh_rows.specs.Adjacent.{drive_merged}
+use Rattle.lh_region_def.specs.Rows.{Drive}
+use Rattle.lh_region_def.specs.Adjacent.{drive_merged}
 
 -- both drive one part after one delay
 abbrev pub are_alike : Drive → Drive → Bool

@@ -3,8 +3,8 @@ use Rattle.std.specs.Prelude.{List}
 use Rattle.lh_unit.specs.Within.{Each}
 use Rattle.lh_term.specs.Leaves.{AllParts}
 use Rattle.lh_term.specs.declared.part.Part.{Part}
-use Rattle.lh_rows.specs.Rows.{Drive}
-use Rattle.lh_rows.specs.Typed.{Among}
+use Rattle.lh_region_def.specs.Rows.{Drive}
+use Rattle.lh_region_def.specs.Typed.{Among}
 
 -- each part that a drive reads has this
 pub record DriveReads (P : Part → Type 0) (d : Drive) : Type 0 where

@@ -4,12 +4,12 @@ use Rattle.std.specs.Option.{option_map_or}
 use Rattle.std.specs.List.{list_any, list_all, flat_map}
 use Rattle.lh_term.specs.Make.{is_constant}
 use Rattle.lh_term.specs.declared.part.Part.{Part}
-use Rattle.lh_cover.specs.Bits.{covers, same_bits}
+use Rattle.lh_term_cover.specs.Bits.{covers, same_bits}
 use Rattle.lh_edge.specs.Atoms.{contains_past}
 use Rattle.lh_edge.specs.Shown.{has_too_many_atoms, is_edge_shown}
 use Rattle.lh_flat.specs.Flat.{FlatRefusal, recursive_call, call_too_deep, flat_too_large}
-use Rattle.lh_rows.specs.Rows.{Drive, Way, halts, waits, RegionEnd, Rows}
-use Rattle.lh_rows.specs.Regions.{RegionRefusal, head_phi, too_many_turns, region_too_large, Regions, waited_parts}
+use Rattle.lh_region_def.specs.Rows.{Drive, Way, halts, waits, RegionEnd, Rows}
+use Rattle.lh_region_def.specs.Regions.{RegionRefusal, head_phi, too_many_turns, region_too_large, Regions, waited_parts}
 use Rattle.lh_shape.specs.declared.reason.Reason.{Reason}
 use Rattle.lh_shape.specs.declared.reason.Reason.TheVariants as reason
 

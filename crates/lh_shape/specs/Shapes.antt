@@ -4,8 +4,8 @@ use Rattle.lh_unit.specs.Contents.{UnitText, ItemText}
 use Rattle.lh_term.specs.declared.part.Part.{Part}
 use Rattle.lh_edge.specs.Triggers.{EdgeRowTree, triggers_of}
 use Rattle.lh_flat.specs.Flat.{FlatText, Flattened, refused, flattened, flat_of}
-use Rattle.lh_rows.specs.Rows.{Drive}
-use Rattle.lh_rows.specs.Regions.{Regions, Regioned, no_regions, has_regions, regions_of}
+use Rattle.lh_region_def.specs.Rows.{Drive}
+use Rattle.lh_region_def.specs.Regions.{Regions, Regioned, no_regions, has_regions, regions_of}
 use Rattle.lh_shape.specs.Merging.{merged_drives}
 use Rattle.lh_shape.specs.Reasons.{is_once, waits_for_head, parts_waited, second_drives, reasons, first_holding, flat_reason, region_reason}
 use Rattle.lh_shape.specs.declared.reason.Reason.{Reason}

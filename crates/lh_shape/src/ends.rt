@@ -1,14 +1,14 @@
 //! How a region ends.
 ghost use Rattle.std.specs.Prelude.{◌≡◌, ◌++◌, IfOk, OnOk};
 ghost use Rattle.lh_region.specs.Stands.{way_text};
-ghost use Rattle.lh_cover.specs.Bits.{same_bits};
-ghost use Rattle.lh_rows.specs.Regions as regions;
+ghost use Rattle.lh_term_cover.specs.Bits.{same_bits};
+ghost use Rattle.lh_region_def.specs.Regions as regions;
 ghost use Rattle.lh_shape.specs.Reasons as spec;
 ghost use Rattle.lh_shape.specs.ByIds as ids;
 
-use lh_cover::Cover;
 use lh_region::{EndRow, Way};
 use lh_term::part::{Part, PartList};
+use lh_term_cover::Cover;
 use lh_types::ty::NoMemory;
 use std::alloc::Global;
 

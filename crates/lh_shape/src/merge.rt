@@ -1,17 +1,17 @@
 //! Drives of one part after one delay that follow each other, as one.
 ghost use Rattle.std.specs.Prelude.{◌≡◌, IfOk, OnOk};
-ghost use Rattle.lh_joins.specs.Joins.{IsConditionAt};
+ghost use Rattle.lh_region_joins.specs.Joins.{IsConditionAt};
 ghost use Rattle.lh_term.specs.Arena.{trees, tree_at, StandsForTree, Grows};
 ghost use Rattle.lh_region.specs.Stands.{IsDrive, AreDrives};
-ghost use Rattle.lh_rows.specs.Adjacent.{beyond, drive_merged};
+ghost use Rattle.lh_region_def.specs.Adjacent.{beyond, drive_merged};
 ghost use Rattle.lh_shape.specs.ByIds.{drive_at, drives_at, DriveFits, DrivesFit};
 ghost use Rattle.lh_shape.specs.Merging as spec;
 ghost use Rattle.lh_shape.specs.Merged.{MergesDrive};
 
-use lh_joins::edge::Edge;
-use lh_joins::joins::{Shared, conjunction};
-use lh_joins::logic::or;
 use lh_region::{DriveList, DriveRow};
+use lh_region_joins::edge::Edge;
+use lh_region_joins::joins::{Shared, conjunction};
+use lh_region_joins::logic::or;
 use lh_term::term::TermId;
 use lh_term::terms::Terms;
 use lh_types::ty::NoMemory;

@@ -11,11 +11,11 @@ use crate::ends::{
 };
 use crate::pasts::some_drives_past;
 use crate::reason::Reason;
-use lh_cover::Cover;
 use lh_region::{DriveRow, Regions, Rows};
 use lh_term::part::{Part, PartList};
 use lh_term::term::{Term, TermId};
 use lh_term::terms::Terms;
+use lh_term_cover::Cover;
 use lh_types::ty::NoMemory;
 use std::alloc::Global;
 

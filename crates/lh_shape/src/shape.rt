@@ -3,7 +3,7 @@ ghost use Rattle.std.specs.Prelude.{◌≡◌, false, None, IfOk, IfSome};
 ghost use Rattle.lh_types.specs.Types.{int_type};
 ghost use Rattle.lh_term.specs.Types.{type_of};
 ghost use Rattle.lh_term.specs.Arena.{trees, tree_at, IsIn, Grows};
-ghost use Rattle.lh_rows.specs.Regions.{Regions as RegionsOf};
+ghost use Rattle.lh_region_def.specs.Regions.{Regions as RegionsOf};
 ghost use Rattle.lh_region.specs.Stands.{AreRegions};
 ghost use Rattle.lh_shape.specs.Answers.{IsShape, IsTarget, Finds, AddsFound, AreRegisters};
 ghost use Rattle.lh_shape.specs.ByIds as ids;

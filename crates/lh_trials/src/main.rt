@@ -2,8 +2,8 @@
 //! definition of the language.
 //!
 //! The program is given the names of files of trials, runs the trials in each, and writes a line for each group of them; above it stands
-//! each trial whose answer is another than the file says. It ends with code 0 where every answer was as said. `lh_script` has the
-//! form of such a file, and `lh_answers` the words by which a text is run; `program` runs the program for them.
+//! each trial whose answer is another than the file says. It ends with code 0 where every answer was as said. `lh_trial_script` has the
+//! form of such a file, and `lh_trial_answers` the words by which a text is run; `program` runs the program for them.
 #![tactic(auto)]
 
 ghost use Rattle.std.specs.Prelude.{◌≡◌, nat_eq, if◌then◌else◌};
@@ -12,9 +12,9 @@ ghost use Rattle.std.specs.Process.{exit_status};
 mod program;
 
 use crate::program::InMemory;
-use lh_answers::answer::answer;
-use lh_script::score::Score;
-use lh_script::script::{Answers, Script};
+use lh_trial_answers::answer::answer;
+use lh_trial_script::score::Score;
+use lh_trial_script::script::{Answers, Script};
 use lh_types::ty::NoMemory;
 use std::alloc::Global;
 use std::process::ExitCode;

@@ -1,7 +1,7 @@
 //! Runs of the program in memory.
-use lh_answers::program::{Program, ROOM, Ran, sink};
 use lh_io::memory::{MemSink, MemSource};
 use lh_run::top::run;
+use lh_trial_answers::program::{Program, ROOM, Ran, sink};
 use lh_types::list::{ByteList, TextList};
 use lh_types::ty::NoMemory;
 use lh_watch::builtin::{Asserts, Toggles, UntilFail};

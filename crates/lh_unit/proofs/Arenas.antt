@@ -7,13 +7,13 @@ use Rattle.std.proofs.lemmas.Bool.{and_parts}
 use lib.Pointwise.{pointwise}
 use Rattle.lh_types.specs.Types.{TypeTree}
 use Rattle.lh_types.specs.declared.ty.NoMemory.{NoMemory}
-use Rattle.lh_names.specs.UnitNames.{same_unit_name}
+use Rattle.lh_unit_names.specs.UnitNames.{same_unit_name}
 use Rattle.lh_unit.specs.Table.{Table, IsTable, IsDefinition, ResultWithin, HasBlocks, no_table}
 use Rattle.lh_unit.specs.TableCalls.{with_value, with_label, with_result, with_line, FindsValueIn, FindsLabelIn, TakesArg, TakesBlock, TakesLine}
-use Rattle.lh_names.specs.Distinct.{has_name}
+use Rattle.lh_unit_names.specs.Distinct.{has_name}
 use Rattle.lh_unit.specs.Within.{sizes_of, InstWithin}
 use Rattle.lh_unit.specs.Arena.{Arena, IsArena, InstPlaced, IsOpen, table_at, kind_at, unit_count}
-use Rattle.lh_names.specs.declared.name.UnitName.{UnitName}
+use Rattle.lh_unit_names.specs.declared.name.UnitName.{UnitName}
 use Rattle.lh_unit.specs.declared.inst.UnitId.{UnitId}
 use Rattle.lh_unit.specs.declared.inst.ValueId.{ValueId}
 use Rattle.lh_unit.specs.declared.inst.ValueDef.{ValueDef}
@@ -29,10 +29,10 @@ use Rattle.lh_unit.specs.declared.inst.Declare.{Declare}
 use Rattle.lh_unit.specs.declared.inst.Item.TheVariants as item
 use Rattle.lh_unit.specs.declared.table.Line.{Line}
 use Rattle.lh_unit.proofs.Lists.{Same, same, other, same_or, get_or-push_default, nat_eq-is, nat_eq-refl}
-use Rattle.lh_names.proofs.Lists.{Trichotomy, before, at, past, trichotomy, Pushed, old, new, pushed, AllDistinct-push, other_keys}
+use Rattle.lh_unit_names.proofs.Lists.{Trichotomy, before, at, past, trichotomy, Pushed, old, new, pushed, AllDistinct-push, other_keys}
 use Rattle.lh_types.proofs.Lists.{get_below, get_last}
 use Rattle.lh_unit.proofs.Tables.{IsTable-with_value, IsTable-with_label, IsTable-with_arg, IsTable-with_result, IsTable-with_block, IsTable-with_line}
-use Rattle.lh_names.proofs.NameLists.{same_name-is, same_name-refl}
+use Rattle.lh_unit_names.proofs.NameLists.{same_name-is, same_name-refl}
 use Rattle.lh_unit.proofs.Within.{InstWithin-more}
 
 -- the arena with another table for the unit u

@@ -9,7 +9,7 @@ use Rattle.lh_unit.specs.Contents as text
 use Rattle.lh_unit.specs.Contents.{UnitText, change_last, defines_value, defines_label, line_count}
 use Rattle.lh_unit.specs.Table.{Table, IsTable, HasBlocks, ResultWithin, no_table, is_block, is_defined, result_defined, insts_at, line_at}
 use Rattle.lh_unit.specs.TableCalls.{with_value, with_label, with_arg, with_result, with_block, with_line, FindsValueIn, FindsLabelIn, TakesArg, TakesBlock, TakesLine}
-use Rattle.lh_names.specs.Distinct.{has_name}
+use Rattle.lh_unit_names.specs.Distinct.{has_name}
 use Rattle.lh_unit.specs.Within.{sizes_of}
 use Rattle.lh_unit.specs.Naming.{Naming, naming_of, line_text, arg_text, label_text, block_text, kind_text, table_text}
 use Rattle.lh_unit.specs.Arena.{Arena, IsArena, IsOpen, OfOpen, KeepsEntries, HasAtMost, HasFewMore, none_more, one_more_in, contents, item_text_at, unit_text_at, naming, table_at, kind_at, unit_count, value_count, label_count, unit_name_at, value_name_at, label_name_at}
@@ -22,8 +22,8 @@ use Rattle.lh_unit.specs.declared.inst.UnitFault.{UnitFault}
 use Rattle.lh_unit.specs.declared.inst.UnitFault.TheVariants as fault
 use Rattle.lh_unit.specs.declared.inst.Inst.{Inst}
 use Rattle.lh_unit.specs.declared.inst.Arg.{Arg}
-use Rattle.lh_names.proofs.Lists.{before, at, past, trichotomy}
-use Rattle.lh_names.proofs.NameLists.{absent}
+use Rattle.lh_unit_names.proofs.Lists.{before, at, past, trichotomy}
+use Rattle.lh_unit_names.proofs.NameLists.{absent}
 use Rattle.lh_unit.proofs.Lists.{Same, same, other, same_or, nat_eq-refl, map-ext}
 use Rattle.lh_unit.proofs.Tables.{insts_at-more}
 use Rattle.lh_unit.proofs.Arenas.{with_table, table_at-same, table_at-other, open-within, LinesPlaced}

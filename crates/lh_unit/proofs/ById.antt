@@ -1,9 +1,9 @@
 -- What is asked of names in a unit is what is asked of ids.
 use Rattle.std.proofs.Common.{◌≡◌, ℕ, ◌<◌, zero, suc, Bool, true, false, ◌||◌, nat_eq, if◌then◌else◌, List, [], ◌∷◌, ◌++◌, map, get_or, Option, Some, None, IsSome, is_some, slice_get, refl, ap, sym, ◌∙◌, eqb-true}
 use Rattle.std.specs.Option.{option_map}
-use Rattle.lh_names.specs.UnitNames.{same_unit_name}
+use Rattle.lh_unit_names.specs.UnitNames.{same_unit_name}
 use Rattle.lh_unit.specs.Contents.{LineText, BlockText, is_result_name, lines_define, blocks_define, args_define, defines_value, defines_label, defines_unit}
-use Rattle.lh_names.specs.Names.{same_name}
+use Rattle.lh_unit_names.specs.Names.{same_name}
 use Rattle.lh_unit.specs.Named.{unit_named, block_of}
 use Rattle.lh_unit.specs.Typing.{or_else, line_giving, inst_giving, arg_named}
 use Rattle.lh_unit.specs.Table.{HasBlocks, ArgsWithin, BlocksWithin, ResultWithin, ResultsWithin, is_arg, is_result, is_made, is_defined, is_block, line_at, no_line, insts_at, flat}

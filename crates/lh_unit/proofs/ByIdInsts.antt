@@ -5,7 +5,7 @@ use Rattle.std.proofs.lemmas.List.{map-append}
 use Rattle.std.proofs.lemmas.Option.{slice_get-get_or, slice_get_within}
 use Rattle.lh_types.specs.declared.op.Op.{Op}
 use Rattle.lh_unit.specs.Contents.{EdgeText}
-use Rattle.lh_names.specs.Names.{same_name}
+use Rattle.lh_unit_names.specs.Names.{same_name}
 use Rattle.lh_unit.specs.Kinds.{Use, Need, used, all_used, maybe_used, trigger_uses, operation_uses, data_needed, time_needed, signal_needed, data_or_time_needed}
 use Rattle.lh_unit.specs.WellFormed.{values_named, labels_named, units_named}
 use Rattle.lh_unit.specs.Places.{leads_to, is_terminator, last_leads_to, has_edge}

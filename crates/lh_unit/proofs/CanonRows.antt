@@ -10,7 +10,7 @@ use Rattle.lh_unit.specs.Contents.{OperandText, InstText, ArgText, const_text, p
 use Rattle.lh_unit.specs.Pieces.{render}
 use Rattle.lh_unit.specs.CanonTypes.{type_pieces, time_text}
 use Rattle.lh_unit.specs.Canon.{line_pieces, canon, header, declaration}
-use Rattle.lh_names.specs.declared.name.UnitName.{UnitName}
+use Rattle.lh_unit_names.specs.declared.name.UnitName.{UnitName}
 use Rattle.lh_unit.specs.declared.inst.UnitKind.TheVariants as kind
 use Rattle.lh_unit.specs.declared.inst.Mode.TheVariants as mode
 use Rattle.lh_unit.specs.declared.inst.Declare.TheVariants as declare

@@ -20,7 +20,7 @@ use Rattle.lh_unit.specs.declared.inst.Item.TheVariants as item
 use Rattle.lh_unit.specs.declared.table.Line.{Line}
 use Rattle.lh_unit.proofs.Lists.{map-same, map-each, Each-left, Each-right}
 use Rattle.lh_types.proofs.Lists.{get_below, get_last}
-use Rattle.lh_names.specs.declared.name.UnitName.{UnitName}
+use Rattle.lh_unit_names.specs.declared.name.UnitName.{UnitName}
 use Rattle.lh_unit.proofs.Tables.{last-split, front-apart, insts_at-written, last-within, apart}
 use Rattle.lh_unit.proofs.Arenas.{with_table, table_at-same, table_at-other, open-within, open-item}
 use Rattle.lh_unit.proofs.Texts.{insts-within}

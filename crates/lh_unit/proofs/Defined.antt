@@ -3,12 +3,12 @@ use Rattle.std.proofs.Common.{◌≡◌, ℕ, ◌+◌, ◌<◌, suc, ◌||◌, n
 use Rattle.std.proofs.lemmas.List.{length-map}
 use Rattle.std.proofs.lemmas.Option.{slice_get-get_or}
 use Rattle.lh_unit.specs.Contents.{LineText, BlockText, is_result_name, lines_define, blocks_define, args_define, defines_value, defines_label_in, defines_label, line_count}
-use Rattle.lh_names.specs.Names.{same_name}
+use Rattle.lh_unit_names.specs.Names.{same_name}
 use Rattle.lh_unit.specs.Table.{Table, IsTable, FitsKind, HasBlocks, ArgsWithin, BlocksWithin, ResultWithin, ResultsWithin, is_arg, is_result, is_made, is_defined, is_block, result_defined, line_at, no_line, insts_at, flat, ids_from}
-use Rattle.lh_names.specs.Distinct.{AllDistinct}
+use Rattle.lh_unit_names.specs.Distinct.{AllDistinct}
 use Rattle.lh_unit.specs.Naming.{Naming, naming_of, maybe_text, line_text, arg_text, label_text, block_text, table_text}
 use Rattle.lh_unit.specs.Builders.{defines_result}
-use Rattle.lh_names.specs.declared.name.UnitName.{UnitName}
+use Rattle.lh_unit_names.specs.declared.name.UnitName.{UnitName}
 use Rattle.lh_unit.specs.declared.inst.UnitKind.{UnitKind}
 use Rattle.lh_unit.specs.declared.inst.UnitKind.TheVariants as kind
 use Rattle.lh_unit.specs.declared.inst.BlockId.{BlockId}
@@ -17,7 +17,7 @@ use Rattle.lh_unit.specs.declared.inst.ValueId.{ValueId}
 use Rattle.lh_unit.specs.declared.inst.Arg.{Arg}
 use Rattle.lh_unit.specs.declared.table.Line.{Line}
 use Rattle.lh_unit.proofs.Lists.{Same, same, other, same_or, nat_eq-refl, nat_eq-other, or-assoc, not_true, map-map, map-flat}
-use Rattle.lh_names.proofs.NameLists.{same_name-is, same_name-refl}
+use Rattle.lh_unit_names.proofs.NameLists.{same_name-is, same_name-refl}
 
 -- where no name stands twice, two ids are one exactly where their names are
 pub same_name-ids : (ns : List (List ℕ)) (i j : ℕ) → AllDistinct ns → i < length ns → j < length ns → same_name (get_or ns i []) (get_or ns j []) ≡ nat_eq i j

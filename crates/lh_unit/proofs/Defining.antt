@@ -11,7 +11,7 @@ use Rattle.lh_unit.specs.declared.inst.Inst.{Inst}
 use Rattle.lh_unit.specs.declared.inst.Arg.{Arg}
 use Rattle.lh_unit.specs.declared.table.Line.{Line}
 use Rattle.lh_unit.proofs.Lists.{nat_eq-refl, nat_eq-is, not_true, or_false, or_true, or-assoc, some_inj}
-use Rattle.lh_names.proofs.Lists.{Trichotomy, before, at, past, trichotomy}
+use Rattle.lh_unit_names.proofs.Lists.{Trichotomy, before, at, past, trichotomy}
 use Rattle.lh_types.proofs.Lists.{get_below, get_last}
 
 pub is_arg-push : (xs : List Arg) (a : Arg) (k : ℕ) → is_arg (xs ++ a ∷ []) k ≡ (is_arg xs k || nat_eq a.value.0 k)

@@ -5,8 +5,8 @@ use Rattle.std.proofs.lemmas.Option.{slice_get_within}
 use Rattle.indexmap.specs.IndexSet.{insert_key}
 use lib.Pointwise.{pointwise}
 use Rattle.lh_types.specs.declared.ty.NoMemory.{NoMemory}
-use Rattle.lh_names.specs.Distinct.{has_name}
-use Rattle.lh_names.proofs.NameLists.{inserted}
+use Rattle.lh_unit_names.specs.Distinct.{has_name}
+use Rattle.lh_unit_names.proofs.NameLists.{inserted}
 use Rattle.lh_unit.specs.Table.{Table}
 use Rattle.lh_unit.specs.TableCalls.{FindsValueIn, FindsLabelIn, NamesValue, NamesLabel, with_value}
 use Rattle.lh_unit.specs.declared.inst.BlockId.{BlockId}

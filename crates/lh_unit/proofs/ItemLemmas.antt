@@ -8,13 +8,13 @@ use Rattle.indexmap.specs.IndexSet.{insert_key}
 use Rattle.lh_types.specs.Types.{void_type}
 use Rattle.lh_types.specs.declared.ty.NoMemory.{NoMemory}
 use Rattle.lh_unit.specs.Contents.{unit_text, new_unit, defines_unit}
-use Rattle.lh_names.specs.UnitNames.{same_unit_name}
+use Rattle.lh_unit_names.specs.UnitNames.{same_unit_name}
 use Rattle.lh_unit.specs.Table.{Table, IsTable, no_table, entity_block, insts_at, line_at}
 use Rattle.lh_unit.specs.TableCalls.{BeginsTable, begun}
 use Rattle.lh_unit.specs.Naming.{naming_of, line_text, arg_text, block_text, table_text}
 use Rattle.lh_unit.specs.Arena.{Arena, IsArena, HasFewMore, none_more, contents, item_text_at, unit_text_at, table_at, kind_at, unit_count, unit_name_at, no_unit_name}
 use Rattle.lh_unit.specs.Builders.{FindsEntry, FindsUnit, HasContents, AddsDeclare}
-use Rattle.lh_names.specs.declared.name.UnitName.{UnitName}
+use Rattle.lh_unit_names.specs.declared.name.UnitName.{UnitName}
 use Rattle.lh_unit.specs.declared.inst.UnitId.{UnitId}
 use Rattle.lh_unit.specs.declared.inst.InstId.{InstId}
 use Rattle.lh_unit.specs.declared.inst.UnitKind.{UnitKind}
@@ -23,7 +23,7 @@ use Rattle.lh_unit.specs.declared.inst.Declare.{Declare}
 use Rattle.lh_unit.specs.declared.inst.Item.{Item}
 use Rattle.lh_unit.specs.declared.inst.Item.TheVariants as item
 use Rattle.lh_unit.proofs.Lists.{map-same, not_true, or_true}
-use Rattle.lh_names.proofs.Lists.{key_found, other_keys}
+use Rattle.lh_unit_names.proofs.Lists.{key_found, other_keys}
 use Rattle.lh_unit.proofs.Tables.{missing, IsTable-begun}
 use Rattle.lh_unit.proofs.Arenas.{with_table, with_unit, table_at-unit, same_unit_name-is, same_unit_name-refl, none_some, IsArena-declared, IsArena-begun, LinesPlaced-more}
 use Rattle.lh_unit.proofs.Texts.{table_text-same}

@@ -2,7 +2,7 @@
 use Rattle.std.proofs.Common.{◌≡◌, ℕ, ◌+◌, ◌-◌, ◌≤◌, zero, suc, Bool, true, false, List, [], ◌∷◌, length, take, drop, Option, Some, None, Result, Ok, Err, if◌then◌else◌, nat_eq, nat_lt, refl, ap, sym, ◌∙◌, subst, arith, add-one}
 use Rattle.std.proofs.lemmas.List.{drop-drop, length-take-le}
 use Rattle.std.proofs.lemmas.Grind.{common_steps}
-use Rattle.lh_names.specs.Names.{is_name_byte, all_name_bytes, IsName}
+use Rattle.lh_unit_names.specs.Names.{is_name_byte, all_name_bytes, IsName}
 use Rattle.lh_unit.specs.Lexemes.{Lexeme, word, global, local, arrow, minus, punct, lexemes, lexemes_after, front, first_lexeme, run_len, fits_name, is_white, is_comment, is_punct, begins}
 use Rattle.lh_unit.specs.Tokens.{named, first_token, tokens, tokens_after, front_token, bytes_at, lexeme_of, lexeme_at, lexemes_of, IsSpelling, AreTokensOf, all_white, Covers}
 use Rattle.lh_unit.specs.declared.token.Token.{Token}

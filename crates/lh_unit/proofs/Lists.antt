@@ -2,7 +2,7 @@
 use Rattle.std.proofs.Common.{◌≡◌, ◌≢◌, ℕ, ◌+◌, ◌<◌, zero, suc, true, nat_eq, List, [], ◌∷◌, ◌++◌, length, map, drop, get_or, Option, Some, None, is_some, slice_get, refl, ap, sym, ◌∙◌, subst, arith, append_assoc, Bool, false}
 use Rattle.std.proofs.lemmas.List.{map-append, drop_more}
 use Rattle.std.proofs.lemmas.Grind.{common_steps}
-use Rattle.lh_names.proofs.Lists.{before, at, past, trichotomy}
+use Rattle.lh_unit_names.proofs.Lists.{before, at, past, trichotomy}
 use Rattle.lh_unit.specs.Table.{flat}
 use Rattle.lh_unit.specs.Within.{Each}
 use Rattle.lh_unit.specs.Design.{first_some}

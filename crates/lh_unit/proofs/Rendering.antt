@@ -3,7 +3,7 @@ use Rattle.std.proofs.Common.{◌≡◌, ℕ, ◌≤◌, zero, suc, true, false,
 use Rattle.std.proofs.lemmas.Bool.{and_parts, or_cases}
 use Rattle.std.proofs.lemmas.List.{take_at, drop_at}
 use Rattle.std.proofs.lemmas.Grind.{common_steps}
-use Rattle.lh_names.specs.Names.{is_name_byte, all_name_bytes, IsName}
+use Rattle.lh_unit_names.specs.Names.{is_name_byte, all_name_bytes, IsName}
 use Rattle.lh_unit.specs.Lexemes.{Lexeme, word, global, local, arrow, minus, punct, lexemes, lexemes_after, front, first_lexeme, run_len, fits_name, is_white, is_comment, is_punct, begins}
 use Rattle.lh_unit.specs.Pieces.{Piece, token, space, lexeme_bytes, render, lexemes_in, IsSpaced, begins_with_word}
 use Rattle.lh_unit.specs.Canon.{text_of}

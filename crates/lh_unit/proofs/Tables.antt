@@ -5,7 +5,7 @@ use Rattle.std.proofs.lemmas.List.{append-nil, map-append, get_or-set_same, get_
 use Rattle.lh_types.specs.Types.{TypeTree}
 use Rattle.lh_unit.specs.Table.{Table, Definitions, IsTable, IsDefinition, FitsKind, HasBlocks, ArgsWithin, ResultWithin, ResultsWithin, BlocksWithin, entity_block, flat, ids_from, insts_at, is_arg, is_made, is_result, is_block, is_defined, result_defined, has_definition, with_definition, defined_among, arg_count, args_among}
 use Rattle.lh_unit.specs.TableCalls.{with_value, with_label, begun, with_arg, with_result, with_block, with_line, last_block}
-use Rattle.lh_names.specs.Distinct.{has_name}
+use Rattle.lh_unit_names.specs.Distinct.{has_name}
 use Rattle.lh_unit.specs.declared.inst.UnitKind.{UnitKind}
 use Rattle.lh_unit.specs.declared.inst.UnitKind.TheVariants as kind
 use Rattle.lh_unit.specs.declared.inst.BlockId.{BlockId}
@@ -19,9 +19,9 @@ use Rattle.lh_unit.specs.declared.table.Line.{Line}
 pub use Rattle.lh_unit.proofs.Defining.{is_arg-push, is_made-push}
 use Rattle.lh_unit.proofs.Defining.{definition-tells, IsDefinition-with_arg, IsDefinition-with_line, IsDefinition-same, arg-defines, line-defines, once-with_arg, once-with_line}
 use Rattle.lh_unit.proofs.Lists.{Same, same, other, same_or, nat_eq-refl, nat_eq-other, or_false, or_true, or-assoc, get_or-push_default, front_last, map-ext, map-same, flat-append}
-use Rattle.lh_names.proofs.Lists.{Trichotomy, before, at, past, trichotomy, AllDistinct-push}
+use Rattle.lh_unit_names.proofs.Lists.{Trichotomy, before, at, past, trichotomy, AllDistinct-push}
 use Rattle.lh_types.proofs.Lists.{get_below, get_last}
-use Rattle.lh_names.proofs.NameLists.{absent}
+use Rattle.lh_unit_names.proofs.NameLists.{absent}
 
 -- bounds that grow
 ArgsWithin-more : (n m : ℕ) (xs : List Arg) → n ≤ m → ArgsWithin n xs → ArgsWithin m xs

@@ -4,7 +4,7 @@ use Rattle.lh_unit.specs.Contents.{pure_text, var_text, ld_text, st_text, sig_te
 use Rattle.lh_unit.specs.Table.{Table, IsTable, FitsKind, ArgsWithin, ResultWithin, ResultsWithin, line_at, no_line, insts_at, ids_from}
 use Rattle.lh_unit.specs.Within.{Sizes, sizes_of, Each, ValueWithin, MaybeWithin, OperandWithin, TriggerWithin, EdgeWithin, InstWithin}
 use Rattle.lh_unit.specs.Naming.{Naming, value_text, maybe_text, operand_text, trigger_text, edge_text, inst_text, line_text, arg_text, label_text, block_text, kind_text, table_text}
-use Rattle.lh_names.specs.declared.name.UnitName.{UnitName}
+use Rattle.lh_unit_names.specs.declared.name.UnitName.{UnitName}
 use Rattle.lh_unit.specs.declared.inst.UnitKind.{UnitKind}
 use Rattle.lh_unit.specs.declared.inst.UnitKind.TheVariants as kind
 use Rattle.lh_unit.specs.declared.inst.BlockId.{BlockId}

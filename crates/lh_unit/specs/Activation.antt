@@ -7,9 +7,9 @@ use Rattle.lh_types.specs.Values.{Datum}
 use Rattle.lh_types.specs.Wish.{Wish, no_wish}
 use Rattle.lh_types.specs.declared.part.Range.{Range}
 use Rattle.lh_unit.specs.Contents.{OperandText, EdgeText, InstText, const_text, pure_text, var_text, ld_text, st_text, sig_text, prb_text, drv_text, reg_text, child_text, call_text, phi_text, br_text, branch_text, wait_text, halt_text, ret_text, LineText, BlockText, UnitText, ItemText, unit_text, declare_text}
-use Rattle.lh_names.specs.Names.{same_name}
+use Rattle.lh_unit_names.specs.Names.{same_name}
 use Rattle.lh_unit.specs.Named.{block_of, function_named, is_function, label_or}
-use Rattle.lh_names.specs.UnitNames.{is_assert}
+use Rattle.lh_unit_names.specs.UnitNames.{is_assert}
 use Rattle.lh_unit.specs.Held.{Held, datum_held, cell_held, Env, nothing_held, with_held, with_result, with_args, data_at, datum_at, delay_at, cell_at, parts_at, test_at}
 use Rattle.lh_unit.specs.Effects.{operated, probed, driven}
 

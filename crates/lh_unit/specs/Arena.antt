@@ -3,10 +3,10 @@ use Rattle.std.specs.Prelude.{◌≡◌, ℕ, ◌+◌, ◌^◌, ◌≤◌, ◌<�
 use Rattle.lh_types.specs.Types.{TypeTree}
 use Rattle.lh_unit.specs.Contents.{ItemText, UnitText, InstText, unit_text, declare_text, last_unit}
 use Rattle.lh_unit.specs.Table.{Table, no_table, line_at, insts_at, IsTable}
-use Rattle.lh_names.specs.Distinct.{AllDistinct}
+use Rattle.lh_unit_names.specs.Distinct.{AllDistinct}
 use Rattle.lh_unit.specs.Within.{Sizes, sizes_of, InstWithin}
 use Rattle.lh_unit.specs.Naming.{Naming, naming_of, inst_text, table_text}
-use Rattle.lh_names.specs.declared.name.UnitName.{UnitName}
+use Rattle.lh_unit_names.specs.declared.name.UnitName.{UnitName}
 use Rattle.lh_unit.specs.declared.inst.UnitId.{UnitId}
 use Rattle.lh_unit.specs.declared.inst.BlockId.{BlockId}
 use Rattle.lh_unit.specs.declared.inst.InstId.{InstId}

@@ -11,7 +11,7 @@ use Rattle.lh_unit.specs.Marks.{open_brace, close_brace, colon, equals}
 use Rattle.lh_unit.specs.Pieces.{Piece, token, space, render, ◌␣◌, ◌⸴◌, commas, behind_commas, mark, keyword, number, percent, in_parens, in_brackets, in_braces}
 use Rattle.lh_unit.specs.CanonTypes.{type_pieces, row_pieces, const_pieces}
 use Rattle.lh_unit.specs.CanonWords.{op_word, op_numbers, mode_word}
-use Rattle.lh_names.specs.declared.name.UnitName.{UnitName}
+use Rattle.lh_unit_names.specs.declared.name.UnitName.{UnitName}
 use Rattle.lh_unit.specs.declared.inst.UnitKind.{UnitKind}
 use Rattle.lh_unit.specs.declared.inst.UnitKind.TheVariants as kind
 use Rattle.lh_unit.specs.declared.inst.Declare.{Declare}

@@ -3,9 +3,9 @@ use Rattle.std.specs.Prelude.{ℕ, ◌+◌, Bool, false, ◌||◌, List, [], ◌
 use Rattle.lh_types.specs.Types.{TypeTree, void_type}
 use Rattle.lh_types.specs.Values.{Datum}
 use Rattle.lh_types.specs.declared.op.Op.{Op}
-use Rattle.lh_names.specs.Names.{same_name}
-use Rattle.lh_names.specs.UnitNames.{same_unit_name}
-use Rattle.lh_names.specs.declared.name.UnitName.{UnitName}
+use Rattle.lh_unit_names.specs.Names.{same_name}
+use Rattle.lh_unit_names.specs.UnitNames.{same_unit_name}
+use Rattle.lh_unit_names.specs.declared.name.UnitName.{UnitName}
 use Rattle.lh_unit.specs.declared.inst.UnitKind.{UnitKind}
 use Rattle.lh_unit.specs.declared.inst.UnitKind.TheVariants as kind
 use Rattle.lh_unit.specs.declared.inst.Mode.{Mode}

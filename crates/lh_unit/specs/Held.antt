@@ -6,7 +6,7 @@ use Rattle.lh_types.specs.Values.{Datum, int_value, time_value}
 use Rattle.lh_types.specs.Parts.{bits_within}
 use Rattle.lh_types.specs.declared.part.Range.{Range}
 use Rattle.lh_unit.specs.Contents.{OperandText, ArgText}
-use Rattle.lh_names.specs.Names.{same_name}
+use Rattle.lh_unit_names.specs.Names.{same_name}
 
 -- a data value or a time, a variable with what is stored in it, or a part of the signals
 pub data Held : Type 0 where

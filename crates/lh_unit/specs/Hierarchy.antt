@@ -4,10 +4,10 @@ use Rattle.std.specs.Option.{option_map_or}
 use Rattle.lh_types.specs.Types.{TypeTree, void_type, bit_count}
 use Rattle.lh_types.specs.Bits.{value_bits}
 use Rattle.lh_types.specs.declared.part.Range.{Range}
-use Rattle.lh_names.specs.declared.name.UnitName.{UnitName}
+use Rattle.lh_unit_names.specs.declared.name.UnitName.{UnitName}
 use Rattle.lh_unit.specs.declared.inst.UnitKind.{UnitKind}
 use Rattle.lh_unit.specs.declared.inst.UnitKind.TheVariants as kind
-use Rattle.lh_names.specs.UnitNames.{same_unit_name}
+use Rattle.lh_unit_names.specs.UnitNames.{same_unit_name}
 use Rattle.lh_unit.specs.Contents.{OperandText, InstText, const_text, pure_text, sig_text, child_text, prb_text, LineText, BlockText, ArgText, UnitText, ItemText, unit_text, declare_text}
 use Rattle.lh_unit.specs.Held.{Held, datum_held, part_held, Env, nothing_held, with_result, with_args, datum_at, part_at}
 use Rattle.lh_unit.specs.Effects.{operated}

@@ -1,7 +1,7 @@
 -- The tokens of a line, taken longest first, each with its text.
 use Rattle.std.specs.Prelude.{ℕ, ◌+◌, Bool, false, ◌&&◌, ◌||◌, nat_eq, nat_lt, List, [], ◌∷◌, take, Option, Some, None, if◌then◌else◌}
 use Rattle.std.proofs.Common.{zero, suc}
-use Rattle.lh_names.specs.Names.{is_name_byte}
+use Rattle.lh_unit_names.specs.Names.{is_name_byte}
 
 -- a token with its text; the names of globals and locals are without their sigil
 pub data Lexeme : Type 0 where

@@ -1,9 +1,9 @@
 -- Units, blocks and labels by their names.
 use Rattle.std.specs.Prelude.{ℕ, List, [], ◌∷◌, Bool, true, false, if◌then◌else◌, Option, Some, None}
-use Rattle.lh_names.specs.declared.name.UnitName.{UnitName}
+use Rattle.lh_unit_names.specs.declared.name.UnitName.{UnitName}
 use Rattle.lh_unit.specs.declared.inst.UnitKind.{UnitKind}
 use Rattle.lh_unit.specs.declared.inst.UnitKind.TheVariants as kind
-use Rattle.lh_names.specs.UnitNames.{same_unit_name}
+use Rattle.lh_unit_names.specs.UnitNames.{same_unit_name}
 use Rattle.lh_unit.specs.Contents.{BlockText, UnitText, ItemText, unit_text, declare_text, is_result_name}
 
 -- the unit of this name

@@ -1,7 +1,7 @@
 -- A line as it is written: tokens, and the single spaces between them.
 use Rattle.std.specs.Prelude.{◌≡◌, ℕ, ◌≤◌, Bool, true, false, ◌&&◌, List, [], ◌∷◌, ◌++◌, length, codes, decimal}
 use Prim.Native.String.{String}
-use Rattle.lh_names.specs.Names.{all_name_bytes, IsName}
+use Rattle.lh_unit_names.specs.Names.{all_name_bytes, IsName}
 use Rattle.lh_unit.specs.Lexemes.{Lexeme, word, global, local, arrow, minus, punct, is_punct}
 use Rattle.lh_unit.specs.Marks.{comma, open_paren, close_paren, open_bracket, close_bracket, open_brace, close_brace}
 

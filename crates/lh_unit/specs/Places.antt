@@ -2,7 +2,7 @@
 use Rattle.std.specs.Prelude.{◌≡◌, ℕ, ◌+◌, List, [], ◌∷◌, ◌++◌, length, Bool, true, false, Option, Some, None}
 use Rattle.std.specs.List.{list_any}
 use Rattle.lh_unit.specs.Contents.{InstText, br_text, branch_text, wait_text, halt_text, ret_text, LineText, BlockText, UnitText}
-use Rattle.lh_names.specs.Names.{same_name}
+use Rattle.lh_unit_names.specs.Names.{same_name}
 use Rattle.lh_unit.specs.Named.{block_of, label_or}
 
 -- a place of an instruction: its number in the unit from 1, whether its block is the entry, its block, and the instructions of the block before and after it

@@ -7,7 +7,7 @@ use Rattle.lh_unit.specs.Marks.{open_paren, close_paren, open_brace, close_brace
 use Rattle.lh_unit.specs.SpellsTypes.{SpellsType, SpellsValueType, SpellsSignalType, IsResultType}
 use Rattle.lh_unit.specs.SpellsParts.{SpellsUnitName, SpellsList}
 use Rattle.lh_unit.specs.SpellsInst.{SpellsLine}
-use Rattle.lh_names.specs.declared.name.UnitName.{UnitName}
+use Rattle.lh_unit_names.specs.declared.name.UnitName.{UnitName}
 use Rattle.lh_unit.specs.declared.inst.UnitKind.{UnitKind}
 use Rattle.lh_unit.specs.declared.inst.UnitKind.TheVariants as kind
 use Rattle.lh_unit.specs.declared.inst.Declare.{Declare}

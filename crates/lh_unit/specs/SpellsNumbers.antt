@@ -1,7 +1,7 @@
 -- How whole numbers, integer constants and times are spelled.
 use Rattle.std.specs.Prelude.{◌≡◌, ℕ, ◌-◌, ◌*◌, ◌%◌, ◌^◌, ◌<◌, ◌≤◌, List, [], ◌∷◌, ◌++◌, length, Option, Some, None, if◌then◌else◌, codes, ◌⊎◌}
 use Rattle.lh_time.specs.declared.Delay.{Delay}
-use Rattle.lh_names.specs.Names.{same_bytes}
+use Rattle.lh_unit_names.specs.Names.{same_bytes}
 use Rattle.lh_unit.specs.Lexemes.{Lexeme, word, minus}
 use Rattle.lh_unit.specs.Numerals.{number_of}
 

@@ -6,7 +6,7 @@ use Rattle.lh_unit.specs.Lexemes.{Lexeme, word, global, local}
 use Rattle.lh_unit.specs.Marks.{open_bracket, close_bracket, comma}
 use Rattle.lh_unit.specs.CanonWords.{mode_word}
 use Rattle.lh_unit.specs.SpellsTypes.{SpellsType}
-use Rattle.lh_names.specs.declared.name.UnitName.{UnitName}
+use Rattle.lh_unit_names.specs.declared.name.UnitName.{UnitName}
 
 -- the name of a unit begins with `@` or `%`
 abbrev pub SpellsUnitName : UnitName → Lexeme → Type 0

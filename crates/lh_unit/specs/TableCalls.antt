@@ -2,7 +2,7 @@
 use Rattle.std.specs.Prelude.{◌≡◌, ℕ, ◌-◌, ◌<◌, true, false, if◌then◌else◌, List, [], ◌∷◌, ◌++◌, length, Option, Some, None, Result, Ok, Err, slice_get, slice_set, slice_index_or}
 use Rattle.lh_types.specs.Types.{TypeTree, void_type}
 use Rattle.lh_types.specs.declared.ty.NoMemory.{NoMemory}
-use Rattle.lh_names.specs.Distinct.{has_name}
+use Rattle.lh_unit_names.specs.Distinct.{has_name}
 use Rattle.lh_unit.specs.Table.{Table, is_block, is_defined, result_defined, entity_block, insts_at}
 use Rattle.lh_unit.specs.declared.inst.UnitKind.{UnitKind}
 use Rattle.lh_unit.specs.declared.inst.UnitKind.TheVariants as kind

@@ -1,7 +1,7 @@
 -- The tokens of a line with the places where they stand, and the first byte that no token takes.
 use Rattle.std.specs.Prelude.{◌≡◌, ℕ, ◌+◌, ◌-◌, ◌<◌, ◌≤◌, Bool, true, false, nat_eq, nat_lt, List, [], ◌∷◌, length, take, drop, map, Option, Some, None, Result, Ok, Err, if◌then◌else◌}
 use Rattle.std.proofs.Common.{zero, suc}
-use Rattle.lh_names.specs.Names.{is_name_byte, all_name_bytes, IsName}
+use Rattle.lh_unit_names.specs.Names.{is_name_byte, all_name_bytes, IsName}
 use Rattle.lh_unit.specs.Lexemes.{Lexeme, word, global, local, arrow, minus, punct, is_white, is_comment, is_punct, begins, run_len}
 use Rattle.lh_unit.specs.declared.token.Token.{Token}
 use Rattle.lh_unit.specs.declared.token.TokenKind.{TokenKind}

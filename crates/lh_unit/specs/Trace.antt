@@ -6,7 +6,7 @@ use Rattle.lh_types.specs.Types.{TypeTree, bit_count}
 use Rattle.lh_types.specs.Values.{Datum}
 use Rattle.lh_types.specs.Bits.{value_from_bits}
 use Rattle.lh_types.specs.History.{bits_at}
-use Rattle.lh_names.specs.declared.name.UnitName.{UnitName}
+use Rattle.lh_unit_names.specs.declared.name.UnitName.{UnitName}
 use Rattle.lh_unit.specs.Contents.{ItemText}
 use Rattle.lh_unit.specs.Held.{bits_in}
 use Rattle.lh_unit.specs.Hierarchy.{Instance}

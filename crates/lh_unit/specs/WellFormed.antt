@@ -6,15 +6,15 @@ use Rattle.lh_types.specs.Types.{void_type, same_type}
 use Rattle.lh_types.specs.Classes.{class_of, taken_step}
 use Rattle.lh_types.specs.declared.op.Op.{Op}
 use Rattle.lh_types.specs.declared.part.Step.{Step}
-use Rattle.lh_names.specs.declared.name.UnitName.{UnitName}
+use Rattle.lh_unit_names.specs.declared.name.UnitName.{UnitName}
 use Rattle.lh_unit.specs.declared.inst.UnitKind.{UnitKind}
 use Rattle.lh_unit.specs.declared.inst.UnitKind.TheVariants as kind
 use Rattle.lh_unit.specs.Contents.{OperandText, EdgeText, InstText, const_text, pure_text, var_text, ld_text, st_text, sig_text, prb_text, drv_text, reg_text, child_text, call_text, phi_text, br_text, branch_text, wait_text, halt_text, ret_text, LineText, BlockText, ArgText, UnitText, ItemText, unit_text, declare_text, defines_unit, defines_value, defines_label, args_define, blocks_define, lines_define}
-use Rattle.lh_names.specs.Names.{same_name}
+use Rattle.lh_unit_names.specs.Names.{same_name}
 use Rattle.lh_unit.specs.Reads.{Reads}
 use Rattle.lh_unit.specs.Canon.{canon}
 use Rattle.lh_unit.specs.Named.{unit_named, block_of, is_function, label_or}
-use Rattle.lh_names.specs.UnitNames.{is_assert}
+use Rattle.lh_unit_names.specs.UnitNames.{is_assert}
 use Rattle.lh_unit.specs.Typing.{inst_giving, first_type}
 use Rattle.lh_unit.specs.Kinds.{Use, uses, takes, value_kind}
 use Rattle.lh_unit.specs.TypingRows.{has_type, bit, is_signal, types_fit}

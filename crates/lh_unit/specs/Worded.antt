@@ -3,7 +3,7 @@ use Rattle.std.specs.Prelude.{ℕ, List, [], ◌∷◌, Some, None, true, false}
 use Rattle.lh_types.specs.Types.{TypeTree, int_type}
 pub use Rattle.lh_types.specs.TypeTests.{bit}
 use Rattle.lh_types.specs.Values.{Datum, int_value, time_value}
-use Rattle.lh_names.specs.declared.name.UnitName.{UnitName}
+use Rattle.lh_unit_names.specs.declared.name.UnitName.{UnitName}
 use Rattle.lh_unit.specs.declared.inst.UnitKind.TheVariants as kind
 use Rattle.lh_unit.specs.Contents.{OperandText, InstText, const_text, LineText, BlockText, ArgText, UnitText}
 

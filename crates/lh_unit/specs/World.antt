@@ -9,7 +9,7 @@ use Rattle.lh_types.specs.Wish.{Wish, no_wish}
 use Rattle.lh_types.specs.History.{Made, Claim, claims, bits_at, sooner, if_later, soonest_due}
 pub use Rattle.lh_types.specs.History.{kept, made_from, bits_after}
 use Rattle.lh_types.specs.declared.part.Range.{Range}
-use Rattle.lh_names.specs.declared.name.UnitName.{UnitName}
+use Rattle.lh_unit_names.specs.declared.name.UnitName.{UnitName}
 use Rattle.lh_unit.specs.declared.inst.UnitKind.{UnitKind}
 use Rattle.lh_unit.specs.declared.inst.UnitKind.TheVariants as kind
 use Rattle.lh_unit.specs.Contents.{UnitText, ItemText, new_unit}

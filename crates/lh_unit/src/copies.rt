@@ -6,9 +6,9 @@ use crate::inst::{
     BlockId, Declare, Inst, OperandList, PhiEdgeList, RegTriggerList, Typed, TypedList, UnitId,
     ValueId, ValueIdList,
 };
-use lh_names::name::UnitName;
 use lh_types::op::Op;
 use lh_types::ty::{NoMemory, Ty, TyList};
+use lh_unit_names::name::UnitName;
 use std::alloc::Global;
 
 impl Typed {

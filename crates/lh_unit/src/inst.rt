@@ -3,12 +3,12 @@ ghost use Rattle.std.specs.Prelude.{◌≡◌};
 ghost use Rattle.lh_unit.specs.ById.{is_sig};
 
 use crate::constant::Constant;
-use lh_names::name::{Name, UnitName};
 use lh_types::few::FewOf;
 use lh_types::list::ListOf;
 use lh_types::op::Op;
 use lh_types::ty::{Ty, TyList};
 use lh_types::written::WrittenTy;
+use lh_unit_names::name::{Name, UnitName};
 use thiserror::Error;
 
 /// A unit of a module.

@@ -6,10 +6,10 @@ ghost use Rattle.lh_unit.specs.declared.inst.ValueDef.TheVariants as value_def;
 ghost use Rattle.lh_unit.specs.TableCalls.{FindsValueIn, FindsLabelIn, BeginsTable, TakesArg, TakesBlock, TakesLine, with_result};
 
 use crate::inst::{Arg, BlockId, Inst, InstId, UnitFault, UnitKind, ValueDef, ValueId};
-use lh_names::name::Name;
-use lh_names::table::NameTable;
 use lh_types::list::ListOf;
 use lh_types::ty::{NoMemory, Ty};
+use lh_unit_names::name::Name;
+use lh_unit_names::table::NameTable;
 use std::alloc::Global;
 use std::marker::Model;
 

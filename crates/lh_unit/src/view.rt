@@ -6,8 +6,8 @@ ghost use Rattle.lh_unit.specs.Arena.{IsArena, InstPlaced, table_at, unit_count,
 
 use crate::inst::{Arg, BlockId, Inst, InstId, UnitId, UnitKind, ValueDef, ValueId};
 use crate::module::Module;
-use lh_names::name::{Name, UnitName};
 use lh_types::ty::Ty;
+use lh_unit_names::name::{Name, UnitName};
 
 /// A unit of a module. The unit has an entry, so that no question about it wants this again.
 #[derive(Clone, Copy)]

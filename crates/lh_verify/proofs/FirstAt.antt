@@ -4,7 +4,7 @@ use Rattle.std.specs.Option.{option_map}
 use Rattle.std.specs.List.{list_any}
 use Rattle.lh_unit.specs.WellFormed.{FaultKind, number_of, undefined, wrong_kind, wrong_type, not_here, no_terminator, phi_edges, arguments}
 use Rattle.lh_unit.specs.declared.inst.InstId.{InstId}
-use Rattle.lh_facts.specs.declared.scope.Scope.{Scope}
+use Rattle.lh_verify_values.specs.declared.scope.Scope.{Scope}
 use Rattle.lh_verify.specs.declared.spots.Spot.{Spot}
 use Rattle.lh_verify.specs.declared.unit.InstFault.{InstFault}
 use Rattle.lh_verify.specs.FirstFound.{is_at, found_or, first_at}

@@ -11,7 +11,7 @@ use Rattle.lh_verify.specs.FirstFound.{FirstIn, LacksFirst, is_at, found_or, fir
 use Rattle.lh_verify.specs.Faults.{has_fault, lowest}
 use Rattle.lh_verify.specs.declared.unit.InstFault.{InstFault}
 use Rattle.lh_verify.specs.declared.spots.Spot.{Spot}
-use Rattle.lh_facts.specs.declared.scope.Scope.{Scope}
+use Rattle.lh_verify_values.specs.declared.scope.Scope.{Scope}
 use Rattle.lh_verify.proofs.Lowest.{IsLowest, of_eight, lowest-some, lowest-none}
 use Rattle.lh_unit.proofs.Lists.{nat_eq-refl, nat_eq-next}
 

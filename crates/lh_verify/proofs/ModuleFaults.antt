@@ -13,7 +13,7 @@ use Rattle.lh_verify.specs.declared.verify.Fault.{Fault}
 use Rattle.lh_verify.specs.FirstFound.{FindsFault, IsFew, unit_sites}
 use Rattle.lh_unit.specs.Placed.{IsItemOf}
 use Rattle.lh_verify.specs.Verifying.{NamesFault, UnitFault, FirstFaultOfUnit, FirstFaultOfItem, ItemBegun, named_fault}
-use Rattle.lh_facts.proofs.KnowingSteps.{take-item}
+use Rattle.lh_verify_values.proofs.KnowingSteps.{take-item}
 use Rattle.lh_unit.proofs.Lists.{drop-item}
 use Rattle.lh_unit.proofs.Placing.{item-within}
 

@@ -13,9 +13,9 @@ use Rattle.lh_unit.specs.declared.inst.PhiEdge.{PhiEdge}
 use Rattle.lh_unit.specs.declared.inst.Inst.{Inst}
 use Rattle.lh_unit.specs.declared.inst.Inst.TheVariants as inst
 use Rattle.lh_verify.specs.OperandTests.{names_nothing, label_is_missing, edge_is_missing, label_is_missing_in, unit_is_missing_in}
-use Rattle.lh_operands.specs.declared.uses.Use.{Use}
-use Rattle.lh_operands.specs.Uses.{use_text, uses_of}
-use Rattle.lh_operands.proofs.UsesText.{uses-text}
+use Rattle.lh_verify_operands.specs.declared.uses.Use.{Use}
+use Rattle.lh_verify_operands.specs.Uses.{use_text, uses_of}
+use Rattle.lh_verify_operands.proofs.UsesText.{uses-text}
 
 edges-missing : (t : UnitText) (es : List EdgeText) → list_any (edge_is_missing t) es ≡ list_any (λ n. not (defines_label n t)) (map (λ (e : EdgeText). e.block) es)
 edges-missing t [] = refl

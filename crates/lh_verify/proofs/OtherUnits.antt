@@ -5,7 +5,7 @@ use Rattle.std.specs.Option.{option_map_or}
 use Rattle.lh_types.specs.Types.{TypeTree, same_type}
 use Rattle.lh_unit.specs.Contents.{ArgText, UnitText, defines_unit}
 use Rattle.lh_unit.specs.Named.{unit_named, is_function}
-use Rattle.lh_names.specs.UnitNames.{is_assert}
+use Rattle.lh_unit_names.specs.UnitNames.{is_assert}
 use Rattle.lh_unit.specs.Naming.{arg_text, kind_text}
 use Rattle.lh_unit.specs.Table.{FitsKind}
 use Rattle.lh_unit.specs.Arena.{Arena, IsArena, unit_text_at, naming, table_at, kind_at, args_at, result_type_at, unit_count, unit_name_at}
@@ -14,8 +14,8 @@ use Rattle.lh_unit.specs.declared.inst.UnitKind.{UnitKind}
 use Rattle.lh_unit.proofs.ById.{defines_unit-by_id, unit_named-by_id}
 use Rattle.lh_verify.specs.OperandTests.{is_function_kind, on_side}
 use Rattle.lh_verify.specs.declared.arguments.Side.TheVariants.{All}
-use Rattle.lh_facts.specs.Facts.{naming_in, sizes_in, items_in}
-use Rattle.lh_facts.specs.declared.scope.Scope.{Scope}
+use Rattle.lh_verify_values.specs.Facts.{naming_in, sizes_in, items_in}
+use Rattle.lh_verify_values.specs.declared.scope.Scope.{Scope}
 
 pub unit-within : (s : Scope) (v : ℕ) → v < (sizes_in s).units → v < unit_count s.module.now
 unfolding sizes_in

@@ -11,15 +11,15 @@ use Rattle.lh_unit.specs.Places.{places}
 use Rattle.lh_unit.specs.WellFormed.{number_of, undefined, wrong_kind, wrong_type, not_here, no_terminator, phi_edges, not_defined, arguments, is_undefined, is_wrong_kind, is_wrong_type, is_asked, has_wrong_kind, has_no_kind, names_wrong_unit, probes_for_signal, result_fits, depends_on_probe}
 use Rattle.lh_unit.specs.declared.inst.UnitKind.{UnitKind}
 use Rattle.lh_unit.specs.declared.inst.Inst.{Inst}
-use Rattle.lh_operands.specs.declared.uses.Use.{Use}
-use Rattle.lh_facts.specs.declared.scope.Scope.{Scope}
+use Rattle.lh_verify_operands.specs.declared.uses.Use.{Use}
+use Rattle.lh_verify_values.specs.declared.scope.Scope.{Scope}
 use Rattle.lh_verify.specs.declared.spots.Spot.{Spot}
 use Rattle.lh_verify.specs.OperandTests.{ends_wrong}
 use Rattle.lh_verify.specs.Faults.{inst_in, text_of, has_fault, first_of, lowest, hides_paths, lowest_of_operands, lowest_of_place}
 use Rattle.lh_verify.specs.PhisById.{phi_is_wrong}
-use Rattle.lh_facts.specs.Facts.{text_in, naming_in, items_in, from_probe}
-use Rattle.lh_operands.specs.Uses.{use_text, uses_of}
-use Rattle.lh_operands.proofs.UsesText.{uses-text}
+use Rattle.lh_verify_values.specs.Facts.{text_in, naming_in, items_in, from_probe}
+use Rattle.lh_verify_operands.specs.Uses.{use_text, uses_of}
+use Rattle.lh_verify_operands.proofs.UsesText.{uses-text}
 
 pub from-probe-is : (t : UnitText) (n : List ℕ) → from_probe t n ≡ depends_on_probe (suc (length (places t))) t n
 unfolding from_probe

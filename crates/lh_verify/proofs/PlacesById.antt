@@ -4,7 +4,7 @@ use Rattle.std.specs.List.{list_any, list_all, fold}
 use Rattle.std.proofs.lemmas.List.Folds.{list_any-append}
 use Rattle.std.proofs.lemmas.List.{map-append}
 use Rattle.lh_unit.specs.Contents.{EdgeText, LineText, BlockText}
-use Rattle.lh_names.specs.Names.{same_name}
+use Rattle.lh_unit_names.specs.Names.{same_name}
 use Rattle.lh_unit.specs.Named.{label_or}
 use Rattle.lh_unit.specs.Places.{has_edge}
 use Rattle.lh_unit.specs.Naming.{Naming, inst_text, edge_text, block_text, label_text}

@@ -23,13 +23,13 @@ use Rattle.lh_unit.specs.declared.inst.Inst.{Inst}
 use Rattle.lh_unit.specs.declared.table.Line.{Line}
 use Rattle.lh_unit.proofs.ById.{defines_value-by_id, arg_named-by_id, inst_giving-by_id}
 use Rattle.lh_unit.proofs.ByIdPlaces.{places-by_id, inst_places-insts}
-use Rattle.lh_facts.specs.declared.scope.Scope.{Scope}
-use Rattle.lh_facts.specs.declared.scope.Fact.{Fact}
-use Rattle.lh_facts.specs.FactsOfUnit.{FactAfter, FactsAfter}
-use Rattle.lh_marks.specs.Marking.{IsProbed, MarksLabels}
+use Rattle.lh_verify_values.specs.declared.scope.Scope.{Scope}
+use Rattle.lh_verify_values.specs.declared.scope.Fact.{Fact}
+use Rattle.lh_verify_values.specs.FactsOfUnit.{FactAfter, FactsAfter}
+use Rattle.lh_verify_labels.specs.Marking.{IsProbed, MarksLabels}
 use Rattle.lh_types.specs.Types.{TypeTree}
-use Rattle.lh_facts.specs.Numbers.{NumbersParams}
-use Rattle.lh_facts.specs.Facts.{IsScope, FactHolds, text_in, naming_in, sizes_in, from_probe}
+use Rattle.lh_verify_values.specs.Numbers.{NumbersParams}
+use Rattle.lh_verify_values.specs.Facts.{IsScope, FactHolds, text_in, naming_in, sizes_in, from_probe}
 use Rattle.lh_unit.proofs.Texts.{ids-within}
 
 length-ids : (k : ℕ) (ls : List Line) → length (ids_from k ls) ≡ length ls

@@ -17,14 +17,14 @@ use Rattle.lh_unit.specs.WellFormed.{FaultKind, number_of, undefined, wrong_kind
 use Rattle.lh_unit.specs.declared.inst.InstId.{InstId}
 use Rattle.lh_unit.specs.declared.inst.Inst.{Inst}
 use Rattle.lh_unit.proofs.ByIdPlaces.{InUnit, places-by_id, inst_place-at}
-use Rattle.lh_facts.specs.declared.scope.Scope.{Scope}
+use Rattle.lh_verify_values.specs.declared.scope.Scope.{Scope}
 use Rattle.lh_verify.specs.declared.spots.Spot.{Spot}
 use Rattle.lh_verify.specs.declared.unit.InstFault.{InstFault}
 use Rattle.lh_verify.specs.FirstFound.{FindsFault, FirstLacks, LacksFirst, is_at, found_or, first_at}
 use Rattle.lh_verify.specs.Faults.{has_fault, lowest, hides_paths, text_of}
 use Rattle.lh_verify.specs.Spots.{spots_of}
 use Rattle.lh_verify.specs.SpotsWithin.{SpotWithin}
-use Rattle.lh_facts.specs.Facts.{text_in, naming_in, items_in}
+use Rattle.lh_verify_values.specs.Facts.{text_in, naming_in, items_in}
 use Rattle.lh_verify.proofs.PlacesById.{spot_of, spots-map, empty-is, phi-is}
 use Rattle.lh_verify.proofs.FirstFaults.{Numbered, AllMatch, FindsAmong, finds, lacking}
 

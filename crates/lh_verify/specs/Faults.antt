@@ -5,11 +5,11 @@ use Rattle.lh_unit.specs.Naming.{inst_text}
 use Rattle.lh_unit.specs.Arena.{inst_at, table_at}
 use Rattle.lh_unit.specs.WellFormed.{FaultKind, undefined, wrong_kind, wrong_type, not_here, no_terminator, phi_edges, not_defined, arguments, is_undefined, is_wrong_kind, is_wrong_type, is_allowed, arguments_differ}
 use Rattle.lh_unit.specs.declared.inst.Inst.{Inst}
-use Rattle.lh_facts.specs.declared.scope.Scope.{Scope}
+use Rattle.lh_verify_values.specs.declared.scope.Scope.{Scope}
 use Rattle.lh_verify.specs.declared.spots.Spot.{Spot}
 use Rattle.lh_verify.specs.OperandTests.{ends_wrong}
 use Rattle.lh_verify.specs.PhisById.{phi_is_wrong, wrong_phi_at}
-use Rattle.lh_facts.specs.Facts.{text_in, naming_in, items_in}
+use Rattle.lh_verify_values.specs.Facts.{text_in, naming_in, items_in}
 
 -- the instruction at a place, and its text
 abbrev pub inst_in : Scope → Spot → Inst

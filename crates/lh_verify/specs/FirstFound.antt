@@ -5,7 +5,7 @@ use Rattle.lh_unit.specs.Within.{Each}
 use Rattle.lh_unit.specs.Places.{InstPlaceText, places}
 use Rattle.lh_unit.specs.WellFormed.{FaultKind, number_of, Site, HasFault, NoneHasFault, has_paths, LacksDefinition}
 use Rattle.lh_unit.specs.declared.inst.InstId.{InstId}
-use Rattle.lh_facts.specs.declared.scope.Scope.{Scope}
+use Rattle.lh_verify_values.specs.declared.scope.Scope.{Scope}
 use Rattle.lh_verify.specs.declared.spots.Spot.{Spot}
 use Rattle.lh_verify.specs.declared.unit.InstFault.{InstFault}
 use Rattle.lh_verify.specs.Faults.{lowest}

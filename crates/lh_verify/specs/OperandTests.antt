@@ -3,7 +3,7 @@ use Rattle.std.specs.Prelude.{ℕ, List, Option, Some, None, Bool, true, false, 
 use Rattle.std.specs.List.{list_any}
 use Rattle.lh_unit.specs.Contents.{EdgeText, InstText, ArgText, UnitText, ItemText, defines_value, defines_label, defines_unit}
 use Rattle.lh_unit.specs.Named.{is_function}
-use Rattle.lh_names.specs.UnitNames.{is_assert}
+use Rattle.lh_unit_names.specs.UnitNames.{is_assert}
 use Rattle.lh_unit.specs.Kinds.{Use}
 use Rattle.lh_unit.specs.declared.inst.UnitKind.{UnitKind}
 use Rattle.lh_unit.specs.Places.{is_terminator}

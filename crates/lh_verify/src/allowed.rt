@@ -7,12 +7,12 @@ ghost use Rattle.lh_unit.specs.TypingRows.{is_signal as test_signal};
 ghost use Rattle.lh_unit.specs.Places.{is_terminator as text_is_terminator};
 ghost use Rattle.lh_unit.specs.WellFormed as spec;
 ghost use Rattle.lh_unit.specs.Naming.{operand_text, inst_text};
-ghost use Rattle.lh_facts.specs.Facts.{naming_in};
+ghost use Rattle.lh_verify_values.specs.Facts.{naming_in};
 ghost use Rattle.lh_verify.specs.OperandTests.{ends_wrong as asks_ends_wrong};
 
-use lh_facts::scope::Scope;
 use lh_types::op::Op;
 use lh_unit::inst::{Inst, Typed, UnitKind};
+use lh_verify_values::scope::Scope;
 
 /// Whether a unit of this kind is a function.
 pub fn in_function(kind: UnitKind) -> bool

@@ -8,15 +8,15 @@ ghost use Rattle.lh_unit.specs.WellFormed as spec;
 ghost use Rattle.lh_unit.specs.WellFormed.{arguments_fit, assert_args};
 ghost use Rattle.lh_unit.specs.TypingRows.{has_type};
 ghost use Rattle.lh_verify.specs.OperandTests.{on_side};
-ghost use Rattle.lh_facts.specs.Numbers.{AreNumbersOf};
-ghost use Rattle.lh_facts.specs.Facts.{IsScope, items_in, text_in, naming_in, sizes_in};
+ghost use Rattle.lh_verify_values.specs.Numbers.{AreNumbersOf};
+ghost use Rattle.lh_verify_values.specs.Facts.{IsScope, items_in, text_in, naming_in, sizes_in};
 
 use crate::units::is_defined;
-use lh_facts::numbers::Numbered;
-use lh_facts::scope::Scope;
 use lh_types::ty::Ty;
-use lh_typing::has_bit;
 use lh_unit::inst::{Arg, Inst, Typed, UnitId, ValueId};
+use lh_verify_types::has_bit;
+use lh_verify_values::numbers::Numbered;
+use lh_verify_values::scope::Scope;
 
 /// The parameters among which an argument stands.
 #[derive(Clone, Copy)]

@@ -5,12 +5,12 @@ ghost use Rattle.lh_unit.specs.Kinds.{takes as takes_kind};
 ghost use Rattle.lh_unit.specs.WellFormed as spec;
 ghost use Rattle.lh_unit.specs.Within.{Each};
 ghost use Rattle.lh_verify.specs.OperandTests.{names_nothing as use_names_nothing};
-ghost use Rattle.lh_operands.specs.Operands.{UseWithin};
-ghost use Rattle.lh_facts.specs.Facts.{IsScope, kind_as, text_in, naming_in, sizes_in};
-ghost use Rattle.lh_operands.specs.Uses.{use_text, need_as};
+ghost use Rattle.lh_verify_operands.specs.Operands.{UseWithin};
+ghost use Rattle.lh_verify_values.specs.Facts.{IsScope, kind_as, text_in, naming_in, sizes_in};
+ghost use Rattle.lh_verify_operands.specs.Uses.{use_text, need_as};
 
-use lh_facts::scope::{Kind, Scope};
-use lh_operands::uses::{Need, Use};
+use lh_verify_operands::uses::{Need, Use};
+use lh_verify_values::scope::{Kind, Scope};
 
 /// Whether a place takes a value of this kind.
 fn takes(need: Need, kind: Kind) -> bool

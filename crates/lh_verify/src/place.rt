@@ -5,10 +5,10 @@ ghost use Rattle.lh_unit.specs.Naming.{inst_text};
 ghost use Rattle.lh_unit.specs.Within.{Each, InstWithin};
 ghost use Rattle.lh_unit.specs.WellFormed as spec;
 ghost use Rattle.lh_unit.specs.WellFormed.{number_of};
-ghost use Rattle.lh_operands.specs.Operands.{UseWithin};
+ghost use Rattle.lh_verify_operands.specs.Operands.{UseWithin};
 ghost use Rattle.lh_verify.specs.PhisById.{phi_is_wrong, wrong_phi_at};
-ghost use Rattle.lh_facts.specs.Facts.{IsScope, HasItsSig, text_in, naming_in, sizes_in, items_in};
-ghost use Rattle.lh_operands.specs.Uses.{uses_of};
+ghost use Rattle.lh_verify_values.specs.Facts.{IsScope, HasItsSig, text_in, naming_in, sizes_in, items_in};
+ghost use Rattle.lh_verify_operands.specs.Uses.{uses_of};
 ghost use Rattle.lh_verify.specs.Faults as faults;
 ghost use Rattle.lh_verify.specs.Faults.{lowest_of_operands, lowest_of_place};
 
@@ -18,11 +18,11 @@ use crate::kinds::{any_has_no_kind, any_has_wrong_kind};
 use crate::spots::Spot;
 use crate::undefined::is_undefined;
 use crate::units::names_function;
-use lh_facts::scope::Scope;
-use lh_operands::uses::{Use, UseList, uses};
 use lh_types::ty::NoMemory;
-use lh_typing::types_fit;
 use lh_unit::inst::Inst;
+use lh_verify_operands::uses::{Use, UseList, uses};
+use lh_verify_types::types_fit;
+use lh_verify_values::scope::Scope;
 use std::alloc::Global;
 
 /// Whether kinds and types are asked: those of a `ret` only in a function.

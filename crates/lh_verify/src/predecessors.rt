@@ -1,17 +1,17 @@
 //! Which blocks have an edge to a label.
 ghost use Rattle.std.specs.Prelude.{◌≡◌, ◌<◌, ◌++◌, ◌∷◌, [], List, length, replicate, IfOk, OnOk};
 ghost use Rattle.lh_unit.specs.Arena.{unit_count, label_count, table_at, blocks_at};
-ghost use Rattle.lh_operands.specs.Leading.{led_to};
+ghost use Rattle.lh_verify_operands.specs.Leading.{led_to};
 ghost use Rattle.lh_unit.specs.Within.{Each};
 ghost use Rattle.lh_unit.specs.declared.inst.BlockId.{BlockId};
 ghost use Rattle.lh_unit.specs.Placed.{IsBlockOf};
 ghost use Rattle.lh_verify.specs.Predecessors.{IsPredecessors, AddsPredecessor};
 
-use lh_operands::successors::{Successors, successors_of};
 use lh_types::list::ListOf;
 use lh_types::ty::NoMemory;
 use lh_unit::inst::{BlockId, UnitId};
 use lh_unit::module::Module;
+use lh_verify_operands::successors::{Successors, successors_of};
 use std::alloc::Global;
 
 /// A list of blocks.

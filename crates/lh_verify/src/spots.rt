@@ -1,5 +1,5 @@
 //! The places of the instructions of a unit, in file order.
-#![tactic(auto, using(lh_operands::proofs::Lists::steps))]
+#![tactic(auto, using(lh_verify_operands::proofs::Lists::steps))]
 
 ghost use Rattle.std.specs.Prelude.{◌≡◌, ◌<◌, ◌++◌, ◌||◌, true, false, IfOk, OnOk};
 ghost use Rattle.lh_unit.specs.Arena.{IsArena, table_at, unit_count, block_insts_at};

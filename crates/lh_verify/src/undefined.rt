@@ -5,18 +5,18 @@ ghost use Rattle.lh_unit.specs.Naming.{edge_text, inst_text};
 ghost use Rattle.lh_unit.specs.Within.{Each, EdgeWithin, InstWithin};
 ghost use Rattle.lh_unit.specs.WellFormed as spec;
 ghost use Rattle.lh_verify.specs.OperandTests.{label_is_missing as name_is_missing, edge_is_missing, label_is_missing_in, unit_is_missing_in};
-ghost use Rattle.lh_operands.specs.Operands.{UseWithin};
-ghost use Rattle.lh_facts.specs.Facts.{IsScope, items_in, text_in, naming_in, sizes_in};
-ghost use Rattle.lh_operands.specs.Uses.{uses_of};
-ghost use Rattle.lh_operands.specs.Leading.{led_to};
+ghost use Rattle.lh_verify_operands.specs.Operands.{UseWithin};
+ghost use Rattle.lh_verify_values.specs.Facts.{IsScope, items_in, text_in, naming_in, sizes_in};
+ghost use Rattle.lh_verify_operands.specs.Uses.{uses_of};
+ghost use Rattle.lh_verify_operands.specs.Leading.{led_to};
 ghost use Rattle.lh_unit.specs.declared.inst.BlockId.{BlockId};
 
 use crate::kinds::any_names_nothing;
 use crate::units::is_missing;
-use lh_facts::scope::Scope;
-use lh_operands::successors::{Successors, successors_of};
-use lh_operands::uses::Use;
 use lh_unit::inst::{BlockId, Inst, PhiEdge};
+use lh_verify_operands::successors::{Successors, successors_of};
+use lh_verify_operands::uses::Use;
+use lh_verify_values::scope::Scope;
 
 /// Whether no block of the unit has a label.
 fn label_is_missing(scope: &Scope<'_>, block: BlockId) -> bool

@@ -8,23 +8,23 @@ ghost use Rattle.lh_verify.specs.FirstFound.{FindsFault, LacksFirst, found_or};
 ghost use Rattle.lh_verify.specs.Faults.{hides_paths as spot_hides_paths};
 ghost use Rattle.lh_verify.specs.PhisById.{wrong_phi_at};
 ghost use Rattle.lh_verify.specs.Spots.{spots_of};
-ghost use Rattle.lh_facts.specs.Numbers.{Grows, NumbersParams};
-ghost use Rattle.lh_facts.specs.Facts.{IsScope, items_in, text_in};
+ghost use Rattle.lh_verify_values.specs.Numbers.{Grows, NumbersParams};
+ghost use Rattle.lh_verify_values.specs.Facts.{IsScope, items_in, text_in};
 ghost use Rattle.lh_verify.specs.SpotsWithin.{SpotWithin};
 
 use crate::phis::wrong_phis;
 use crate::place::{hides_paths, lowest};
 use crate::spots::{Spot, spots};
 use lh_defined::{DefinedFault, defined};
-use lh_facts::facts::facts;
-use lh_facts::numbers::Types;
-use lh_facts::params::NumberList;
-use lh_facts::scope::Scope;
-use lh_marks::labels::labels;
-use lh_marks::probes::probed;
 use lh_types::ty::NoMemory;
 use lh_unit::inst::{InstId, UnitId};
 use lh_unit::module::Module;
+use lh_verify_labels::labels::labels;
+use lh_verify_labels::probes::probed;
+use lh_verify_values::facts::facts;
+use lh_verify_values::numbers::Types;
+use lh_verify_values::params::NumberList;
+use lh_verify_values::scope::Scope;
 use std::alloc::Global;
 
 /// A faulty instruction, and the number of its lowest fault.

@@ -3,13 +3,13 @@ ghost use Rattle.std.specs.Prelude.{◌≡◌, ◌<◌, ◌||◌, not};
 ghost use Rattle.std.specs.Option.{is_some};
 ghost use Rattle.lh_unit.specs.Arena.{IsArena, kind_at};
 ghost use Rattle.lh_unit.specs.Contents.{defines_unit};
-ghost use Rattle.lh_names.specs.UnitNames.{is_assert};
+ghost use Rattle.lh_unit_names.specs.UnitNames.{is_assert};
 ghost use Rattle.lh_unit.specs.WellFormed.{is_function_name};
 ghost use Rattle.lh_verify.specs.OperandTests.{is_function_kind};
-ghost use Rattle.lh_facts.specs.Facts.{IsScope, items_in, naming_in, sizes_in};
+ghost use Rattle.lh_verify_values.specs.Facts.{IsScope, items_in, naming_in, sizes_in};
 
-use lh_facts::scope::Scope;
 use lh_unit::inst::{UnitId, UnitKind};
+use lh_verify_values::scope::Scope;
 
 /// Whether a unit is defined.
 pub fn is_defined(scope: &Scope<'_>, unit: UnitId) -> bool

@@ -4,15 +4,15 @@ ghost use Rattle.lh_unit.specs.Arena.{contents};
 ghost use Rattle.lh_unit.specs.WellFormed.{IsSpelled, IsWellFormed};
 ghost use Rattle.lh_verify.specs.FirstFound.{IsFew};
 ghost use Rattle.lh_unit.specs.Placed.{IsItemOf};
-ghost use Rattle.lh_facts.specs.Numbers.{Grows, NumbersParams};
+ghost use Rattle.lh_verify_values.specs.Numbers.{Grows, NumbersParams};
 ghost use Rattle.lh_verify.specs.Verifying.{Verifies, FirstFaultOf, FirstFaultOfItem, ItemBegun, named_fault};
 
 use crate::unit::{InstFault, first_fault};
-use lh_facts::numbers::Types;
-use lh_facts::params::{NumberList, params};
 use lh_types::ty::NoMemory;
 use lh_unit::inst::{Item, UnitId};
 use lh_unit::module::Module;
+use lh_verify_values::numbers::Types;
+use lh_verify_values::params::{NumberList, params};
 use std::alloc::Global;
 use std::marker::Model;
 use thiserror::Error;

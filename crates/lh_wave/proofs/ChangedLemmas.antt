@@ -6,8 +6,8 @@ use Rattle.std.proofs.Math.ListN.{length-set}
 use Rattle.std.proofs.lemmas.Bool.{cases_eq}
 use Rattle.std.proofs.lemmas.List.{append-nil, drop-set-lt, drop_more, get_or_default, get_or-set_same, get_or-set_other, get_or-map, map-set, set-get_or, length-map, same_lists}
 use Rattle.std.proofs.lemmas.List.Elements.{All-push, Contains-append_left, Contains-push}
-use Rattle.lh_text.specs.Writing.{Written, Writes, Leaves}
-use Rattle.lh_text.proofs.Parts.{all-left, less-left, none-left}
+use Rattle.lh_text_buffer.specs.Writing.{Written, Writes, Leaves}
+use Rattle.lh_text_buffer.proofs.Parts.{all-left, less-left, none-left}
 use Rattle.lh_types.specs.Values.{Datum}
 use Rattle.lh_types.specs.ValueOf.{datum_of}
 use Rattle.lh_types.specs.SameValue.{same_datum}

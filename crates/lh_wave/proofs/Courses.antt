@@ -6,7 +6,7 @@ use Rattle.std.proofs.lemmas.List.{append-nil, length-append, take-append-drop, 
 use Rattle.std.proofs.Math.Seq.{take-append-add, take-append_seam}
 use Rattle.std.proofs.lemmas.List.Folds.{list_any-append}
 use Rattle.std.proofs.Math.Bool.{or_assoc, or-false}
-use Rattle.lh_text.specs.Writing.{Written, Writes, Leaves}
+use Rattle.lh_text_buffer.specs.Writing.{Written, Writes, Leaves}
 use Rattle.lh_types.specs.declared.frame.Outcome.{Outcome}
 use Rattle.lh_types.specs.declared.frame.Frame as frames
 use Rattle.lh_types.specs.Values.{Datum}

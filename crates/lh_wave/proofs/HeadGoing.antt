@@ -1,7 +1,7 @@
 -- The head of a trace while its lines are written, and where that broke off.
 use Rattle.std.proofs.Common.{◌≡◌, ℕ, ◌+◌, ◌<◌, ◌≤◌, List, [], ◌++◌, length, get_or, refl, ap, sym, ◌∙◌, append_assoc, subst, Option}
 use Rattle.std.specs.Prelude.{true, Result, Ok, Err, OnOk, IfErr}
-use Rattle.lh_text.specs.Writing.{Written, Writes}
+use Rattle.lh_text_buffer.specs.Writing.{Written, Writes}
 use Rattle.lh_io.specs.Streams.{Appends, AppendsProperPrefix}
 use Rattle.lh_unit.specs.Trace.{Shown, ShownSignal}
 use Rattle.lh_unit.specs.Arena.{Arena}

@@ -4,8 +4,8 @@ use Rattle.std.specs.Prelude.{Result, Ok, Err, OnOk}
 use Rattle.std.proofs.lemmas.List.{set_past}
 use Rattle.std.specs.declared.vec.Vec.{Vec}
 use Rattle.std.specs.Global.{Global}
-use Rattle.lh_text.specs.Writing.{Written, Writes, Leaves}
-use Rattle.lh_text.proofs.Parts.{all-left}
+use Rattle.lh_text_buffer.specs.Writing.{Written, Writes, Leaves}
+use Rattle.lh_text_buffer.proofs.Parts.{all-left}
 use Rattle.lh_types.specs.Values.{Datum}
 use Rattle.lh_types.specs.ValueOf.{datum_of}
 use Rattle.lh_types.specs.Pictures.{showing_of}

@@ -20,8 +20,8 @@ use Rattle.lh_design.specs.Texts.{design_text, instance_text, signal_text}
 use Rattle.lh_wave.specs.HeadText.{is_parent, children_of, variables_of, variable_line, signals_in, scope_line, upscope_line, scope_text, waveform_head}
 use Rattle.lh_wave.specs.Owned.{parents, owners, owned_by, numbers_of, with_number, AreOwned, variable_at}
 use Rattle.lh_elab.specs.Answer.{IsDesignOf}
-use Rattle.lh_text.specs.Writing.{Written, Writes}
-use Rattle.lh_text.proofs.Parts.{two-written}
+use Rattle.lh_text_buffer.specs.Writing.{Written, Writes}
+use Rattle.lh_text_buffer.proofs.Parts.{two-written}
 use Rattle.lh_wave.proofs.FrameLemmas.{Writing, Writing-next_at}
 
 -- a number in front of a list stays there

@@ -11,7 +11,7 @@ use Rattle.lh_unit.specs.Design.{Signal}
 use Rattle.lh_unit.specs.Trace.{signal_value}
 use Rattle.lh_unit.specs.Frames.{toggled, change_if, changed_from, signal_values}
 use Rattle.lh_wave.specs.Recorded.{changed_values}
-use Rattle.lh_meaning.proofs.ProbesLaw.{number_below}
+use Rattle.lh_trace_laws.proofs.ProbesLaw.{number_below}
 
 -- lists of one length that differ nowhere are the same
 same_bits : (xs ys : List Bool) → length xs ≡ length ys → differing xs ys ≡ 0 → xs ≡ ys

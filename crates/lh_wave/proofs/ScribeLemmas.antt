@@ -1,8 +1,8 @@
 -- The text of a run behind its head, one more frame having come.
 use Rattle.std.proofs.Common.{◌≡◌, ℕ, ◌+◌, List, [], ◌∷◌, ◌++◌, map, refl, ap, sym, ◌∙◌, append_assoc, subst, Option, Some, None}
 use Rattle.std.specs.List.{flat_map}
-use Rattle.lh_text.specs.Writing.{Written, Writes}
-use Rattle.lh_text.proofs.Parts.{all-left}
+use Rattle.lh_text_buffer.specs.Writing.{Written, Writes}
+use Rattle.lh_text_buffer.proofs.Parts.{all-left}
 use Rattle.lh_types.specs.Values.{Datum}
 use Rattle.lh_types.specs.Pictures.{Showing, Picture}
 use Rattle.lh_unit.specs.Trace.{Frame}

@@ -27,7 +27,7 @@ use Rattle.lh_wave.specs.declared.ending.End.{End}
 use Rattle.lh_wave.specs.declared.ending.End.TheVariants.{Quiet, Runaway, Stop}
 use Rattle.lh_wave.specs.ShownRun.{ShownRun, ran_away, unless_stopped, shows_none, shown_behind, stop_at}
 use Rattle.lh_wave.specs.Going.{Going, Went, BrokeOff, IsBehind, IsReached, IsNext, going, shows_one, shown_on, run_on, values_of_last, IsOver, Turned}
-use Rattle.lh_meaning.proofs.TraceLaw.{bits_stay_law}
+use Rattle.lh_trace_laws.proofs.TraceLaw.{bits_stay_law}
 use Rattle.lh_wave.proofs.SameValues.{changes_reach}
 use Rattle.lh_wave.proofs.Courses.{stays_put}
 

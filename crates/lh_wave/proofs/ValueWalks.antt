@@ -2,8 +2,8 @@
 use Rattle.std.proofs.Common.{◌≡◌, ℕ, ◌+◌, ◌<◌, false, List, [], ◌++◌, ◌≤◌, length, get_or, drop, map, refl, ap, sym, ◌∙◌, cond, arith}
 use Rattle.std.specs.Prelude.{codes, nat_eq}
 use Rattle.std.proofs.lemmas.List.{drop_all, length-map}
-use Rattle.lh_text.specs.Writing.{Written, Writes, Leaves}
-use Rattle.lh_text.proofs.Parts.{all-left, less-left, none-left, two-written}
+use Rattle.lh_text_buffer.specs.Writing.{Written, Writes, Leaves}
+use Rattle.lh_text_buffer.proofs.Parts.{all-left, less-left, none-left, two-written}
 use Rattle.lh_types.specs.Values.{Datum, DatumRow, no_values, more_values, data_row}
 use Rattle.lh_types.specs.ValueOf.{datum_of}
 use Rattle.lh_types.specs.declared.val.Val.{Val}

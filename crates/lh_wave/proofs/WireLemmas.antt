@@ -4,8 +4,8 @@ use Rattle.std.specs.Prelude.{codes, reverse, nat_eq}
 use Rattle.std.proofs.lemmas.List.{drop_all, length-map, length-append, reverse-append, map-append}
 use Rattle.std.proofs.lemmas.Bool.Decides.{nat_tests}
 use Rattle.std.proofs.Math.Seq.{take-append_seam, drop-append_seam}
-use Rattle.lh_text.specs.Writing.{Written, Writes, Leaves}
-use Rattle.lh_text.proofs.Parts.{all-left, less-left, none-left, two-written}
+use Rattle.lh_text_buffer.specs.Writing.{Written, Writes, Leaves}
+use Rattle.lh_text_buffer.proofs.Parts.{all-left, less-left, none-left, two-written}
 use Rattle.lh_types.specs.Values.{Datum, data_row}
 use Rattle.lh_types.specs.ValueOf.{datum_of}
 use Rattle.lh_types.specs.Bits.{value_bits, row_bits, number_bits}

@@ -1,7 +1,7 @@
 -- A run while its frames come.
 use Rattle.std.specs.Prelude.{◌≡◌, ◌||◌, ℕ, List, ◌∷◌, ◌++◌, Bool, true, Option, Some, None, map}
 use Rattle.std.specs.List.{flat_map, list_any}
-use Rattle.lh_text.specs.Writing.{Written, Leaves}
+use Rattle.lh_text_buffer.specs.Writing.{Written, Leaves}
 use Rattle.lh_types.specs.Values.{Datum}
 use Rattle.lh_types.specs.Pictures.{Picture}
 use Rattle.lh_io.specs.Streams.{Appends, AppendsProperPrefix}

@@ -1,14 +1,14 @@
 //! The values of the signals that have changed since they were written.
 ghost use Rattle.std.specs.Prelude.{◌≡◌, ◌<◌, ◌⊎◌, [], ℕ, None, Some, IfOk, OnOk, length, map, not, slice_set, All, Contains, if◌then◌else◌};
 ghost use Rattle.std.specs.List.Sorted.{IsNonDecreasing};
-ghost use Rattle.lh_text.specs.Writing.{Writes};
+ghost use Rattle.lh_text_buffer.specs.Writing.{Writes};
 ghost use Rattle.lh_types.specs.ValueOf.{datum_of};
 ghost use Rattle.lh_types.specs.SameValue.{same_datum};
 ghost use Rattle.lh_wave.specs.WaveText.{value_line, differing_lines, any_differs};
 ghost use Rattle.lh_wave.specs.Changed.{IsNoted, HasNone, with_number, present_value, present_values};
 
 use crate::wire::put_wire;
-use lh_text::Text;
+use lh_text_buffer::Text;
 use lh_types::ty::NoMemory;
 use lh_types::val::Val;
 use std::alloc::Global;

@@ -1,9 +1,9 @@
 //! The identifier codes of signals.
 ghost use Rattle.std.specs.Prelude.{◌<◌, ◌+◌, ◌∷◌, []};
-ghost use Rattle.lh_text.specs.Writing.{Writes};
+ghost use Rattle.lh_text_buffer.specs.Writing.{Writes};
 ghost use Rattle.lh_wave.specs.WaveText.{identifier_code};
 
-use lh_text::Text;
+use lh_text_buffer::Text;
 
 // How many bytes a code is made of, from the first one on.
 const BASE: u64 = 94;

@@ -1,9 +1,9 @@
 //! How a run ends, and the last line of its trace.
 ghost use Rattle.std.specs.Prelude.{◌≡◌, ◌++◌, map, codes, decimal};
-ghost use Rattle.lh_text.specs.Writing.{Writes};
+ghost use Rattle.lh_text_buffer.specs.Writing.{Writes};
 ghost use Rattle.lh_wave.specs.EndText.{title_at, end_line};
 
-use lh_text::Text;
+use lh_text_buffer::Text;
 use lh_watch::watcher::Watcher;
 
 /// Why no further frame is shown.

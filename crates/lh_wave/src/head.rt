@@ -1,7 +1,7 @@
 //! The heads of the texts of a run.
 ghost use Rattle.std.specs.Prelude.{◌≡◌, ◌≤◌, ◌<◌, ℕ, IfOk, IfErr, OnOk, IsErrOf, length};
 ghost use Rattle.std.specs.List.{flat_map};
-ghost use Rattle.lh_text.specs.Writing.{Writes};
+ghost use Rattle.lh_text_buffer.specs.Writing.{Writes};
 ghost use Rattle.lh_io.specs.Streams.{Rose, Appends};
 ghost use Rattle.lh_unit.specs.Within.{Each};
 ghost use Rattle.lh_unit.specs.Paths.{shown_in, label_at, path_at};
@@ -19,7 +19,7 @@ use crate::waiting::{pass_on, write_out};
 use lh_design::{Design, Signal};
 use lh_elab::{label_of, path_of};
 use lh_io::stream::Sink;
-use lh_text::Text;
+use lh_text_buffer::Text;
 use lh_types::ty::NoMemory;
 use lh_unit::module::Module;
 use std::alloc::Global;

@@ -1,5 +1,5 @@
 //! The lines of the heads of a trace and of a waveform.
-ghost use Rattle.lh_text.specs.Writing.{Writes};
+ghost use Rattle.lh_text_buffer.specs.Writing.{Writes};
 ghost use Rattle.lh_types.specs.Types.{IsData, bit_count};
 ghost use Rattle.lh_unit.specs.Pieces.{render};
 ghost use Rattle.lh_unit.specs.CanonTypes.{type_pieces};
@@ -7,7 +7,7 @@ ghost use Rattle.lh_wave.specs.HeadText.{signal_line, scope_line, variable_line}
 
 use crate::code::put_code;
 use lh_print::types::put_type;
-use lh_text::Text;
+use lh_text_buffer::Text;
 use lh_types::ty::{Ty, bits};
 
 /// The first line of a waveform: what its times count.

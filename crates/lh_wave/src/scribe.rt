@@ -1,6 +1,6 @@
 //! The text of a run behind its head, as its frames come.
 ghost use Rattle.std.specs.Prelude.{◌≡◌, [], List, Option, None, OnOk, map};
-ghost use Rattle.lh_text.specs.Writing.{Writes};
+ghost use Rattle.lh_text_buffer.specs.Writing.{Writes};
 ghost use Rattle.lh_types.specs.Values.{Datum};
 ghost use Rattle.lh_types.specs.Pictures.{picture};
 ghost use Rattle.lh_unit.specs.Trace as trace;
@@ -10,7 +10,7 @@ use crate::ending::{End, put_end};
 use crate::run::WaveMode;
 use crate::trace::put_frame;
 use crate::waveform::Waveform;
-use lh_text::Text;
+use lh_text_buffer::Text;
 use lh_types::frame::Frame;
 use lh_types::ty::NoMemory;
 use lh_watch::watcher::Watcher;

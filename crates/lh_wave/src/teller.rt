@@ -21,7 +21,7 @@ use crate::waiting::{pass_on, write_out};
 use lh_io::count::Count;
 use lh_io::stream::Sink;
 use lh_kernel::{Sim, SimStep};
-use lh_text::Text;
+use lh_text_buffer::Text;
 use lh_types::frame::{Frame, Outcome};
 use lh_types::tally::Tally;
 use lh_watch::builtin::any_failed;

@@ -1,12 +1,12 @@
 //! The text of a frame of a trace.
 ghost use Rattle.std.specs.Prelude.{◌≡◌, ◌++◌, IfOk, map, codes, if◌then◌else◌};
 ghost use Rattle.std.specs.List.{flat_map};
-ghost use Rattle.lh_text.specs.Writing.{Writes};
+ghost use Rattle.lh_text_buffer.specs.Writing.{Writes};
 ghost use Rattle.lh_types.specs.Pictures.{showing_of, picture};
 ghost use Rattle.lh_wave.specs.TraceText.{instant_line, change_line, outcome_line, frame_text};
 
 use crate::value::{put_moment, put_value};
-use lh_text::Text;
+use lh_text_buffer::Text;
 use lh_time::Instant;
 use lh_types::frame::{Change, Frame, Outcome};
 use lh_types::ty::NoMemory;

@@ -1,11 +1,11 @@
 //! Values as a trace shows them.
 ghost use Rattle.std.specs.Prelude.{◌≡◌, ◌++◌, [], codes, nat_eq, if◌then◌else◌};
-ghost use Rattle.lh_text.specs.Writing.{Writes};
+ghost use Rattle.lh_text_buffer.specs.Writing.{Writes};
 ghost use Rattle.lh_types.specs.Values.{data_row};
 ghost use Rattle.lh_types.specs.ValueOf.{datum_of};
 ghost use Rattle.lh_wave.specs.ValueText.{moment_text, value_text, values_text};
 
-use lh_text::Text;
+use lh_text_buffer::Text;
 use lh_types::val::{Val, ValList};
 
 /// Puts a value at the end of a text: an integer in decimal, an array as `[1, 2]`, a struct as `{1, 2}`.

@@ -6,7 +6,7 @@ ghost use Rattle.lh_wave.specs.Going.{IsPassedOn, StopsShort};
 use crate::run::WaveFault;
 use lh_io::stream::Sink;
 use lh_io::whole::write_all;
-use lh_text::Text;
+use lh_text_buffer::Text;
 
 /// From how much text on what waits is written, in whole lines: a write costs as much as a short frame.
 const PIECE: usize = 16384;

@@ -1,6 +1,6 @@
 //! The waveform of a run, as its frames come.
 ghost use Rattle.std.specs.Prelude.{◌≡◌, ◌∷◌, [], List, OnOk, IfOk, true, map, slice_set, if◌then◌else◌};
-ghost use Rattle.lh_text.specs.Writing.{Writes, Leaves};
+ghost use Rattle.lh_text_buffer.specs.Writing.{Writes, Leaves};
 ghost use Rattle.lh_types.specs.ValueOf.{datum_of};
 ghost use Rattle.lh_types.specs.Pictures.{showing_of, picture};
 ghost use Rattle.lh_wave.specs.WaveText.{WaveMoment, all_lines, dump_at, time_line, waveform_text};
@@ -8,7 +8,7 @@ ghost use Rattle.lh_wave.specs.Recorded.{IsKept, values_now, moment_now, first_m
 
 use crate::changed::Changed;
 use crate::wire::{put_time, put_wire};
-use lh_text::Text;
+use lh_text_buffer::Text;
 use lh_types::frame::{Change, Frame};
 use lh_types::ty::NoMemory;
 use lh_types::val::Val;

@@ -1,6 +1,6 @@
 //! Values and times of a waveform.
 ghost use Rattle.std.specs.Prelude.{◌≢◌, ◌≤◌, ◌≡◌, ◌∷◌, [], map};
-ghost use Rattle.lh_text.specs.Writing.{Writes};
+ghost use Rattle.lh_text_buffer.specs.Writing.{Writes};
 ghost use Rattle.lh_types.specs.Values.{data_row};
 ghost use Rattle.lh_types.specs.ValueOf.{datum_of};
 ghost use Rattle.lh_types.specs.Bits.{value_bits, row_bits, number_bits};
@@ -8,7 +8,7 @@ ghost use Rattle.lh_wave.specs.WaveText.{bit_byte, marked_bits, value_line, time
 
 use crate::code::put_code;
 use crate::digits::digits_of;
-use lh_text::Text;
+use lh_text_buffer::Text;
 use lh_types::val::{Val, ValList};
 
 /// Puts the line of a signal's value at the end of a text: of one bit that bit, of more a `b`, all bits,

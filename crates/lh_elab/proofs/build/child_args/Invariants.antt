@@ -1,5 +1,5 @@
 use Rattle.std.proofs.Common.{◌≡◌, map, take}
-use Rattle.lh_plan.specs.Plans.{low_at}
+use Rattle.lh_elab_plan.specs.Plans.{low_at}
 use Rattle.lh_elab.specs.Builds.{ranges_by}
 use Rattle.lh_elab.proofs.build.child_args.Given as goal
 

@@ -3,11 +3,11 @@ use Rattle.std.proofs.lemmas.Result.{err_from_is_err_and}
 use Rattle.lh_unit.specs.Arena.{contents, unit_text_at}
 use Rattle.lh_unit.specs.Hierarchy.{hierarchies}
 use Rattle.lh_unit.specs.Within.{Each}
-use Rattle.lh_sound.specs.Units.{IsPort}
-use Rattle.lh_sound.proofs.FitLaws.{unit-is-sound}
+use Rattle.lh_eval_laws.specs.Units.{IsPort}
+use Rattle.lh_eval_laws.proofs.FitLaws.{unit-is-sound}
 use Rattle.lh_elab.specs.declared.build.Building.{Building}
 use Rattle.lh_elab.specs.declared.build.Pending.{Pending}
-use Rattle.lh_plan.specs.Plans.{IsPlan}
+use Rattle.lh_elab_plan.specs.Plans.{IsPlan}
 use Rattle.lh_elab.proofs.ByName.{reads}
 use Rattle.lh_elab.proofs.Elaborating.{top-ports, top-fits, starts, ends, built-is, refuses, final}
 use Rattle.lh_elab.proofs.Underway.{Popped, next-fits, few-instances, has-room, children-low, falls, goes-on}

@@ -1,6 +1,6 @@
 use Rattle.std.proofs.Common.{ℕ, ◌<◌, [], ◌∷◌, ◌++◌, length, subst}
 use Rattle.lh_unit.specs.Within.{Each}
-use Rattle.lh_formed.proofs.EachItem.{each-split}
+use Rattle.lh_verify_laws.proofs.EachItem.{each-split}
 use Rattle.lh_elab.specs.Climbing.{dotted}
 use Rattle.lh_elab.proofs.Labels.{shown, down}
 use Rattle.lh_elab.proofs.paths.put_below.Goals as goal

@@ -1,6 +1,6 @@
 use Rattle.std.proofs.Common.{◌≡◌, List, [], ◌∷◌, ◌++◌, get_or, append_assoc, ap, sym, ◌∙◌}
 use Rattle.std.specs.Prelude.{decimal}
-use Rattle.lh_names.specs.declared.name.UnitName.{UnitName}
+use Rattle.lh_unit_names.specs.declared.name.UnitName.{UnitName}
 use Rattle.lh_eval.specs.declared.instance.Instance.{Instance}
 use Rattle.lh_elab.proofs.Labels.{label-alone, label-numbered}
 use Rattle.lh_elab.proofs.paths.put_label.Goals as goal

@@ -5,9 +5,9 @@ use Rattle.lh_unit.specs.Arena.{naming, table_at, kind_at, unit_text_at}
 use Rattle.lh_unit.specs.ById.{inst_line_text}
 use Rattle.lh_unit.specs.Hierarchy.{static_held, probed_parts}
 use Rattle.lh_elab.specs.declared.probes.Probe.{Probe}
-use Rattle.lh_plan.specs.Plans.{AreRangesOf}
+use Rattle.lh_elab_plan.specs.Plans.{AreRangesOf}
 use Rattle.lh_elab.specs.Probed.{above, probed_in}
-use Rattle.lh_plan.proofs.PlanSteps.{insts-in}
+use Rattle.lh_elab_plan.proofs.PlanSteps.{insts-in}
 use Rattle.lh_elab.proofs.Probing.{entity-probes, in-each}
 use Rattle.lh_elab.proofs.probes.entity_probes.Goals as goal
 

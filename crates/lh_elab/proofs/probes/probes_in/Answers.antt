@@ -5,8 +5,8 @@ use Rattle.lh_unit.specs.Naming.{inst_text}
 use Rattle.lh_unit.specs.declared.inst.Inst.{Inst}
 use Rattle.lh_unit.specs.declared.inst.InstId.{InstId}
 use Rattle.lh_elab.specs.Probed.{above}
-use Rattle.lh_formed.proofs.EachItem.{each-rest}
-use Rattle.lh_plan.proofs.StaticSteps.{line_in}
+use Rattle.lh_verify_laws.proofs.EachItem.{each-rest}
+use Rattle.lh_elab_plan.proofs.StaticSteps.{line_in}
 use Rattle.lh_elab.proofs.Probing.{more-probes, all-probes}
 use Rattle.lh_elab.proofs.probes.probes_in.Goals as goal
 

@@ -6,8 +6,8 @@ use Rattle.lh_unit.specs.Hierarchy.{probed_parts}
 use Rattle.lh_unit.specs.Within.{Each}
 use Rattle.lh_unit.specs.declared.inst.InstId.{InstId}
 use Rattle.lh_elab.specs.Probed.{above}
-use Rattle.lh_plan.specs.Statics.{by_of, StaticsFollow}
-use Rattle.lh_plan.proofs.StaticSteps.{line_in}
+use Rattle.lh_elab_plan.specs.Statics.{by_of, StaticsFollow}
+use Rattle.lh_elab_plan.proofs.StaticSteps.{line_in}
 use Rattle.lh_elab.proofs.probes.probes_in.Given as goal
 
 abbrev pub invariant-loop-inst : goal.invariant-loop-inst

@@ -1,5 +1,5 @@
 use Rattle.std.proofs.Common.{sym, subst}
-use Rattle.lh_descent.specs.Measures.{NodesWithin}
+use Rattle.lh_unit_graph.specs.Measures.{NodesWithin}
 use Rattle.lh_elab.specs.Measures.{measuring}
 use Rattle.lh_elab.specs.Graph.{IsGraph}
 use Rattle.lh_elab.proofs.Placed.{found-within}

@@ -4,7 +4,7 @@ use Rattle.lh_types.specs.Faults.{array_fault}
 use Rattle.lh_term.specs.Arena.{trees, tree_at}
 use Rattle.lh_emit.proofs.Composing.{chosen-made}
 use Rattle.lh_emit.proofs.making.chosen.Goals as goal
-use Rattle.lh_emission.proofs.Pairs.{pair-typed}
+use Rattle.lh_emit_def.proofs.Pairs.{pair-typed}
 
 pub op-requires-clause-fits : goal.op-requires-clause-fits
 op-requires-clause-fits c =

@@ -2,7 +2,7 @@ use Rattle.std.proofs.Common.{List, length, sym, subst}
 use Rattle.lh_types.specs.declared.part.Range.{Range}
 use Rattle.lh_unit.specs.Activation.{activate}
 use Rattle.lh_unit.specs.Arena.{unit_text_at}
-use Rattle.lh_sound.specs.Ranges.{RangesFit, arg_types}
+use Rattle.lh_eval_laws.specs.Ranges.{RangesFit, arg_types}
 use Rattle.lh_exec.specs.Standing.{scene_of}
 use Rattle.lh_exec.specs.States.{StandsForState, ActivationOrRunaway}
 use Rattle.lh_exec.proofs.process.activate.Goals as goal

@@ -1,6 +1,6 @@
 use Rattle.std.proofs.Common.{ℕ, ◌<◌}
 use Rattle.lh_unit.specs.Arena.{label_name_at}
-use Rattle.lh_names.specs.Names.{IsName}
+use Rattle.lh_unit_names.specs.Names.{IsName}
 use Rattle.lh_flat.proofs.named.read_labels.Given as goal
 
 abbrev pub invariant-loop-label : goal.invariant-loop-label

@@ -1,7 +1,7 @@
 use Rattle.std.proofs.Common.{length, refl, ◌+◌, Vec, take, sym, subst}
 use Rattle.std.proofs.lemmas.Option.{slice_get_read, slice_get_within}
 use Rattle.std.specs.Global.{Global}
-use Rattle.lh_states.specs.declared.state.InstState.{InstState}
+use Rattle.lh_kernel_states.specs.declared.state.InstState.{InstState}
 use Rattle.lh_unit.proofs.Lists.{Each-item}
 use Rattle.lh_kernel.specs.Moves.{IsMove, SensesFit, SensesAsBefore}
 use Rattle.lh_kernel.specs.declared.noted.Move.{Move}

@@ -1,5 +1,5 @@
 use Rattle.std.proofs.Common.{List, length, refl, sym, subst}
-use Rattle.lh_states.specs.declared.state.InstState.{InstState}
+use Rattle.lh_kernel_states.specs.declared.state.InstState.{InstState}
 use Rattle.lh_kernel.specs.States.{StatesFit}
 use Rattle.lh_kernel.specs.Phases.{awake_in}
 use Rattle.lh_kernel.proofs.Next.{none_by, some_by}

@@ -1,7 +1,7 @@
 use Rattle.std.proofs.Common.{arith, length, ap, List, sym, subst}
 use Rattle.lh_types.specs.declared.part.Range.{Range}
 use Rattle.lh_elab.specs.Probed.{AreProbes}
-use Rattle.lh_states.specs.declared.state.InstState.{InstState}
+use Rattle.lh_kernel_states.specs.declared.state.InstState.{InstState}
 use Rattle.lh_kernel.specs.Noted.{SensedWithin, IsNotedFor}
 use Rattle.lh_kernel.proofs.Places.{as_many}
 use Rattle.lh_kernel.proofs.Starting.{sensed_within}

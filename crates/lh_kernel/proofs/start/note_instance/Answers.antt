@@ -2,7 +2,7 @@ use Rattle.std.proofs.Common.{List, length, Option, sym, subst}
 use Rattle.lh_time.specs.declared.Instant.{Instant}
 use Rattle.lh_types.specs.declared.part.Range.{Range}
 use Rattle.lh_unit.specs.World.{bit_numbers}
-use Rattle.lh_change.specs.Touched.{AreTouched, AreWithin}
+use Rattle.lh_kernel_changes.specs.Touched.{AreTouched, AreWithin}
 use Rattle.lh_kernel.specs.Noting.{HasNoted}
 use Rattle.lh_kernel.proofs.Starting.{touched_known}
 use Rattle.lh_kernel.proofs.start.note_instance.Goals as goal

@@ -1,5 +1,5 @@
 use Rattle.std.proofs.Common.{arith, length, ap}
-use Rattle.lh_change.proofs.Filled.{many_le}
+use Rattle.lh_kernel_changes.proofs.Filled.{many_le}
 use Rattle.lh_kernel.proofs.start.signal_count.Goals as goal
 
 pub overflow_cast-result : goal.overflow_cast-result

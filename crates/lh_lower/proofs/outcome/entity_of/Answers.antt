@@ -1,6 +1,6 @@
 use Rattle.std.proofs.Common.{sym, subst}
 use Rattle.lh_shape.specs.declared.kinds.Shape.{Shape}
-use Rattle.lh_lowered.specs.declared.report.Kind.TheVariants as kind
+use Rattle.lh_lower_def.specs.declared.report.Kind.TheVariants as kind
 use Rattle.lh_lower.specs.Outcomes.{IsOutcomeOf, IsOutcomeWith}
 use Rattle.lh_lower.proofs.Outcomes.{if-ok, comb-of, edge-of, once-of}
 use Rattle.lh_lower.proofs.outcome.entity_of.Goals as goal

@@ -1,4 +1,4 @@
-use Rattle.lh_walk.proofs.HavingSteps.{has-steps}
+use Rattle.lh_region_walk.proofs.HavingSteps.{has-steps}
 use Rattle.lh_lower.specs.Outcomes.{IsOutcomeOf, IsOutcomeBy}
 use Rattle.lh_lower.proofs.Outcomes.{if-ok}
 use Rattle.lh_lower.proofs.OfModule.{can-emit-made, outcome-made}

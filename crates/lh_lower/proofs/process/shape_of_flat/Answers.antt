@@ -1,6 +1,6 @@
 use Rattle.lh_term.proofs.Swaps.{grows_on}
 use Rattle.lh_flat.specs.Reads.{flat_text}
-use Rattle.lh_rows.specs.Regions.{regions_of}
+use Rattle.lh_region_def.specs.Regions.{regions_of}
 use Rattle.lh_lower.proofs.Flats.{by-regions}
 use Rattle.lh_lower.proofs.Outcomes.{if-ok}
 use Rattle.lh_lower.proofs.process.shape_of_flat.Goals as goal

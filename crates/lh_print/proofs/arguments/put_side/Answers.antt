@@ -1,13 +1,13 @@
 use Rattle.std.proofs.Common.{◌+◌, ◌++◌, drop, map, ap, sym, subst, ◌∙◌}
 use Rattle.std.proofs.lemmas.List.{at_drop_all}
-use Rattle.lh_text.specs.Writing.{Writes}
+use Rattle.lh_text_buffer.specs.Writing.{Writes}
 use Rattle.lh_unit.specs.Arena.{naming, value_count}
 use Rattle.lh_unit.specs.Naming.{arg_text}
 use Rattle.lh_unit.specs.Pieces.{render}
 use Rattle.lh_unit.specs.Canon.{argument, side_of}
 use Rattle.lh_unit.proofs.Lists.{drop-item}
 use Rattle.lh_unit.proofs.Placing.{args-item}
-use Rattle.lh_text.proofs.Parts.{all-left, none-left}
+use Rattle.lh_text_buffer.proofs.Parts.{all-left, none-left}
 use Rattle.lh_print.proofs.Joined.{in_row, in_row-first, row_step, row_same}
 use Rattle.lh_print.proofs.Sides.{side_of-here, side_of-other}
 use Rattle.lh_print.proofs.arguments.put_side.Goals as goal

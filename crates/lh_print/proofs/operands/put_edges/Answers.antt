@@ -6,7 +6,7 @@ use Rattle.lh_unit.specs.Within.{EdgeWithin}
 use Rattle.lh_unit.specs.Canon.{edge}
 use Rattle.lh_unit.specs.declared.inst.PhiEdge.{PhiEdge}
 use Rattle.lh_unit.proofs.Lists.{Each-at}
-use Rattle.lh_text.proofs.Parts.{all-left, none-left}
+use Rattle.lh_text_buffer.proofs.Parts.{all-left, none-left}
 use Rattle.lh_print.proofs.Joined.{in_row, in_row-first, row_step}
 use Rattle.lh_print.proofs.operands.put_edges.Goals as goal
 

@@ -1,5 +1,5 @@
 use Rattle.std.proofs.Common.{drop, map}
-use Rattle.lh_text.specs.Writing.{Leaves}
+use Rattle.lh_text_buffer.specs.Writing.{Leaves}
 use Rattle.lh_unit.specs.Arena.{naming}
 use Rattle.lh_unit.specs.Naming.{edge_text}
 use Rattle.lh_unit.specs.Pieces.{render, commas}

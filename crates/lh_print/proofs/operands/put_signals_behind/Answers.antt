@@ -1,6 +1,6 @@
 use Rattle.std.proofs.Common.{◌∷◌, map, ap, sym, subst, get_or}
 use Rattle.std.proofs.lemmas.List.{append-nil, drop_more}
-use Rattle.lh_text.specs.Writing.{Writes}
+use Rattle.lh_text_buffer.specs.Writing.{Writes}
 use Rattle.lh_unit.specs.Arena.{naming, sizes}
 use Rattle.lh_unit.specs.Naming.{value_text}
 use Rattle.lh_unit.specs.Within.{ValueWithin}

@@ -8,7 +8,7 @@ use Rattle.lh_unit.specs.Canon.{trigger}
 use Rattle.lh_unit.specs.declared.inst.Mode.TheVariants as mode
 use Rattle.lh_unit.specs.declared.inst.RegTrigger.{RegTrigger}
 use Rattle.lh_unit.proofs.Lists.{Each-at}
-use Rattle.lh_text.proofs.Parts.{none-left}
+use Rattle.lh_text_buffer.proofs.Parts.{none-left}
 use Rattle.lh_print.proofs.Joined.{behind_step}
 use Rattle.lh_print.proofs.operands.put_triggers_behind.Goals as goal
 

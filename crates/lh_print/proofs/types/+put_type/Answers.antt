@@ -4,7 +4,7 @@ use Rattle.lh_types.specs.Types.{row_of, node_count, node_count_row}
 use Rattle.lh_types.proofs.Rows.{node_count-get_or}
 use Rattle.lh_unit.specs.CanonTypes.{type_pieces}
 use Rattle.lh_unit.proofs.Lists.{drop-item}
-use Rattle.lh_text.proofs.Parts.{all-left, none-left, two-written}
+use Rattle.lh_text_buffer.proofs.Parts.{all-left, none-left, two-written}
 use Rattle.lh_print.proofs.Joined.{in_row, in_row-types, row_step}
 use Rattle.lh_print.proofs.types.+put_type.Goals as goal
 

@@ -1,5 +1,5 @@
 use Rattle.std.proofs.Common.{drop, map}
-use Rattle.lh_text.specs.Writing.{Leaves}
+use Rattle.lh_text_buffer.specs.Writing.{Leaves}
 use Rattle.lh_types.specs.Types.{row_of, node_count, node_count_row}
 use Rattle.lh_unit.specs.Pieces.{render}
 use Rattle.lh_unit.specs.CanonTypes.{type_pieces, row_pieces}

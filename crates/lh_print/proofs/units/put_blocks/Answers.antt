@@ -5,7 +5,7 @@ use Rattle.lh_unit.specs.Canon.{block_lines, blocks_lines, text_of}
 use Rattle.std.proofs.lemmas.List.{drop_more, at_drop_all}
 use Rattle.lh_unit.specs.Placed.{IsBlockOf}
 use Rattle.lh_unit.proofs.Lists.{Each-at}
-use Rattle.lh_text.proofs.Parts.{none-left}
+use Rattle.lh_text_buffer.proofs.Parts.{none-left}
 use Rattle.lh_print.proofs.Joined.{line_step}
 use Rattle.lh_print.proofs.units.put_blocks.Goals as goal
 

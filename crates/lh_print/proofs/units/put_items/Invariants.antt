@@ -1,5 +1,5 @@
 use Rattle.std.proofs.Common.{◌≡◌, drop, map}
-use Rattle.lh_text.specs.Writing.{Leaves}
+use Rattle.lh_text_buffer.specs.Writing.{Leaves}
 use Rattle.lh_unit.specs.Arena.{item_text_at, contents}
 use Rattle.lh_unit.specs.Canon.{canon}
 use Rattle.lh_print.proofs.units.put_items.Given as goal

@@ -7,7 +7,7 @@ use Rattle.lh_unit.specs.Canon.{canon_inst_line, text_of}
 use Rattle.lh_unit.specs.Placed.{IsInstOf}
 use Rattle.lh_unit.specs.declared.inst.InstId.{InstId}
 use Rattle.lh_unit.proofs.Lists.{Each-at}
-use Rattle.lh_text.proofs.Parts.{none-left}
+use Rattle.lh_text_buffer.proofs.Parts.{none-left}
 use Rattle.lh_print.proofs.Joined.{line_step}
 use Rattle.lh_print.proofs.units.put_lines.Goals as goal
 

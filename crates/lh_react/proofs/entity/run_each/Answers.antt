@@ -11,7 +11,7 @@ use Rattle.lh_eval.specs.Sound.{InstIsSound}
 use Rattle.lh_eval.specs.WishOf.{writes_wish}
 use Rattle.lh_react.specs.Standing.{StandsForPass, line_in, passed_all, trigger_count, MemoryFits}
 use Rattle.lh_eval.proofs.BeginSteps.{entity-insts, entity-lines}
-use Rattle.lh_sound.proofs.FitLaws.{unit-is-sound, begins-fit}
+use Rattle.lh_eval_laws.proofs.FitLaws.{unit-is-sound, begins-fit}
 use Rattle.lh_eval.specs.Wishing.{WishWithin}
 use Rattle.lh_eval.proofs.Wishing.{writes-within}
 use Rattle.lh_react.proofs.PassFits.{pass-seen, pass-within}

@@ -9,7 +9,7 @@ use Rattle.lh_react.specs.declared.triggers.TriggerBit.{TriggerBit}
 use Rattle.lh_react.specs.Resting.{NoneFires, IsQuiet}
 use Rattle.lh_react.specs.TriggerBits.{TriggersFit}
 use Rattle.lh_react.proofs.PassFits.{pass-seen}
-use Rattle.lh_sound.proofs.FindingPass.{passes-find}
+use Rattle.lh_eval_laws.proofs.FindingPass.{passes-find}
 use Rattle.lh_react.specs.Quiet.{begins_with, IsStill}
 use Rattle.lh_react.proofs.ProbedBits.{firsts}
 use Rattle.lh_react.proofs.AtRest.{rests-as-known}

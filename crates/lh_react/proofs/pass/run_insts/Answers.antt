@@ -3,7 +3,7 @@ use Rattle.lh_unit.specs.Arena.{inst_count, unit_text_at}
 use Rattle.lh_unit.specs.declared.inst.InstId.{InstId}
 use Rattle.lh_eval.specs.Sound.{InstIsSound}
 use Rattle.lh_react.specs.Standing.{line_in}
-use Rattle.lh_formed.proofs.EachItem.{each-rest}
+use Rattle.lh_verify_laws.proofs.EachItem.{each-rest}
 use Rattle.lh_react.proofs.InstsSteps.{more-fit, goes-on, ends}
 use Rattle.lh_react.proofs.pass.run_insts.Goals as goal
 

@@ -1,5 +1,5 @@
 use Rattle.std.proofs.Common.{map, take}
-use Rattle.lh_phrase.specs.SyntaxOf.{edge_of}
+use Rattle.lh_read_phrases.specs.SyntaxOf.{edge_of}
 use Rattle.lh_read.specs.Placing.{EdgesPlaced}
 use Rattle.lh_read.proofs.ids.edges.Given as goal
 

@@ -1,4 +1,4 @@
-use Rattle.lh_phrase.specs.SyntaxOf.{operand_of}
+use Rattle.lh_read_phrases.specs.SyntaxOf.{operand_of}
 use Rattle.lh_read.proofs.Lists.{operands-keep, next-taken}
 use Rattle.lh_read.proofs.ids.operands.Goals as goal
 

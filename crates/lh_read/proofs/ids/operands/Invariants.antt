@@ -1,6 +1,6 @@
 use Rattle.std.proofs.Common.{◌≡◌, List, ◌++◌, map}
 use Rattle.lh_unit.specs.Contents.{OperandText}
-use Rattle.lh_phrase.specs.SyntaxOf.{operand_of}
+use Rattle.lh_read_phrases.specs.SyntaxOf.{operand_of}
 use Rattle.lh_read.specs.Placing.{OperandsPlaced}
 use Rattle.lh_read.proofs.ids.operands.Given as goal
 

@@ -1,5 +1,5 @@
 use Rattle.std.proofs.Common.{map, take}
-use Rattle.lh_phrase.specs.SyntaxOf.{trigger_of}
+use Rattle.lh_read_phrases.specs.SyntaxOf.{trigger_of}
 use Rattle.lh_read.proofs.Lists.{triggers-keep, next_said, next-placed}
 use Rattle.lh_read.proofs.ids.triggers.Goals as goal
 

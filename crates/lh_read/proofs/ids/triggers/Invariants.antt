@@ -1,5 +1,5 @@
 use Rattle.std.proofs.Common.{map, take}
-use Rattle.lh_phrase.specs.SyntaxOf.{trigger_of}
+use Rattle.lh_read_phrases.specs.SyntaxOf.{trigger_of}
 use Rattle.lh_read.specs.Placing.{TriggersPlaced}
 use Rattle.lh_read.proofs.ids.triggers.Given as goal
 

@@ -3,7 +3,7 @@ use Rattle.lh_unit.specs.Contents.{InstText, reg_text, phi_text, wait_text}
 use Rattle.lh_unit.specs.Arena.{Arena}
 use Rattle.lh_unit.specs.declared.inst.UnitId.{UnitId}
 use Rattle.lh_unit.specs.declared.inst.Inst.{Inst}
-use Rattle.lh_phrase.specs.SyntaxOf.{operand_of, trigger_of, edge_of, inst_of}
+use Rattle.lh_read_phrases.specs.SyntaxOf.{operand_of, trigger_of, edge_of, inst_of}
 use Rattle.lh_read.specs.Placing.{InstPlacedAs}
 use Rattle.lh_read.proofs.insts.any_instruction.Goals as goal
 

@@ -1,5 +1,5 @@
-use Rattle.lh_scan.specs.LexemeOf.{unit_name_of}
-use Rattle.lh_phrase.specs.SyntaxOf.{operands_of}
+use Rattle.lh_read_pieces.specs.LexemeOf.{unit_name_of}
+use Rattle.lh_read_phrases.specs.SyntaxOf.{operands_of}
 use Rattle.lh_read.proofs.Lists.{child-placed}
 use Rattle.lh_read.proofs.insts.child.Goals as goal
 

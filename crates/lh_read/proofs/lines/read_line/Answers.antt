@@ -1,6 +1,6 @@
 use Rattle.std.proofs.Common.{Err, ap}
 use Rattle.std.proofs.lemmas.Result.{err_from_is_err_and}
-use Rattle.lh_phrase.specs.SyntaxOf.{item_of}
+use Rattle.lh_read_phrases.specs.SyntaxOf.{item_of}
 use Rattle.lh_read.specs.InOrder.{state_of}
 use Rattle.lh_read.proofs.Progress.{line-steps, line-unspelled}
 use Rattle.lh_read.proofs.lines.read_line.Goals as goal

@@ -1,6 +1,6 @@
 use Rattle.std.proofs.Common.{map, Ok, Err, subst}
 use Rattle.lh_unit.specs.Spells.{input_of, output_of}
-use Rattle.lh_phrase.specs.SyntaxOf.{ports_of}
+use Rattle.lh_read_phrases.specs.SyntaxOf.{ports_of}
 use Rattle.lh_read.specs.Building.{AddsArgs}
 use Rattle.lh_read.proofs.Args.{adds-err, adds-both, adds-first, adds-begun}
 use Rattle.lh_read.proofs.units.add_ports.Goals as goal

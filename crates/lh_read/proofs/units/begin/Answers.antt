@@ -1,4 +1,4 @@
-use Rattle.lh_scan.specs.LexemeOf.{unit_name_of}
+use Rattle.lh_read_pieces.specs.LexemeOf.{unit_name_of}
 use Rattle.lh_read.proofs.Args.{unit-begun}
 use Rattle.lh_read.proofs.units.begin.Goals as goal
 

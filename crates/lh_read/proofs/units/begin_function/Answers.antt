@@ -1,7 +1,7 @@
 use Rattle.std.proofs.Common.{map, Some}
 use Rattle.lh_unit.specs.Spells.{input_of}
 use Rattle.lh_unit.specs.declared.inst.UnitKind.TheVariants as kind
-use Rattle.lh_scan.specs.LexemeOf.{unit_name_of}
+use Rattle.lh_read_pieces.specs.LexemeOf.{unit_name_of}
 use Rattle.lh_read.proofs.Args.{begun-open, heads-function, heads-err, heads-passed, is_function}
 use Rattle.lh_read.proofs.units.begin_function.Goals as goal
 

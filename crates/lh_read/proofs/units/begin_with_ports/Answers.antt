@@ -1,6 +1,6 @@
 use Rattle.std.proofs.Common.{None}
-use Rattle.lh_scan.specs.LexemeOf.{unit_name_of}
-use Rattle.lh_phrase.specs.SyntaxOf.{ports_of}
+use Rattle.lh_read_pieces.specs.LexemeOf.{unit_name_of}
+use Rattle.lh_read_phrases.specs.SyntaxOf.{ports_of}
 use Rattle.lh_read.proofs.Args.{begun-open, heads-ok, heads-err, heads-passed}
 use Rattle.lh_read.proofs.units.begin_with_ports.Goals as goal
 

@@ -1,5 +1,5 @@
 use Rattle.lh_term.proofs.Swaps.{grows_on}
-use Rattle.lh_joins.proofs.Conditions.{grows-none, condition-grown}
+use Rattle.lh_region_joins.proofs.Conditions.{grows-none, condition-grown}
 use Rattle.lh_region.proofs.Branching.{test-asked, test-condition, still-grown, and-made}
 use Rattle.lh_region.proofs.branch.and_at.Goals as goal
 

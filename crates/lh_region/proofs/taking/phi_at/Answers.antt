@@ -2,11 +2,11 @@ use Rattle.std.proofs.Common.{◌<◌, ◌∙◌, ℕ, List, ap, sym, subst}
 use Rattle.lh_term.specs.declared.term.TermId.{TermId}
 use Rattle.lh_term.proofs.Swaps.{grows_on}
 use Rattle.lh_region.specs.declared.taking.PlaceValue.{PlaceValue}
-use Rattle.lh_places.specs.Asked.{edges_at, IsJoin, CanJoin, IsJoined}
+use Rattle.lh_region_places.specs.Asked.{edges_at, IsJoin, CanJoin, IsJoined}
 use Rattle.lh_region.specs.Taken.{phi_asks, NamesEach, CanAskAll, AreTold, StillToldAll}
-use Rattle.lh_places.proofs.Placing.{same-length}
-use Rattle.lh_places.proofs.Telling.{selected-same}
-use Rattle.lh_joins.proofs.Conditions.{grows-none}
+use Rattle.lh_region_places.proofs.Placing.{same-length}
+use Rattle.lh_region_places.proofs.Telling.{selected-same}
+use Rattle.lh_region_joins.proofs.Conditions.{grows-none}
 use Rattle.lh_region.proofs.Phiing.{phi-asked, phi-joins, phi-merged, phi-still}
 use Rattle.lh_region.proofs.taking.phi_at.Goals as goal
 

@@ -1,10 +1,10 @@
 use Rattle.std.proofs.Common.{◌≡◌, ◌∙◌, ◌∷◌, ◌-◌, List, true, false, length, take, drop, refl, sym, ap, subst, arith}
 use Rattle.std.proofs.lemmas.Grind.{common_steps}
-use Rattle.lh_cover.specs.Runs.{IsCover}
-use Rattle.lh_rows.specs.Regions as texts
+use Rattle.lh_term_cover.specs.Runs.{IsCover}
+use Rattle.lh_region_def.specs.Regions as texts
 use Rattle.lh_region.specs.declared.rows.EndRow.{EndRow}
 use Rattle.lh_region.specs.Stands.{way_text}
-use Rattle.lh_places.proofs.Telling.{head-tail}
+use Rattle.lh_region_places.proofs.Telling.{head-tail}
 use Rattle.lh_region.proofs.Targeting.{first_way, alike-first, alike-end, first-is, answer-is}
 use Rattle.lh_region.proofs.target.one_target.Goals as goal
 

@@ -1,7 +1,7 @@
 use Rattle.lh_unit.specs.Arena.{contents}
-use Rattle.lh_outcome.specs.declared.status.Status.TheVariants.{Done}
-use Rattle.lh_outcome.proofs.Lowerings.{Carries-lowered}
-use Rattle.lh_outcome.proofs.Simulations.{Carries-canon}
+use Rattle.lh_result.specs.declared.status.Status.TheVariants.{Done}
+use Rattle.lh_result.proofs.Lowerings.{Carries-lowered}
+use Rattle.lh_result.proofs.Simulations.{Carries-canon}
 use Rattle.lh_run.proofs.command.carry_out.Goals as goal
 
 pub returns-in-Ok-clause-carries : goal.returns-in-Ok-clause-carries

@@ -1,7 +1,7 @@
 use Rattle.std.proofs.lemmas.Result.{IfOk-weaker}
 use Rattle.lh_unit.specs.Arena.{contents}
-use Rattle.lh_lowered.specs.Lowering.{lowered}
-use Rattle.lh_generator.specs.Summary.{IsSummaryOf}
+use Rattle.lh_lower_def.specs.Lowering.{lowered}
+use Rattle.lh_selftest_design.specs.Summary.{IsSummaryOf}
 use Rattle.lh_selftest.specs.SelfTest.{IsSelfTest, units_of}
 use Rattle.lh_selftest.proofs.Answer.{is_self_test}
 use Rattle.lh_run.proofs.selftest.selftest.Goals as goal

@@ -1,7 +1,7 @@
 use Rattle.std.proofs.Common.{◌≡◌, ◌∙◌}
 use Rattle.std.proofs.lemmas.Result.{err_from_is_err_and}
 use Rattle.lh_selftest.specs.Answer.{answer_of}
-use Rattle.lh_outcome.proofs.Writes.{BreaksOff_of}
+use Rattle.lh_result.proofs.Writes.{BreaksOff_of}
 use Rattle.lh_run.proofs.selftest.write_test.Goals as goal
 
 pub returns-in_err-write_all : goal.returns-in_err-write_all

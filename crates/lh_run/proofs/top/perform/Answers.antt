@@ -1,12 +1,12 @@
 use Rattle.std.proofs.Common.{Err, Ok, arith}
 use Rattle.lh_unit.specs.Arena.{contents}
-use Rattle.lh_words.specs.Meant.{meant}
-use Rattle.lh_outcome.specs.Steps.{Loads}
+use Rattle.lh_args.specs.Meant.{meant}
+use Rattle.lh_result.specs.Steps.{Loads}
 use Rattle.lh_run.proofs.Faithfully.{faithful, unloaded, misused, no_lowering}
-use Rattle.lh_outcome.proofs.Results.{HasOneResult-misuse, HasOneResult-called, HasOneResult-tested}
-use Rattle.lh_outcome.proofs.Accounts.{OfSource-weaker}
-use Rattle.lh_outcome.proofs.Callings.{Calls-frames, calls_no_test, misuse_no_test}
-use Rattle.lh_outcome.proofs.Performances.{of_any, takes_none, unloaded_not_usage, Performs-misuse, Performs-unloaded, Performs-carried, Performs-tested, WritesSelfTest-status, IsTestStatus-carried, Carries-status, IsCountFor-carried, IsReadToEnd-carried, never_reads, never_usage}
+use Rattle.lh_result.proofs.Results.{HasOneResult-misuse, HasOneResult-called, HasOneResult-tested}
+use Rattle.lh_result.proofs.Accounts.{OfSource-weaker}
+use Rattle.lh_result.proofs.Callings.{Calls-frames, calls_no_test, misuse_no_test}
+use Rattle.lh_result.proofs.Performances.{of_any, takes_none, unloaded_not_usage, Performs-misuse, Performs-unloaded, Performs-carried, Performs-tested, WritesSelfTest-status, IsTestStatus-carried, Carries-status, IsCountFor-carried, IsReadToEnd-carried, never_reads, never_usage}
 use Rattle.lh_run.proofs.top.perform.Goals as goal
 
 pub returns-in_default-clause-performs : goal.returns-in_default-clause-performs

@@ -1,5 +1,5 @@
 use Rattle.lh_run.proofs.Faithfully.{faithful-run}
-use Rattle.lh_outcome.proofs.Accounts.{Account-run, IsResultOrNoMemory-run}
+use Rattle.lh_result.proofs.Accounts.{Account-run, IsResultOrNoMemory-run}
 use Rattle.lh_run.proofs.top.run.Goals as goal
 
 pub returns-clause-account : goal.returns-clause-account

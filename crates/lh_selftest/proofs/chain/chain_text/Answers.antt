@@ -1,7 +1,7 @@
 use Rattle.std.proofs.Common.{sym, subst}
 use Rattle.std.proofs.lemmas.Result.{IfOk-weaker}
-use Rattle.lh_generator.specs.Generated.{generated}
-use Rattle.lh_chain.specs.Chain.{chain_file}
+use Rattle.lh_selftest_design.specs.Generated.{generated}
+use Rattle.lh_selftest_laws.specs.Chain.{chain_file}
 use Rattle.lh_selftest.specs.SelfTest.{CanRun, IsTextOf}
 use Rattle.lh_selftest.proofs.chain.chain_text.Goals as goal
 

@@ -2,7 +2,7 @@ use Rattle.std.proofs.Common.{sym, subst}
 use Rattle.std.proofs.lemmas.Result.{IfOk-weaker}
 use Rattle.lh_unit.specs.Arena.{Arena, contents}
 use Rattle.lh_unit.specs.WellFormed.{IsFaultless}
-use Rattle.lh_spelled.proofs.Readings.{every_reading_is_spelled}
+use Rattle.lh_text_laws.proofs.Readings.{every_reading_is_spelled}
 use Rattle.lh_selftest.specs.SelfTest.{HasDesign, RunsAs}
 use Rattle.lh_selftest.proofs.Answer.{reads-starved}
 use Rattle.lh_selftest.proofs.chain.file_of.Goals as goal

@@ -1,7 +1,7 @@
 use Rattle.std.proofs.Common.{subst}
 use Rattle.lh_verify.specs.declared.verify.VerifyCause.{VerifyCause}
 use Rattle.lh_verify.specs.Verifying.{HasCause}
-use Rattle.lh_meaning.proofs.FirstFaultLaw.{faultless_has_none}
+use Rattle.lh_trace_laws.proofs.FirstFaultLaw.{faultless_has_none}
 use Rattle.lh_selftest.proofs.chain.wanting_at.Goals as goal
 
 pub unreachable-requires : goal.unreachable-requires

@@ -1,5 +1,5 @@
 use Rattle.lh_term.proofs.Swaps.{in_grown, grows_on}
-use Rattle.lh_joins.proofs.Conditions.{condition-grown}
+use Rattle.lh_region_joins.proofs.Conditions.{condition-grown}
 use Rattle.lh_shape.proofs.Merged.{join-chooses, join-is}
 use Rattle.lh_shape.proofs.merge.join.Goals as goal
 

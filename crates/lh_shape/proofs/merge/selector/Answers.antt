@@ -4,9 +4,9 @@ use Rattle.lh_term.specs.Arena.{trees, tree_at, trees_at}
 use Rattle.lh_term.specs.Conjuncts.{conjuncts_of, conjunction}
 use Rattle.lh_term.specs.declared.term.TermId.{TermId}
 use Rattle.lh_term.proofs.Swaps.{if_ok_along}
-use Rattle.lh_joins.specs.Joins.{IsConditionAt}
-use Rattle.lh_joins.specs.declared.edge.Edge.{Edge}
-use Rattle.lh_joins.proofs.Conditions.{grows-none}
+use Rattle.lh_region_joins.specs.Joins.{IsConditionAt}
+use Rattle.lh_region_joins.specs.declared.edge.Edge.{Edge}
+use Rattle.lh_region_joins.proofs.Conditions.{grows-none}
 use Rattle.lh_shape.proofs.Merged.{beyond-all, one-edge, beyond-conditions}
 use Rattle.lh_shape.proofs.merge.selector.Goals as goal
 

@@ -1,5 +1,5 @@
 use Rattle.std.proofs.Common.{◌∙◌, refl, sym}
-use Rattle.lh_joins.proofs.Conditions.{grows-none}
+use Rattle.lh_region_joins.proofs.Conditions.{grows-none}
 use Rattle.lh_shape.specs.ByIds.{drive_at}
 use Rattle.lh_shape.proofs.Merging.{part-alike}
 use Rattle.lh_shape.proofs.Merged.{takes-both, takes-one}

@@ -4,7 +4,7 @@ use Rattle.lh_shape.specs.ByIds.{parts_on, drives_at, later_drives}
 use Rattle.lh_shape.specs.Answers.{AreRegisters}
 use Rattle.lh_shape.specs.declared.kinds.Shape.TheVariants as kind
 use Rattle.lh_shape.specs.declared.shape.Registers.{Registers}
-use Rattle.lh_joins.proofs.Conditions.{grows-none}
+use Rattle.lh_region_joins.proofs.Conditions.{grows-none}
 use Rattle.lh_shape.proofs.Merged.{drives-fit-grown, drives-at-grown}
 use Rattle.lh_shape.proofs.Edging.{shape-by, conditions-left, conditions-shape}
 use Rattle.lh_shape.proofs.shape.by_conditions.Goals as goal

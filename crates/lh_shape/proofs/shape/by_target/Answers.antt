@@ -1,4 +1,4 @@
-use Rattle.lh_joins.proofs.Conditions.{grows-none}
+use Rattle.lh_region_joins.proofs.Conditions.{grows-none}
 use Rattle.lh_shape.proofs.shape.by_target.Goals as goal
 
 pub returns-in_err-drives-clause-kept : goal.returns-in_err-drives-clause-kept

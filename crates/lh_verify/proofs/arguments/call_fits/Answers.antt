@@ -1,10 +1,10 @@
 use Rattle.std.proofs.Common.{map, ap, sym, ◌∙◌}
 use Rattle.std.specs.Prelude.{filter}
-use Rattle.lh_names.specs.UnitNames.{is_assert}
+use Rattle.lh_unit_names.specs.UnitNames.{is_assert}
 use Rattle.lh_unit.specs.Naming.{operand_text, arg_text}
 use Rattle.lh_unit.specs.Arena.{naming, args_at}
 use Rattle.lh_unit.specs.WellFormed.{arguments_fit, assert_args}
-use Rattle.lh_facts.specs.Facts.{text_in, naming_in}
+use Rattle.lh_verify_values.specs.Facts.{text_in, naming_in}
 use Rattle.lh_verify.specs.OperandTests.{on_side}
 use Rattle.lh_verify.specs.declared.arguments.Side.TheVariants.{All}
 use Rattle.lh_verify.proofs.NumbersKept.{numbers-of}

@@ -1,7 +1,7 @@
 use Rattle.std.proofs.Common.{true, ap, sym, ◌∙◌}
 use Rattle.std.specs.Option.{option_map_or, option_copied}
 use Rattle.lh_types.specs.Types.{same_type}
-use Rattle.lh_names.specs.UnitNames.{is_assert}
+use Rattle.lh_unit_names.specs.UnitNames.{is_assert}
 use Rattle.lh_verify.proofs.OtherUnits.{unit-within, unit-name, result-of, choose-then, choose-else}
 use Rattle.lh_verify.proofs.arguments.call_result_fits.Goals as goal
 

@@ -4,7 +4,7 @@ use Rattle.lh_unit.specs.Contents.{UnitText, OperandText}
 use Rattle.lh_unit.specs.Naming.{operand_text}
 use Rattle.lh_unit.specs.WellFormed.{arguments_fit}
 use Rattle.lh_unit.specs.declared.inst.Typed.{Typed}
-use Rattle.lh_facts.specs.Facts.{naming_in, text_in}
+use Rattle.lh_verify_values.specs.Facts.{naming_in, text_in}
 use Rattle.lh_verify.proofs.arguments.fits_nothing.Goals as goal
 
 -- no parameters are fit by no arguments alone

@@ -1,9 +1,9 @@
 use Rattle.std.proofs.Common.{◌&&◌, map, ap, sym, ◌∙◌}
-use Rattle.lh_names.specs.UnitNames.{is_assert}
+use Rattle.lh_unit_names.specs.UnitNames.{is_assert}
 use Rattle.lh_unit.specs.Naming.{operand_text, arg_text}
 use Rattle.lh_unit.specs.Arena.{naming, args_at}
 use Rattle.lh_unit.specs.WellFormed.{arguments_fit, inputs_of, outputs_of, assert_args}
-use Rattle.lh_facts.specs.Facts.{text_in, naming_in}
+use Rattle.lh_verify_values.specs.Facts.{text_in, naming_in}
 use Rattle.lh_verify.proofs.NumbersKept.{numbers-of}
 use Rattle.lh_verify.proofs.OtherUnits.{unit-within, unit-name, args-assert, differ-some, differ-none, params-in, no-params, both-first, both-second}
 use Rattle.lh_verify.proofs.arguments.ports_fit.Goals as goal

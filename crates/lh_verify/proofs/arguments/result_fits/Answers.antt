@@ -1,7 +1,7 @@
 use Rattle.std.proofs.Common.{map, ap, sym, ◌∙◌}
 use Rattle.lh_unit.specs.Naming.{operand_text, inst_text}
 use Rattle.lh_unit.specs.WellFormed.{result_fits}
-use Rattle.lh_facts.specs.Facts.{naming_in, items_in}
+use Rattle.lh_verify_values.specs.Facts.{naming_in, items_in}
 use Rattle.lh_verify.proofs.arguments.result_fits.Goals as goal
 
 pub returns-in-Call : goal.returns-in-Call

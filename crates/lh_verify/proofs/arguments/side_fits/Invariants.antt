@@ -4,7 +4,7 @@ use Rattle.lh_unit.specs.Naming.{Naming, operand_text, arg_text}
 use Rattle.lh_unit.specs.Within.{Each, OperandWithin}
 use Rattle.lh_unit.specs.WellFormed.{arguments_fit}
 use Rattle.lh_verify.specs.OperandTests.{on_side}
-use Rattle.lh_facts.specs.Facts.{text_in, naming_in, sizes_in}
+use Rattle.lh_verify_values.specs.Facts.{text_in, naming_in, sizes_in}
 use Rattle.lh_verify.proofs.arguments.side_fits.Given as goal
 
 abbrev pub invariant-loop-k : goal.invariant-loop-k

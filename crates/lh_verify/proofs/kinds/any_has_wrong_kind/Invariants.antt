@@ -1,8 +1,8 @@
 use Rattle.std.proofs.Common.{◌≡◌, map, drop}
 use Rattle.std.specs.List.{list_any}
 use Rattle.lh_unit.specs.WellFormed.{has_wrong_kind}
-use Rattle.lh_facts.specs.Facts.{text_in, naming_in}
-use Rattle.lh_operands.specs.Uses.{use_text}
+use Rattle.lh_verify_values.specs.Facts.{text_in, naming_in}
+use Rattle.lh_verify_operands.specs.Uses.{use_text}
 use Rattle.lh_verify.proofs.kinds.any_has_wrong_kind.Given as goal
 
 abbrev pub invariant-loop-operand : goal.invariant-loop-operand

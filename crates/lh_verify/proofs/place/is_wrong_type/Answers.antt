@@ -1,5 +1,5 @@
 use Rattle.std.proofs.Common.{not, ap, sym, ◌∙◌}
-use Rattle.lh_facts.specs.Facts.{text_in, naming_in, items_in}
+use Rattle.lh_verify_values.specs.Facts.{text_in, naming_in, items_in}
 use Rattle.lh_verify.proofs.Named.{three-first, three-third}
 use Rattle.lh_verify.proofs.OtherUnits.{both-second}
 use Rattle.lh_verify.proofs.Places.{type-parts}

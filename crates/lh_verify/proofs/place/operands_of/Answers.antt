@@ -1,10 +1,10 @@
 use Rattle.std.proofs.Common.{◌≡◌, subst, sym}
 use Rattle.std.proofs.lemmas.Result.{IfOk-weaker}
 use Rattle.lh_unit.specs.Within.{Each}
-use Rattle.lh_operands.specs.Operands.{UseWithin}
-use Rattle.lh_facts.specs.Facts.{sizes_in}
-use Rattle.lh_operands.specs.Uses.{uses_of}
-use Rattle.lh_operands.proofs.UsesWithin.{uses-within}
+use Rattle.lh_verify_operands.specs.Operands.{UseWithin}
+use Rattle.lh_verify_values.specs.Facts.{sizes_in}
+use Rattle.lh_verify_operands.specs.Uses.{uses_of}
+use Rattle.lh_verify_operands.proofs.UsesWithin.{uses-within}
 use Rattle.lh_verify.proofs.place.operands_of.Goals as goal
 
 pub returns : goal.returns

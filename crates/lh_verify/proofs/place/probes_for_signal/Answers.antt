@@ -1,7 +1,7 @@
 use Rattle.std.proofs.Common.{ap, sym, ◌∙◌}
 use Rattle.lh_unit.specs.Naming.{value_text, inst_text}
 use Rattle.lh_unit.specs.WellFormed.{probes_for_signal}
-use Rattle.lh_facts.specs.Facts.{text_in, naming_in}
+use Rattle.lh_verify_values.specs.Facts.{text_in, naming_in}
 use Rattle.lh_verify.proofs.Places.{from-probe-is}
 use Rattle.lh_verify.proofs.place.probes_for_signal.Goals as goal
 

@@ -1,8 +1,8 @@
 use Rattle.std.proofs.Common.{ap, sym, ◌∙◌}
 use Rattle.lh_unit.specs.Arena.{table_at, label_count}
 use Rattle.lh_unit.specs.ById.{blocks_led_to, last_led_to}
-use Rattle.lh_operands.specs.Leading.{led_to}
-use Rattle.lh_facts.proofs.KnowingSteps.{on-ok}
+use Rattle.lh_verify_operands.specs.Leading.{led_to}
+use Rattle.lh_verify_values.proofs.KnowingSteps.{on-ok}
 use Rattle.lh_verify.proofs.PhiSteps.{one-more}
 use Rattle.lh_unit.proofs.ByIdInsts.{last-led}
 use Rattle.lh_verify.proofs.predecessors.put_block.Goals as goal

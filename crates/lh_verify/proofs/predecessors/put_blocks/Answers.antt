@@ -2,7 +2,7 @@ use Rattle.std.proofs.Common.{List, take, subst}
 use Rattle.lh_unit.specs.Arena.{table_at, label_count}
 use Rattle.lh_unit.specs.declared.inst.BlockId.{BlockId}
 use Rattle.lh_verify.specs.Predecessors.{IsPredecessors}
-use Rattle.lh_facts.proofs.KnowingSteps.{taken}
+use Rattle.lh_verify_values.proofs.KnowingSteps.{taken}
 use Rattle.lh_verify.proofs.predecessors.put_blocks.Goals as goal
 
 pub loop-block-preserved : goal.loop-block-preserved

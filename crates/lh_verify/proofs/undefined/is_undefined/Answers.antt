@@ -1,5 +1,5 @@
 use Rattle.std.proofs.Common.{sym, ◌∙◌}
-use Rattle.lh_facts.specs.Facts.{naming_in, text_in, items_in}
+use Rattle.lh_verify_values.specs.Facts.{naming_in, text_in, items_in}
 use Rattle.lh_verify.proofs.Named.{undefined-parts, three-first, three-second, three-third}
 use Rattle.lh_verify.proofs.undefined.is_undefined.Goals as goal
 

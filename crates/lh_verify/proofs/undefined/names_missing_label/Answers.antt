@@ -4,7 +4,7 @@ use Rattle.lh_unit.specs.Naming.{edge_text, inst_text}
 use Rattle.lh_unit.specs.Within.{Each}
 use Rattle.lh_unit.specs.declared.inst.BlockId.{BlockId}
 use Rattle.lh_verify.specs.OperandTests.{label_is_missing, edge_is_missing, label_is_missing_in}
-use Rattle.lh_facts.specs.Facts.{naming_in, sizes_in, text_in}
+use Rattle.lh_verify_values.specs.Facts.{naming_in, sizes_in, text_in}
 use Rattle.lh_verify.proofs.Named.{edges-named, targets-within, targets-named}
 use Rattle.lh_verify.proofs.undefined.names_missing_label.Goals as goal
 

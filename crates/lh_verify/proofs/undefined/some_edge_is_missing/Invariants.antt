@@ -2,7 +2,7 @@ use Rattle.std.proofs.Common.{◌≡◌, map, drop}
 use Rattle.std.specs.List.{list_any}
 use Rattle.lh_unit.specs.Naming.{edge_text}
 use Rattle.lh_verify.specs.OperandTests.{edge_is_missing}
-use Rattle.lh_facts.specs.Facts.{text_in, naming_in}
+use Rattle.lh_verify_values.specs.Facts.{text_in, naming_in}
 use Rattle.lh_verify.proofs.undefined.some_edge_is_missing.Given as goal
 
 abbrev pub invariant-loop-edge : goal.invariant-loop-edge

@@ -1,12 +1,12 @@
 use Rattle.std.proofs.Common.{List, sym, ◌∙◌, subst}
 use Rattle.lh_unit.specs.Within.{Each}
 use Rattle.lh_unit.specs.Arena.{naming, args_at, table_at, value_count, inst_count}
-use Rattle.lh_facts.specs.declared.scope.Fact.{Fact}
-use Rattle.lh_facts.specs.FactsOfUnit.{FactsAfter}
-use Rattle.lh_marks.specs.Marking.{IsProbed, MarksLabels}
+use Rattle.lh_verify_values.specs.declared.scope.Fact.{Fact}
+use Rattle.lh_verify_values.specs.FactsOfUnit.{FactsAfter}
+use Rattle.lh_verify_labels.specs.Marking.{IsProbed, MarksLabels}
 use Rattle.lh_verify.specs.SpotsWithin.{SpotWithin}
-use Rattle.lh_facts.specs.Facts.{items_in, text_in}
-use Rattle.lh_facts.specs.Numbers.{Grows}
+use Rattle.lh_verify_values.specs.Facts.{items_in, text_in}
+use Rattle.lh_verify_values.specs.Numbers.{Grows}
 use Rattle.lh_verify.proofs.NumbersKept.{params-grow, ok-always}
 use Rattle.lh_verify.proofs.ScopeIs.{scope-is, spots-within}
 use Rattle.lh_verify.proofs.unit.first_fault.Goals as goal

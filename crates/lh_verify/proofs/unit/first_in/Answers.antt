@@ -1,7 +1,7 @@
 use Rattle.std.proofs.Common.{◌≡◌, None, Some, subst}
 use Rattle.std.proofs.lemmas.Result.{IfOk-weaker}
 use Rattle.lh_verify.specs.FirstFound.{FindsFault, LacksFirst, first_at}
-use Rattle.lh_facts.specs.Facts.{items_in, text_in}
+use Rattle.lh_verify_values.specs.Facts.{items_in, text_in}
 use Rattle.lh_verify.proofs.UnitPlaces.{unit-law}
 use Rattle.lh_verify.proofs.unit.first_in.Goals as goal
 

@@ -1,5 +1,5 @@
 use Rattle.std.proofs.Common.{ap, sym, ◌∙◌}
-use Rattle.lh_names.specs.UnitNames.{is_assert}
+use Rattle.lh_unit_names.specs.UnitNames.{is_assert}
 use Rattle.lh_verify.proofs.OtherUnits.{unit-within, unit-name, defined-in, missing-some, missing-none}
 use Rattle.lh_verify.proofs.units.is_missing.Goals as goal
 

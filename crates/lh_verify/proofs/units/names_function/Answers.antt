@@ -1,5 +1,5 @@
 use Rattle.std.proofs.Common.{ap, sym, ◌∙◌}
-use Rattle.lh_names.specs.UnitNames.{is_assert}
+use Rattle.lh_unit_names.specs.UnitNames.{is_assert}
 use Rattle.lh_verify.specs.OperandTests.{is_function_kind}
 use Rattle.lh_verify.proofs.OtherUnits.{unit-within, unit-name, function-in, either-first, either-second}
 use Rattle.lh_verify.proofs.units.names_function.Goals as goal

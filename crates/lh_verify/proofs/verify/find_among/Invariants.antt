@@ -1,7 +1,7 @@
 use Rattle.std.proofs.Common.{◌≡◌, map, take}
 use Rattle.lh_unit.specs.WellFormed.{NoneHasFault, sites}
 use Rattle.lh_unit.specs.Arena.{contents, item_text_at}
-use Rattle.lh_facts.specs.Numbers.{NumbersParams}
+use Rattle.lh_verify_values.specs.Numbers.{NumbersParams}
 use Rattle.lh_verify.proofs.verify.find_among.Given as goal
 
 abbrev pub invariant-loop-item : goal.invariant-loop-item

@@ -1,5 +1,5 @@
 use Rattle.std.proofs.Common.{refl}
-use Rattle.lh_text.proofs.Parts.{all-left}
+use Rattle.lh_text_buffer.proofs.Parts.{all-left}
 use Rattle.lh_wave.proofs.CodeLemmas.{code_more, code_end}
 use Rattle.lh_wave.proofs.code.put_code.Goals as goal
 

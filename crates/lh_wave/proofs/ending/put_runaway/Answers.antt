@@ -1,5 +1,5 @@
 use Rattle.std.specs.Prelude.{◌++◌, codes, decimal}
-use Rattle.lh_text.proofs.Parts.{two-written}
+use Rattle.lh_text_buffer.proofs.Parts.{two-written}
 use Rattle.lh_wave.proofs.ending.put_runaway.Goals as goal
 
 pub returns : goal.returns

@@ -1,7 +1,7 @@
 use Rattle.std.specs.Prelude.{◌++◌, codes, decimal}
 use Rattle.lh_unit.specs.Pieces.{render}
 use Rattle.lh_unit.specs.CanonTypes.{type_pieces}
-use Rattle.lh_text.proofs.Parts.{two-written}
+use Rattle.lh_text_buffer.proofs.Parts.{two-written}
 use Rattle.lh_wave.proofs.lines.put_signal.Goals as goal
 
 pub returns : goal.returns

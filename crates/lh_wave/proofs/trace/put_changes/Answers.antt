@@ -1,5 +1,5 @@
 use Rattle.std.proofs.Common.{refl}
-use Rattle.lh_text.proofs.Parts.{all-left}
+use Rattle.lh_text_buffer.proofs.Parts.{all-left}
 use Rattle.lh_types.specs.Pictures.{showing_of}
 use Rattle.lh_wave.specs.TraceText.{change_line}
 use Rattle.lh_wave.proofs.FrameLemmas.{Writing-next, Writing-end_map}

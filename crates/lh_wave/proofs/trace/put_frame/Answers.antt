@@ -1,7 +1,7 @@
 use Rattle.std.proofs.Common.{◌++◌, map, subst}
 use Rattle.std.specs.List.{flat_map}
-use Rattle.lh_text.specs.Writing.{Writes}
-use Rattle.lh_text.proofs.Parts.{two-written}
+use Rattle.lh_text_buffer.specs.Writing.{Writes}
+use Rattle.lh_text_buffer.proofs.Parts.{two-written}
 use Rattle.lh_types.specs.Pictures.{showing_of}
 use Rattle.lh_wave.specs.TraceText.{instant_line, change_line, outcome_line}
 use Rattle.lh_wave.proofs.trace.put_frame.Goals as goal

@@ -1,5 +1,5 @@
 use Rattle.std.specs.Prelude.{◌++◌, codes}
-use Rattle.lh_text.proofs.Parts.{two-written}
+use Rattle.lh_text_buffer.proofs.Parts.{two-written}
 use Rattle.lh_wave.specs.ValueText.{moment_text}
 use Rattle.lh_wave.proofs.trace.put_instant.Goals as goal
 

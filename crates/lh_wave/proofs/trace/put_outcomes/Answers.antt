@@ -1,5 +1,5 @@
 use Rattle.std.proofs.Common.{false, refl}
-use Rattle.lh_text.proofs.Parts.{all-left}
+use Rattle.lh_text_buffer.proofs.Parts.{all-left}
 use Rattle.lh_wave.specs.TraceText.{outcome_line}
 use Rattle.lh_wave.proofs.FrameLemmas.{Writing-next_at, Writing-end}
 use Rattle.lh_wave.proofs.trace.put_outcomes.Goals as goal

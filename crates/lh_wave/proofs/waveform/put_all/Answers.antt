@@ -1,5 +1,5 @@
 use Rattle.std.proofs.Common.{refl}
-use Rattle.lh_text.proofs.Parts.{all-left}
+use Rattle.lh_text_buffer.proofs.Parts.{all-left}
 use Rattle.lh_wave.proofs.Recording.{AllWriting-next, AllWriting-end}
 use Rattle.lh_wave.proofs.waveform.put_all.Goals as goal
 

@@ -1,7 +1,7 @@
 use Rattle.std.proofs.Common.{◌≡◌, map, Some, ◌∙◌}
 use Rattle.lh_unit.specs.Arena.{args_at}
 use Rattle.lh_elab.specs.declared.build.Pending.{Pending}
-use Rattle.lh_plan.specs.Plans.{low_at}
+use Rattle.lh_elab_plan.specs.Plans.{low_at}
 use Rattle.lh_elab.specs.Builds.{ranges_by, kid}
 use Rattle.lh_elab.proofs.BuildSteps.{kids-more}
 use Rattle.lh_elab.proofs.build.Building.put_children.Goals as goal

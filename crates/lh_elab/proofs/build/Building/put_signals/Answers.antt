@@ -1,9 +1,9 @@
 use Rattle.std.proofs.Common.{◌≡◌, ◌+◌, [], ◌∷◌, ◌++◌, length, map, take, ap, sym, ◌∙◌, subst, arith}
 use Rattle.lh_unit.specs.Design.{signal_ranges}
-use Rattle.lh_plan.specs.declared.plan.PlanSignal.{PlanSignal}
-use Rattle.lh_plan.specs.Plans.{signal_of, SignalFits}
+use Rattle.lh_elab_plan.specs.declared.plan.PlanSignal.{PlanSignal}
+use Rattle.lh_elab_plan.specs.Plans.{signal_of, SignalFits}
 use Rattle.lh_elab.specs.Builds.{AddsSignals}
-use Rattle.lh_formed.proofs.EachItem.{each-rest}
+use Rattle.lh_verify_laws.proofs.EachItem.{each-rest}
 use Rattle.lh_elab.proofs.BuildSteps.{adds-more, rest-more, ranges-more, more-signals, room-next}
 use Rattle.lh_elab.proofs.build.Building.put_signals.Goals as goal
 

@@ -1,7 +1,7 @@
 use Rattle.std.proofs.Common.{◌≡◌, map, take, drop}
 use Rattle.lh_unit.specs.Design.{signal_ranges}
 use Rattle.lh_unit.specs.Within.{Each}
-use Rattle.lh_plan.specs.Plans.{signal_of, SignalFits}
+use Rattle.lh_elab_plan.specs.Plans.{signal_of, SignalFits}
 use Rattle.lh_elab.specs.Builds.{AddsSignals, KeepsRest}
 use Rattle.lh_elab.proofs.build.Building.put_signals.Given as goal
 

@@ -4,7 +4,7 @@ use Rattle.lh_unit.specs.Activation.{executes, gives, tells, asserted, opens, ca
 use Rattle.lh_unit.specs.Arena.{InstPlaced, contents, naming, sizes, unit_name_at, unit_text_at}
 use Rattle.lh_unit.specs.Effects.{operated}
 use Rattle.lh_unit.specs.Held.{data_at, parts_at}
-use Rattle.lh_names.specs.UnitNames.{is_assert}
+use Rattle.lh_unit_names.specs.UnitNames.{is_assert}
 use Rattle.lh_unit.specs.Naming.{inst_text, operand_text, value_text, maybe_text}
 use Rattle.lh_unit.specs.Within.{Each, OperandWithin}
 use Rattle.lh_unit.specs.declared.inst.Inst.{Inst}

@@ -1,7 +1,7 @@
 use Rattle.std.proofs.Common.{sym, subst, ap}
 use Rattle.std.proofs.lemmas.Result.{err_from_is_err_and}
 use Rattle.lh_unit.specs.declared.inst.UnitId.{UnitId}
-use Rattle.lh_descent.specs.Measures.{NodesWithin}
+use Rattle.lh_unit_graph.specs.Measures.{NodesWithin}
 use Rattle.lh_flat.specs.Measures.{measuring}
 use Rattle.lh_flat.proofs.Reading.{graph-within}
 use Rattle.lh_flat.proofs.Flattening.{flat-refused, flat-deep, flat-large, flat-made, flat-below}

@@ -1,14 +1,14 @@
 use Rattle.std.proofs.Common.{◌≡◌, ◌∙◌, ◌<◌, ℕ, List, Bool, length, refl, ap, sym, subst}
 use Rattle.lh_queue.specs.Holds.{entries, AreBitsAt}
 use Rattle.lh_kernel.specs.Touched.{bits_then}
-use Rattle.lh_change.specs.Touched.{OthersStay}
+use Rattle.lh_kernel_changes.specs.Touched.{OthersStay}
 use Rattle.lh_kernel.specs.Kept.{IsKept}
 use Rattle.lh_kernel.specs.Phases.{awake_in, woken_in, IsPlanned, RisesWithin}
 use Rattle.lh_kernel.proofs.Noting.{on_err, noted_itself}
 use Rattle.lh_kernel.proofs.Tallies.{rises_none, rises_woken}
 use Rattle.lh_kernel.specs.declared.machine.SimState.{SimState}
 use Rattle.lh_kernel.proofs.machine.SimState.ahead.Goals as goal
-use Rattle.lh_meaning.proofs.ValuesLaw.{as_many}
+use Rattle.lh_trace_laws.proofs.ValuesLaw.{as_many}
 
 pub put_signals-requires-clause-width : goal.put_signals-requires-clause-width
 put_signals-requires-clause-width g c =

@@ -1,5 +1,5 @@
 use Rattle.std.proofs.Common.{refl}
-use Rattle.lh_change.proofs.Filled.{known_at}
+use Rattle.lh_kernel_changes.proofs.Filled.{known_at}
 use Rattle.lh_kernel.proofs.Waking.{woken_more, woken_end, woken_are}
 use Rattle.lh_kernel.proofs.woken.Asleep.woken.Goals as goal
 

@@ -2,8 +2,8 @@ use Rattle.std.proofs.Common.{◌≡◌, ◌∙◌, map, Some, Result, sym, ap, 
 use Rattle.lh_unit.specs.Spells.{LineItem, input_of, header_item}
 use Rattle.lh_unit.specs.Reads.{ReadState}
 use Rattle.lh_unit.specs.declared.inst.UnitKind.TheVariants as kind
-use Rattle.lh_scan.specs.LexemeOf.{unit_name_of}
-use Rattle.lh_phrase.specs.SyntaxOf.{item_of}
+use Rattle.lh_read_pieces.specs.LexemeOf.{unit_name_of}
+use Rattle.lh_read_phrases.specs.SyntaxOf.{item_of}
 use Rattle.lh_read.specs.declared.faults.LineFault.{LineFault}
 use Rattle.lh_read.specs.Steps.{step}
 use Rattle.lh_read.specs.Building.{Steps}

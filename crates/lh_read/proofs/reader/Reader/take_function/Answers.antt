@@ -1,7 +1,7 @@
 use Rattle.std.proofs.Common.{map, Some, Ok, sym, ap, subst, ◌∙◌}
 use Rattle.lh_unit.specs.Spells.{input_of}
 use Rattle.lh_unit.specs.declared.inst.UnitKind.TheVariants as kind
-use Rattle.lh_scan.specs.LexemeOf.{unit_name_of}
+use Rattle.lh_read_pieces.specs.LexemeOf.{unit_name_of}
 use Rattle.lh_read.specs.InOrder.{state_at, InPlace}
 use Rattle.lh_read.proofs.Headers.{header-inside, header-assert, head-taken, head-refused, head-placed}
 use Rattle.lh_read.proofs.reader.Reader.take_function.Goals as goal

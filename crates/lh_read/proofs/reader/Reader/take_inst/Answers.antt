@@ -1,5 +1,5 @@
 use Rattle.std.proofs.Common.{Ok, sym, ap, subst, ◌∙◌}
-use Rattle.lh_phrase.specs.SyntaxOf.{inst_of}
+use Rattle.lh_read_phrases.specs.SyntaxOf.{inst_of}
 use Rattle.lh_read.specs.InOrder.{state_at, InPlace}
 use Rattle.lh_read.proofs.Adding.{line-asked, inst-outside, inst-taken, inst-refused, inst-placed, inst-named}
 use Rattle.lh_read.proofs.reader.Reader.take_inst.Goals as goal

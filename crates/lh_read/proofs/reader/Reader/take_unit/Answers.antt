@@ -1,6 +1,6 @@
 use Rattle.std.proofs.Common.{None, Ok, sym, ap, subst, ◌∙◌}
-use Rattle.lh_phrase.specs.SyntaxOf.{ports_of}
-use Rattle.lh_scan.specs.LexemeOf.{unit_name_of}
+use Rattle.lh_read_phrases.specs.SyntaxOf.{ports_of}
+use Rattle.lh_read_pieces.specs.LexemeOf.{unit_name_of}
 use Rattle.lh_read.specs.InOrder.{state_at, InPlace}
 use Rattle.lh_read.proofs.Headers.{header-inside, header-assert, head-taken, head-refused, head-placed}
 use Rattle.lh_read.proofs.reader.Reader.take_unit.Goals as goal

@@ -1,5 +1,5 @@
 use Rattle.std.proofs.Common.{◌<◌, length, refl, arith}
-use Rattle.lh_text.proofs.Parts.{all-left}
+use Rattle.lh_text_buffer.proofs.Parts.{all-left}
 use Rattle.lh_wave.proofs.FrameLemmas.{Writing-next_at, Writing-end}
 use Rattle.lh_wave.proofs.OwnedLemmas.{scope_whole, signals_known, child_known}
 use Rattle.lh_wave.proofs.head.Scopes.+put.Goals as goal

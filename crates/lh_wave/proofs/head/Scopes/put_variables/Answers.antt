@@ -1,5 +1,5 @@
 use Rattle.std.proofs.Common.{refl}
-use Rattle.lh_text.proofs.Parts.{all-left}
+use Rattle.lh_text_buffer.proofs.Parts.{all-left}
 use Rattle.lh_wave.proofs.OwnedLemmas.{variable_next, is_data_in}
 use Rattle.lh_wave.proofs.head.Scopes.put_variables.Goals as goal
 

@@ -1,6 +1,6 @@
 use Rattle.std.proofs.Common.{◌≡◌, true, false, List, map, ap, ◌∙◌, subst, arith}
 use Rattle.lh_types.specs.ValueOf.{datum_of}
-use Rattle.lh_text.specs.Writing.{Writes}
+use Rattle.lh_text_buffer.specs.Writing.{Writes}
 use Rattle.lh_types.specs.Values.{Datum}
 use Rattle.lh_wave.specs.WaveText.{any_differs, dump_at}
 use Rattle.lh_wave.specs.Changed.{present_values}

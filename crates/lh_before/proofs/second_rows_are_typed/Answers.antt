@@ -1,5 +1,0 @@
-use Rattle.lh_before.proofs.Second.{second-rows-typed}
-use Rattle.lh_before.proofs.second_rows_are_typed.Goals as goal
-
-pub returns : goal.returns
-returns c = second-rows-typed

@@ -1,6 +1,0 @@
-use Rattle.std.proofs.Common.{drop}
-use Rattle.lh_bodies.proofs.Drives.{DrivesSoFar}
-use Rattle.lh_bodies.proofs.bodies.put_drives.Given as goal
-
-abbrev pub invariant-loop-row : goal.invariant-loop-row
-invariant-loop-row l = DrivesSoFar l.fn.origin l.rows l.fn.terms l.fn.emitter l.terms l.emitter (drop l.row-index l.rows)

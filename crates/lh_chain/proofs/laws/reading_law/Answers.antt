@@ -1,6 +1,0 @@
-use Rattle.lh_chain.proofs.Short.{generated-short}
-use Rattle.lh_chain.proofs.Reading.{generated-reads}
-use Rattle.lh_chain.proofs.laws.reading_law.Goals as goal
-
-pub returns : goal.returns
-returns c = record { short = generated-short; reads = generated-reads c.modules_are_spelled_by_items.ensures.together c.printable_items_are_spelled.ensures.spelled }

@@ -1,9 +1,0 @@
-use Rattle.lh_chain.proofs.Reading.{chain-spelled}
-use Rattle.lh_chain.proofs.Faultless.{chain-faultless}
-use Rattle.lh_chain.proofs.laws.well_formed_law.Goals as goal
-
-pub returns : goal.returns
-returns c = record {
-  faultless = chain-faultless;
-  formed = λ n l h. (chain-spelled c.modules_are_spelled_by_items.ensures.together c.printable_items_are_spelled.ensures.spelled n h, chain-faultless n l h);
-}

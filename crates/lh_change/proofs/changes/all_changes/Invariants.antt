@@ -1,5 +1,0 @@
-use Rattle.lh_change.proofs.Shows.{AllFrom}
-use Rattle.lh_change.proofs.changes.all_changes.Given as goal
-
-abbrev pub invariant-loop-number : goal.invariant-loop-number
-invariant-loop-number l = AllFrom l.changes l.number l.design.signals.items l.now

@@ -1,5 +1,0 @@
-use Rattle.lh_change.proofs.Same.{parts_stay, signals_are_all}
-use Rattle.lh_change.proofs.laws.same_law.Goals as goal
-
-pub returns : goal.returns
-returns c = record { parts = parts_stay; all = signals_are_all }

@@ -1,7 +1,0 @@
-use Rattle.std.proofs.Common.{[], take}
-use Rattle.lh_unit.specs.World.{bit_numbers}
-use Rattle.lh_change.specs.Touched.{TouchesMore}
-use Rattle.lh_change.proofs.signals.signals_of.Given as goal
-
-abbrev pub invariant-loop-part : goal.invariant-loop-part
-invariant-loop-part l = TouchesMore l.design.signals.items (bit_numbers (take l.part-index l.parts)) [] l.touched

@@ -1,5 +1,0 @@
-use Rattle.lh_change.proofs.Touching.{EnteredTo}
-use Rattle.lh_change.proofs.signals.touch.Given as goal
-
-abbrev pub invariant-loop-signal : goal.invariant-loop-signal
-invariant-loop-signal l = EnteredTo l.fn.touched l.first l.signal l.touched

@@ -1,5 +1,0 @@
-use Rattle.lh_copy.specs.Named.{NamesUnits}
-use Rattle.lh_copy.proofs.names.name_units.Given as goal
-
-abbrev pub invariant-loop-unit : goal.invariant-loop-unit
-invariant-loop-unit l = NamesUnits l.from l.m l.unit

@@ -1,9 +1,0 @@
-use Rattle.std.proofs.Common.{◌≡◌, replicate, ap, ◌∙◌, arith}
-use Rattle.lh_descent.specs.declared.search.Mark.TheVariants as mark
-use Rattle.lh_descent.proofs.Stepping.{Settled-new}
-use Rattle.lh_descent.proofs.search.Search.new.Goals as goal
-
-pub returns : goal.returns
-returns g c = λ nodes e.
-    let all : c.loop-unit._unit ≡ c.args.units = omega arith in
-    Settled-new g.M.Measured.measuring nodes c.args.units _ (c.loop-unit.invariant ∙ ap (λ n. replicate n mark.New) all) c.new.ensures.items e

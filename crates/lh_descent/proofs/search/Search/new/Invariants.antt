@@ -1,6 +1,0 @@
-use Rattle.std.proofs.Common.{◌≡◌, replicate}
-use Rattle.lh_descent.specs.declared.search.Mark.TheVariants as mark
-use Rattle.lh_descent.proofs.search.Search.new.Given as goal
-
-abbrev pub invariant-loop-unit : goal.invariant-loop-unit
-invariant-loop-unit g l = l.marks.items ≡ replicate l._unit mark.New

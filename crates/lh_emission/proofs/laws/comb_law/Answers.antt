@@ -1,7 +1,0 @@
-use Rattle.lh_emission.proofs.Whole.{comb-passes, comb-senses}
-use Rattle.lh_emission.proofs.Plain.{comb-plain}
-use Rattle.lh_emission.proofs.Sites.{comb-no_fault}
-use Rattle.lh_emission.proofs.laws.comb_law.Goals as goal
-
-pub returns : goal.returns
-returns c = record { entity = comb-plain; right = comb-no_fault; passes = comb-passes; senses = comb-senses }

@@ -1,3 +1,0 @@
--- The rows that an entity is emitted from.
-pub use Rattle.lh_rows.specs.Rows.{Drive}
-pub use Rattle.lh_edge.specs.Triggers.{TriggerTree, EdgeRowTree}

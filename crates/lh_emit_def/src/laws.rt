@@ -1,0 +1,49 @@
+//! Laws of entities that were emitted, each the contract of a function that does nothing.
+ghost use Rattle.lh_emit_def.specs.Worked.{WorkedEntities};
+ghost use Rattle.lh_emit_def.specs.Printed.{CombIsPrintable, EdgeIsPrintable, OnceIsPrintable};
+ghost use Rattle.lh_emit_def.specs.Laws.{CombPasses, CombSenses, CombIsEntity, CombIsRight, EdgePasses, EdgeSenses, EdgeIsEntity, EdgeIsRight, OncePasses, OnceSenses, OnceIsEntity, OnceIsRight, PartsAreReached};
+
+/// The entity of drives has the process's name and arguments, neither signals nor instances, and no fault, in whatever module it stands; no
+/// name stands twice. On all values a pass of it gives the wish of the drives. It senses the parts that are waited on, and beyond them only
+/// what the drives read.
+pub fn comb_law()
+    ensures entity { CombIsEntity }
+    ensures right { CombIsRight }
+    ensures passes { CombPasses }
+    ensures senses { CombSenses }
+{}
+
+/// The same of the entity of registers. A pass of it gives no wish at the first run. It remembers the value of each trigger's part, which it
+/// senses, and drives the rows of which a trigger fires.
+pub fn edge_law()
+    ensures entity { EdgeIsEntity }
+    ensures right { EdgeIsRight }
+    ensures passes { EdgePasses }
+    ensures senses { EdgeSenses }
+{}
+
+/// The same of an entity that runs once: its pass gives the wish of its drives, and where they read nothing it senses nothing.
+pub fn once_law()
+    ensures entity { OnceIsEntity }
+    ensures right { OnceIsRight }
+    ensures passes { OncePasses }
+    ensures senses { OnceSenses }
+{}
+
+/// What is emitted can be printed and read, where the header of the process can be printed and each delay that is a constant can be written.
+pub fn printing_law()
+    ensures comb { CombIsPrintable }
+    ensures edge { EdgeIsPrintable }
+    ensures once { OnceIsPrintable }
+{}
+
+/// The steps that are found for a part of a process lead to it from its argument.
+pub fn steps_law()
+    ensures { PartsAreReached }
+{}
+
+/// The entities of small processes, each line of them: a flip-flop with and without reset, a sum, constants, three drives that share a delay, a
+/// process that drives once, and a part that is reached by two steps.
+pub fn worked_entities()
+    ensures { WorkedEntities }
+{}

@@ -1,5 +1,0 @@
-use Rattle.lh_facts.proofs.Numbering.{same-number}
-use Rattle.lh_facts.proofs.numbers.Types.same.Goals as goal
-
-pub returns : goal.returns
-returns c = same-number _ _ c.self.view_is c.self.invariant c.args.number c.args.other

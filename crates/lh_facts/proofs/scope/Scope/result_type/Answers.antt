@@ -1,6 +1,0 @@
-use Rattle.std.proofs.Common.{◌∙◌}
-use Rattle.lh_facts.proofs.ScopeParts.{result-in}
-use Rattle.lh_facts.proofs.scope.Scope.result_type.Goals as goal
-
-pub returns : goal.returns
-returns c = c.result.ensures.ty ∙ result-in c.args.self.now

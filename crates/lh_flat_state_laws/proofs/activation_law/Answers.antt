@@ -1,0 +1,5 @@
+use Rattle.lh_flat_state_laws.proofs.Acting.{flat_texts_act}
+use Rattle.lh_flat_state_laws.proofs.activation_law.Goals as goal
+
+pub returns : goal.returns
+returns c = flat_texts_act

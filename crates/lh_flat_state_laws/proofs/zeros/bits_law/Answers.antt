@@ -1,0 +1,5 @@
+use Rattle.lh_flat_state_laws.proofs.Padding.{padded_bits}
+use Rattle.lh_flat_state_laws.proofs.zeros.bits_law.Goals as goal
+
+pub returns : goal.returns
+returns c = padded_bits

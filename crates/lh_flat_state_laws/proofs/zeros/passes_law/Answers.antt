@@ -1,0 +1,5 @@
+use Rattle.lh_flat_state_laws.proofs.Padding.{padded_passes}
+use Rattle.lh_flat_state_laws.proofs.zeros.passes_law.Goals as goal
+
+pub returns : goal.returns
+returns c = padded_passes

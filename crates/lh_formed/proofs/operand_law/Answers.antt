@@ -1,7 +1,0 @@
-use Rattle.lh_formed.proofs.OperandsLaw.{operands_are_defined, operands_are_taken, types_fit_all}
-use Rattle.lh_formed.proofs.RowsLaw.{rows_are}
-use Rattle.lh_formed.proofs.KindsLaw.{operands_have_types}
-use Rattle.lh_formed.proofs.operand_law.Goals as goal
-
-pub returns : goal.returns
-returns c = record { defined = operands_are_defined; kinds = operands_are_taken; fit = types_fit_all; rows = rows_are; types = operands_have_types }

@@ -1,6 +1,0 @@
-use Rattle.lh_formed.proofs.ResultsLaw.{results_have_types}
-use Rattle.lh_formed.proofs.ValuesLaw.{values_have_types}
-use Rattle.lh_formed.proofs.result_law.Goals as goal
-
-pub returns : goal.returns
-returns c = record { types = results_have_types; values = values_have_types }

@@ -1,5 +1,0 @@
-use Rattle.lh_generator.proofs.Pieces.{last-of-four}
-use Rattle.lh_generator.proofs.generator.put_chain.Goals as goal
-
-pub returns : goal.returns
-returns c = last-of-four c.put-2.result _ _ _ _ _ _ _ _ _ c.in_ok-put.ensures c.in_ok-put_all_signals.ensures c.in_ok-put_all_instances.ensures c.put-2.ensures

@@ -1,5 +1,0 @@
-use Rattle.lh_index.proofs.Noting.{noted_less}
-use Rattle.lh_index.proofs.sensing.Index.leave.Goals as goal
-
-pub returns-clause-has : goal.returns-clause-has
-returns-clause-has c = noted_less _ _ c.args.signal c.args.instance _ _ c.self.view_is c.requires c.index_mut.ensures.value c.leave.ensures

@@ -1,6 +1,0 @@
-use Rattle.std.proofs.Common.{◌≡◌, length}
-use Rattle.lh_index.proofs.Noting.{NoneSenses}
-use Rattle.lh_index.proofs.sensing.Index.new.Given as goal
-
-abbrev pub invariant-loop-signal : goal.invariant-loop-signal
-invariant-loop-signal l = (length l.lists.items ≡ l.signal) × NoneSenses l.lists.items

@@ -1,6 +1,0 @@
-use Rattle.std.proofs.Common.{take}
-use Rattle.lh_joins.proofs.Joining.{OthersSoFar}
-use Rattle.lh_joins.proofs.joins.Shared.others.Given as goal
-
-abbrev pub invariant-loop-conjunct : goal.invariant-loop-conjunct
-invariant-loop-conjunct l = OthersSoFar l.terms l.self l.others (take l.conjunct-index l.conjunct-items)

@@ -1,5 +1,0 @@
-use Rattle.lh_joins.proofs.Merged.{merged-by-conditions}
-use Rattle.lh_joins.proofs.laws.merged_law.Goals as goal
-
-pub returns : goal.returns
-returns c = merged-by-conditions

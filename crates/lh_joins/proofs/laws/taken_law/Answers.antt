@@ -1,5 +1,0 @@
-use Rattle.lh_joins.proofs.Merged.{taken-by-conditions}
-use Rattle.lh_joins.proofs.laws.taken_law.Goals as goal
-
-pub returns : goal.returns
-returns c = taken-by-conditions

@@ -1,0 +1,5 @@
+use Rattle.lh_kernel_changes.proofs.Touching.{EnteredTo}
+use Rattle.lh_kernel_changes.proofs.signals.touch.Given as goal
+
+abbrev pub invariant-loop-signal : goal.invariant-loop-signal
+invariant-loop-signal l = EnteredTo l.fn.touched l.first l.signal l.touched

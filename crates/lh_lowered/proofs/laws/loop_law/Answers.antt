@@ -1,5 +1,0 @@
-use Rattle.lh_lowered.proofs.LoopRows.{loop-shape, loop-lowers, long-loop-stays}
-use Rattle.lh_lowered.proofs.laws.loop_law.Goals as goal
-
-pub returns : goal.returns
-returns c = record { shape = loop-shape; lowers = loop-lowers; long = long-loop-stays }

@@ -1,6 +1,0 @@
-use Rattle.std.proofs.Common.{length, take}
-use Rattle.lh_marks.specs.Marking.{BlockMarks}
-use Rattle.lh_marks.proofs.labels.mark_blocks.Given as goal
-
-abbrev pub invariant-loop-block : goal.invariant-loop-block
-invariant-loop-block l = BlockMarks (take l.block-index l.blocks) (length l.initial.marks) l.marks

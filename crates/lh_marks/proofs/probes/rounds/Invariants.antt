@@ -1,5 +1,0 @@
-use Rattle.lh_marks.specs.Marking.{Reaches}
-use Rattle.lh_marks.proofs.probes.rounds.Given as goal
-
-abbrev pub invariant-loop : goal.invariant-loop
-invariant-loop l = Reaches l.m l.unit.0 l.counter l.marks.items

@@ -1,5 +1,0 @@
-use Rattle.lh_meaning.proofs.ActivationsLaw.{activation_computes, runaway_computes, one_activation}
-use Rattle.lh_meaning.proofs.activation_law.Goals as goal
-
-pub returns : goal.returns
-returns c = record { computes = activation_computes; runaway = runaway_computes; one = one_activation }

@@ -1,7 +1,0 @@
-use Rattle.std.proofs.Common.{subst}
-use Rattle.lh_names.specs.Distinct.{AllDistinct}
-use Rattle.lh_names.specs.NameTables.{names_of}
-use Rattle.lh_names.proofs.table.reopen.Goals as goal
-
-pub indexed-requires : goal.indexed-requires
-indexed-requires c = subst (λ k. AllDistinct (names_of k)) c.in-Listed.is c.requires

@@ -1,5 +1,0 @@
-use Rattle.std.proofs.Common.{◌≡◌, replicate, None}
-use Rattle.lh_parts.proofs.table.no_steps.Given as goal
-
-abbrev pub invariant-loop : goal.invariant-loop
-invariant-loop l = l.steps.items ≡ replicate l.counter None

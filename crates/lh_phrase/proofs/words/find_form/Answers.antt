@@ -1,6 +1,0 @@
-use Rattle.lh_phrase.specs.Words.{form_of}
-use Rattle.lh_phrase.proofs.words.find_form.Goals as goal
-
-pub returns : goal.returns
-unfolding form_of
-returns c = c.find.ensures

@@ -1,5 +1,0 @@
-use Rattle.lh_rows.proofs.Activations.{again-from-head}
-use Rattle.lh_rows.proofs.laws.again_from_head.Goals as goal
-
-pub returns : goal.returns
-returns c = again-from-head

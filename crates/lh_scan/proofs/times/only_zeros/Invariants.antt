@@ -1,6 +1,0 @@
-use Rattle.std.proofs.Common.{◌≡◌, drop}
-use Rattle.lh_scan.specs.Times.{all_zero}
-use Rattle.lh_scan.proofs.times.only_zeros.Given as goal
-
-abbrev pub invariant-loop-b : goal.invariant-loop-b
-invariant-loop-b l = all_zero (drop l.b-index l.text) ≡ all_zero l.text

@@ -1,5 +1,0 @@
-use Rattle.lh_sound.proofs.FitLaws.{keeps-fit}
-use Rattle.lh_sound.proofs.pass_law.Goals as goal
-
-pub returns : goal.returns
-returns c u now memory t p l s f = keeps-fit u now memory t p l s f

@@ -1,5 +1,0 @@
-use Rattle.lh_sound.proofs.FitLaws.{unit-is-sound}
-use Rattle.lh_sound.proofs.unit_law.Goals as goal
-
-pub returns : goal.returns
-returns c a u o h b g = unit-is-sound a u o h g b

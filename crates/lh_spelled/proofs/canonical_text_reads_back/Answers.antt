@@ -1,5 +1,0 @@
-use Rattle.lh_spelled.proofs.Readings.{every_reading_is_spelled}
-use Rattle.lh_spelled.proofs.canonical_text_reads_back.Goals as goal
-
-pub returns : goal.returns
-returns c = every_reading_is_spelled

@@ -1,6 +1,0 @@
-use Rattle.lh_spelled.proofs.Printing.{printable_is_spelled}
-use Rattle.lh_spelled.proofs.Printed.{spelled_is_printable}
-use Rattle.lh_spelled.proofs.printable_items_are_spelled.Goals as goal
-
-pub returns : goal.returns
-returns c = record { spelled = printable_is_spelled; printable = spelled_is_printable }

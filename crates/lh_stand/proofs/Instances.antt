@@ -1,7 +1,0 @@
--- What the laws of activations and of missing bits give, as the assembling of entities asks for it.
-use Rattle.std.proofs.Common.{◌+◌}
-use Rattle.lh_alike.specs.Padding.{PaddedRanges, reach}
-use Rattle.lh_stand.proofs.Assembling.{ZerosReach}
-
-pub reach-over : PaddedRanges → ZerosReach
-reach-over ranges args xs now w = (reach args + 0, ranges args xs now 0 w)

@@ -1,9 +1,0 @@
-use Rattle.lh_alike.specs.Lasting.{Lasting}
-use Rattle.lh_stand.proofs.Assembling.{each-comb}
-use Rattle.lh_stand.proofs.Instances.{reach-over}
-use Rattle.lh_stand.proofs.laws.comb_stands.Goals as goal
-
-pub returns : goal.returns
-returns c =
-    each-comb Lasting c.begins_law.ensures c.acts_law.ensures c.bits_law.ensures c.parts_law.ensures c.activations_law.ensures (reach-over c.ranges_law.ensures) c.formed_law.ensures
-    c.comb_given.ensures c.merged_drives_law.ensures.wish

@@ -1,9 +1,0 @@
-use Rattle.lh_alike.specs.Lasting.{Lasting}
-use Rattle.lh_stand.proofs.Assembling.{each-once}
-use Rattle.lh_stand.proofs.Instances.{reach-over}
-use Rattle.lh_stand.proofs.laws.once_stands.Goals as goal
-
-pub returns : goal.returns
-returns c =
-    each-once Lasting c.begins_law.ensures c.acts_law.ensures c.bits_law.ensures c.parts_law.ensures c.activations_law.ensures (reach-over c.ranges_law.ensures) c.formed_law.ensures
-    c.once_given.ensures

@@ -1,0 +1,5 @@
+use Rattle.lh_verify_flow.proofs.EveryRoute.{given_at_start}
+use Rattle.lh_verify_flow.proofs.laws.given_at_start.Goals as goal
+
+pub returns : goal.returns
+returns c = given_at_start

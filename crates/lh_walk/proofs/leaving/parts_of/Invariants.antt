@@ -1,6 +1,0 @@
-use Rattle.std.proofs.Common.{take}
-use Rattle.lh_walk.specs.Leaving.{PartsOf}
-use Rattle.lh_walk.proofs.leaving.parts_of.Given as goal
-
-abbrev pub invariant-loop-value : goal.invariant-loop-value
-invariant-loop-value l = PartsOf l.table.parts.items (take l.value-index l.values) l.parts

@@ -1,9 +1,0 @@
-use Rattle.std.proofs.Common.{sym}
-use Rattle.lh_words.proofs.Finding.{found_steps, steps_twice}
-use Rattle.lh_words.proofs.found.FoundOptions.with_steps.Goals as goal
-
-pub returns-then-is_some-clause-none : goal.returns-then-is_some-clause-none
-returns-then-is_some-clause-none c = λ done more is once. steps_twice _ _ done more (sym c.if-is_some.ensures) is once
-
-pub returns-clause-some : goal.returns-clause-some
-returns-clause-some c = λ done is. found_steps _ _ done (sym c.if-is_some.ensures) is
