@@ -4,6 +4,9 @@
 //! |---|---|
 //! | `check`, `lower`, `simulate ..` | what the program writes by these words, and then its log; without the log where an instance ran away, which the trace says too |
 //! | `run ..` | the code with which the program ends by the words behind it, what it writes, and then its log |
+//! | `faults ..` | what the program leaves by the words behind it, and what it leaves where each call of a stream fails in turn, each of at most 50 bytes |
+//! | `narrow HOLD PIECE ..` | as `run`, where the output holds so many bytes, and a call of a stream moves at most so many |
+//! | `long N ..` | by the words behind it on N bytes `!`: the code with which the program ends, and how many bytes of the source are left |
 //! | `verify` | whether the file is well formed, or the first fault, without a name |
 //! | `same` | whether the program writes the text as it is |
 //! | `both simulate ..` | whether the lowered file shows what the file shows, by the same words |
@@ -17,7 +20,8 @@
 //!
 //! Where a text does not read, is not well formed, or has no such top, the answer is what the program says of it.
 use crate::design::{file_of, of_top};
-use crate::program::{Program, Ran};
+use crate::faults::{each_fault, narrow, on_long_text};
+use crate::program::{Program, Ran, SOUND, Streams};
 use lh_print::print;
 use lh_types::text::{put, put_number};
 use lh_types::ty::NoMemory;
@@ -48,7 +52,13 @@ fn answer_to<P: Program>(
     let (word, rest) = how.split_once(' ').unwrap_or((how, ""));
     match word {
         "check" | "lower" | "simulate" => shown(alloc, program, how, text),
-        "run" => left(alloc, program, rest, text),
+        "run" => left(alloc, program, SOUND, rest, text),
+        "faults" => each_fault(alloc, program, rest, text),
+        "narrow" => {
+            let (streams, rest) = narrow(rest);
+            left(alloc, program, streams, rest, text)
+        }
+        "long" => on_long_text(alloc, program, rest),
         "verify" => verified(alloc, program, text),
         "same" => compared(alloc, program, text),
         "both" => beside_lowered(alloc, program, rest, text),
@@ -82,7 +92,7 @@ pub fn shown<P: Program>(
     words: &str,
     text: &[u8],
 ) -> Result<Vec<u8>, NoMemory> {
-    let ran = program.run(alloc, words, text)?;
+    let ran = program.run(alloc, words, text, SOUND)?;
     let answer = shown_by(alloc, &ran);
     drop(ran);
     answer
@@ -100,10 +110,11 @@ fn shown_by(alloc: Global, ran: &Ran) -> Result<Vec<u8>, NoMemory> {
 fn left<P: Program>(
     alloc: Global,
     program: &P,
+    streams: Streams,
     words: &str,
     text: &[u8],
 ) -> Result<Vec<u8>, NoMemory> {
-    let ran = program.run(alloc, words, text)?;
+    let ran = program.run(alloc, words, text, streams)?;
     let answer = left_by(alloc, &ran);
     drop(ran);
     answer
@@ -126,7 +137,7 @@ fn put_left(to: &mut Vec<u8>, ran: &Ran) -> Result<(), NoMemory> {
 
 /// Whether a file is well formed.
 fn verified<P: Program>(alloc: Global, program: &P, text: &[u8]) -> Result<Vec<u8>, NoMemory> {
-    let ran = program.run(alloc, "check", text)?;
+    let ran = program.run(alloc, "check", text, SOUND)?;
     let answer = verdict_of(alloc, &ran);
     drop(ran);
     answer
@@ -155,7 +166,7 @@ fn without_name(alloc: Global, line: &str) -> Result<Vec<u8>, NoMemory> {
 
 /// Whether the program writes a text as it is.
 fn compared<P: Program>(alloc: Global, program: &P, text: &[u8]) -> Result<Vec<u8>, NoMemory> {
-    let ran = program.run(alloc, "check", text)?;
+    let ran = program.run(alloc, "check", text, SOUND)?;
     let alike = ran.out.written() == text;
     drop(ran);
     said_alike(alloc, alike)
@@ -168,7 +179,7 @@ fn beside_lowered<P: Program>(
     words: &str,
     text: &[u8],
 ) -> Result<Vec<u8>, NoMemory> {
-    let lowered = program.run(alloc, "lower", text)?;
+    let lowered = program.run(alloc, "lower", text, SOUND)?;
     let alike = show_alike(alloc, program, words, text, lowered.out.written());
     drop(lowered);
     said_alike(alloc, alike?)
@@ -182,7 +193,7 @@ fn show_alike<P: Program>(
     text: &[u8],
     other: &[u8],
 ) -> Result<bool, NoMemory> {
-    let one = program.run(alloc, words, text)?;
+    let one = program.run(alloc, words, text, SOUND)?;
     let alike = shows_this(alloc, program, words, other, &one);
     drop(one);
     alike
@@ -195,7 +206,7 @@ fn shows_this<P: Program>(
     text: &[u8],
     one: &Ran,
 ) -> Result<bool, NoMemory> {
-    let other = program.run(alloc, words, text)?;
+    let other = program.run(alloc, words, text, SOUND)?;
     let alike = are_alike(one, &other);
     drop(other);
     Ok(alike)

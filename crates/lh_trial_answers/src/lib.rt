@@ -3,6 +3,7 @@
 
 pub mod answer;
 mod design;
+mod faults;
 pub mod program;
 mod stepped;
 mod watched;

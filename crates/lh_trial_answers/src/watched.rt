@@ -7,12 +7,12 @@ ghost use Rattle.lh_elab.specs.Answer.{IsDesignOf};
 ghost use Rattle.lh_kernel.specs.Simulation.{StandsFor};
 
 use crate::answer::number;
-use crate::program::sink;
+use crate::program::{ROOM, sink};
 use lh_design::Design;
 use lh_kernel::Sim;
 use lh_text_buffer::Text;
 use lh_trial_reference::frames::put_named;
-use lh_trial_watchers::speaker::{Speaker, speakers};
+use lh_trial_watchers::speaker::speakers;
 use lh_types::ty::NoMemory;
 use lh_unit::module::Module;
 use lh_watch::watcher::Watcher;
@@ -26,19 +26,22 @@ pub fn watched(alloc: Global, m: &Module, design: Design, words: &str) -> Result
     requires { IsDesignOf m.now design }
 {
     let (steps, words) = words.split_once(' ').unwrap_or((words, ""));
-    let mut watchers = speakers(alloc, words)?;
+    let mut watchers: Vec<Box<dyn Watcher>> = Vec::new(alloc);
+    for speaker in speakers(alloc, words)? {
+        watchers.push(Box::new(alloc, speaker)?)?;
+    }
     let answer = watched_by(alloc, m, design, number(steps).max(1), &mut watchers);
     drop(watchers);
     answer
 }
 
-/// The same of these watchers.
-fn watched_by(
+/// The trace that these watchers are shown, and what is left of them.
+fn watched_by<W: Watcher>(
     alloc: Global,
     m: &Module,
     design: Design,
     steps: u32,
-    watchers: &mut Vec<Speaker>,
+    watchers: &mut Vec<W>,
 ) -> Result<Vec<u8>, NoMemory>
     requires design { IsDesignOf m.now design }
     requires steps { 0 < steps }
@@ -48,13 +51,13 @@ fn watched_by(
     answer.finish()
 }
 
-fn put_watched(
+fn put_watched<W: Watcher>(
     to: &mut Text,
     alloc: Global,
     m: &Module,
     design: Design,
     steps: u32,
-    watchers: &mut Vec<Speaker>,
+    watchers: &mut Vec<W>,
 ) -> Result<(), NoMemory>
     requires design { IsDesignOf m.now design }
     requires steps { 0 < steps }
@@ -65,20 +68,20 @@ fn put_watched(
     told
 }
 
-/// The same of a simulation before its first frame.
-fn put_run(
+/// Puts what watchers are shown of a simulation that is before its first frame, and what is left of them.
+fn put_run<W: Watcher>(
     to: &mut Text,
     alloc: Global,
     m: &Module,
     sim: &mut Sim<'_>,
     steps: u32,
-    watchers: &mut Vec<Speaker>,
+    watchers: &mut Vec<W>,
 ) -> Result<(), NoMemory>
     requires steps { 0 < steps }
     requires module { sim.old.arena ≡ m.now }
     requires first { StandsFor sim.old (first_world (contents m.now) (design_text m.now sim.old.design)) }
 {
-    let mut out = sink(alloc)?;
+    let mut out = sink(alloc, ROOM, ROOM, 0)?;
     let mut reports = Vec::new(alloc);
     let told = match run_wave(
         alloc,
@@ -97,12 +100,12 @@ fn put_run(
     told
 }
 
-fn put_shown(
+fn put_shown<W: Watcher>(
     to: &mut Text,
     alloc: Global,
     trace: &[u8],
     end: End,
-    watchers: &[Speaker],
+    watchers: &[W],
     reports: &[u8],
 ) -> Result<(), NoMemory> {
     to.put(trace);
@@ -114,11 +117,11 @@ fn put_shown(
     Ok(())
 }
 
-fn put_fault(
+fn put_fault<W: Watcher>(
     to: &mut Text,
     alloc: Global,
     fault: WaveFault,
-    watchers: &[Speaker],
+    watchers: &[W],
 ) -> Result<(), NoMemory> {
     let line: &[u8] = match fault {
         WaveFault::WriteFault => b"write fault\n",
@@ -138,7 +141,7 @@ fn put_end(to: &mut Text, end: End) {
 }
 
 /// What the watchers that are left report, one behind the other.
-fn put_left(to: &mut Text, alloc: Global, watchers: &[Speaker]) -> Result<(), NoMemory> {
+fn put_left<W: Watcher>(to: &mut Text, alloc: Global, watchers: &[W]) -> Result<(), NoMemory> {
     let mut left = Vec::new(alloc);
     put_reports(&mut left, watchers)?;
     to.put(b"left ");
@@ -147,7 +150,7 @@ fn put_left(to: &mut Text, alloc: Global, watchers: &[Speaker]) -> Result<(), No
     Ok(())
 }
 
-fn put_reports(to: &mut Vec<u8>, watchers: &[Speaker]) -> Result<(), NoMemory> {
+fn put_reports<W: Watcher>(to: &mut Vec<u8>, watchers: &[W]) -> Result<(), NoMemory> {
     for watcher in watchers {
         watcher.report(to)?;
     }

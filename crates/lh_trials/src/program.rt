@@ -1,7 +1,7 @@
 //! Runs of the program in memory.
 use lh_io::memory::{MemSink, MemSource};
 use lh_run::top::run;
-use lh_trial_answers::program::{Program, ROOM, Ran, sink};
+use lh_trial_answers::program::{Program, ROOM, Ran, Streams, sink};
 use lh_types::list::{ByteList, TextList};
 use lh_types::ty::NoMemory;
 use lh_watch::builtin::{Asserts, Toggles, UntilFail};
@@ -13,29 +13,51 @@ use std::alloc::Global;
 pub struct InMemory;
 
 impl Program for InMemory {
-    fn run(&self, alloc: Global, words: &str, text: &[u8]) -> Result<Ran, NoMemory> {
+    fn run(
+        &self,
+        alloc: Global,
+        words: &str,
+        text: &[u8],
+        streams: Streams,
+    ) -> Result<Ran, NoMemory> {
         let words = words_of(alloc, words)?;
-        let mut src = MemSource::new(Vec::from_slice(alloc, text)?, ROOM, Vec::new(alloc));
-        let mut out = sink(alloc)?;
-        let mut log = sink(alloc)?;
-        let code = run_on(alloc, &words, &mut src, &mut out, &mut log)?;
-        Ok(Ran { code, out, log })
+        let text = Vec::from_slice(alloc, text)?;
+        let fails = Vec::from_slice(alloc, &[streams.read])?;
+        let mut src = MemSource::new(text, streams.piece.max(1), fails);
+        let mut out = sink(alloc, streams.hold, streams.piece, streams.write)?;
+        let mut log = sink(alloc, ROOM, streams.piece, streams.log)?;
+        let (code, watchers) = run_on(alloc, &words, &mut src, &mut out, &mut log)?;
+        Ok(left_by((code, watchers), &src, out, log))
     }
 }
 
-/// The code with which the program ends.
+/// What a run leaves.
+fn left_by((code, watchers): (u8, usize), src: &MemSource, out: MemSink, log: MemSink) -> Ran {
+    let faults = src.faults().max(out.faults()).max(log.faults());
+    Ran {
+        code,
+        out,
+        log,
+        faults,
+        unread: src.left().len(),
+        watchers,
+    }
+}
+
+/// The code with which the program ends, and how many watchers it leaves.
 fn run_on(
     alloc: Global,
     words: &TextList,
     src: &mut MemSource,
     out: &mut MemSink,
     log: &mut MemSink,
-) -> Result<u8, NoMemory> {
+) -> Result<(u8, usize), NoMemory> {
     let mut watchers: Vec<Box<dyn Watcher>> = Vec::new(alloc);
     watchers.push(Box::new(alloc, Toggles::new())?)?;
     watchers.push(Box::new(alloc, Asserts::new())?)?;
     watchers.push(Box::new(alloc, UntilFail::new())?)?;
-    Ok(run(alloc, words, src, out, log, &mut watchers).code())
+    let status = run(alloc, words, src, out, log, &mut watchers);
+    Ok((status.code(), watchers.len()))
 }
 
 /// The words of a command line.
