@@ -5,6 +5,5 @@ pub mod Callings
 pub mod Performances
 pub mod Simulations
 pub mod Loading
-pub mod Tops
 pub mod Accounts
 pub mod Lowerings

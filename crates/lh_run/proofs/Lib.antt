@@ -1,1 +1,2 @@
 pub mod Faithfully
+pub mod Tops

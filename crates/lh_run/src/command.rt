@@ -7,11 +7,11 @@ ghost use Rattle.lh_result.specs.Account.{use_of};
 ghost use Rattle.lh_result.specs.Steps.{Carries};
 ghost use Rattle.lh_run.specs.Faithful.{LowersFile};
 
+use crate::check::check;
 use crate::lowering::lower_file;
+use crate::simulate::{simulate, status_of};
 use lh_args::command::FileCommand;
 use lh_io::stream::Sink;
-use lh_result::check::check;
-use lh_result::simulate::{simulate, status_of};
 use lh_result::status::Status;
 use lh_verify::verify::Verified;
 use lh_watch::watcher::Watcher;

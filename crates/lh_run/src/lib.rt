@@ -1,9 +1,11 @@
-//! The top call: what the words of a command line ask for is done with a file that is read from a source.
+//! The top call `run`, and the commands `check`, `simulate`, `lower` and `selftest` that it carries out.
 #![tactic(auto)]
 
+mod check;
 mod command;
 mod lowering;
 mod selftest;
+mod simulate;
 pub mod top;
 
 pub use lh_result::status;

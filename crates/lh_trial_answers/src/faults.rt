@@ -34,8 +34,14 @@ impl Stream {
             ..SOUND
         };
         match self {
-            Stream::Source => Streams { read: call, ..sound },
-            Stream::Output => Streams { write: call, ..sound },
+            Stream::Source => Streams {
+                read: call,
+                ..sound
+            },
+            Stream::Output => Streams {
+                write: call,
+                ..sound
+            },
             Stream::Log => Streams { log: call, ..sound },
         }
     }

@@ -45,7 +45,13 @@ pub struct Ran {
 /// What runs the program.
 pub trait Program {
     /// A run by the words of a command line on a text.
-    fn run(&self, alloc: Global, words: &str, text: &[u8], streams: Streams) -> Result<Ran, NoMemory>;
+    fn run(
+        &self,
+        alloc: Global,
+        words: &str,
+        text: &[u8],
+        streams: Streams,
+    ) -> Result<Ran, NoMemory>;
 }
 
 /// A sink that holds so many bytes, of which a call takes at most so many; the call of this number fails.

@@ -2,7 +2,7 @@ use Rattle.std.proofs.lemmas.Result.{err_from_is_err_and}
 use Rattle.lh_unit.specs.Arena.{contents}
 use Rattle.lh_args.specs.Meant.{simulation_of}
 use Rattle.lh_result.proofs.Simulations.{Carries-refused}
-use Rattle.lh_result.proofs.simulate.simulate.Goals as goal
+use Rattle.lh_run.proofs.simulate.simulate.Goals as goal
 
 pub returns-in_err-sim-clause-carries : goal.returns-in_err-sim-clause-carries
 returns-in_err-sim-clause-carries g c =

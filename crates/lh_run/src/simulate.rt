@@ -17,13 +17,13 @@ ghost use Rattle.lh_result.specs.Simulated.{status_by, mode_of};
 ghost use Rattle.lh_result.specs.Account.{use_of};
 ghost use Rattle.lh_result.specs.Steps.{Carries, ShowsRun, simulated, IsTopStatus};
 
-use crate::status::{Status, TopFault};
 use lh_args::command::{Simulate, Titles, Top};
 use lh_design::Design;
 use lh_elab::{ElabFault, elab};
 use lh_io::stream::Sink;
 use lh_io::whole::write_all;
 use lh_kernel::Sim;
+use lh_result::status::{Status, TopFault};
 use lh_types::list::{ByteList, TextList};
 use lh_types::ty::NoMemory;
 use lh_unit::inst::UnitId;

@@ -5,7 +5,7 @@ use Rattle.lh_design.specs.Texts.{design_text}
 use Rattle.lh_watch.specs.Shown.{kept}
 use Rattle.lh_args.specs.Meant.{simulation_of}
 use Rattle.lh_result.proofs.Simulations.{Carries-starved, Carries-shown}
-use Rattle.lh_result.proofs.simulate.show_asked.Goals as goal
+use Rattle.lh_run.proofs.simulate.show_asked.Goals as goal
 
 pub returns-in_err-keep_asked-clause-carries : goal.returns-in_err-keep_asked-clause-carries
 returns-in_err-keep_asked-clause-carries g c =

@@ -3,10 +3,10 @@ ghost use Rattle.lh_unit.specs.Arena.{contents};
 ghost use Rattle.lh_result.specs.Account.{use_of};
 ghost use Rattle.lh_result.specs.Steps.{WritesCanon, ended};
 
-use crate::status::Status;
 use lh_io::stream::Sink;
 use lh_io::whole::write_all;
 use lh_print::print;
+use lh_result::status::Status;
 use lh_verify::verify::Verified;
 use std::alloc::Global;
 

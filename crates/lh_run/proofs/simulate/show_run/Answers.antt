@@ -1,7 +1,7 @@
 use Rattle.std.proofs.Common.{◌∙◌}
 use Rattle.std.proofs.lemmas.Result.{err_from_is_err_and}
 use Rattle.lh_result.proofs.Simulations.{ShowsRun-broken, ShowsRun-unreported, ShowsRun-whole}
-use Rattle.lh_result.proofs.simulate.show_run.Goals as goal
+use Rattle.lh_run.proofs.simulate.show_run.Goals as goal
 
 pub returns-in_err-ending-clause-shows : goal.returns-in_err-ending-clause-shows
 returns-in_err-ending-clause-shows g c =

@@ -3,8 +3,8 @@ use Rattle.lh_unit.specs.Arena.{contents}
 use Rattle.lh_unit.specs.Design.{elab, refused, top_missing}
 use Rattle.lh_unit_names.specs.declared.name.UnitName.{UnitName}
 use Rattle.lh_selftest.proofs.Missing.{elab-not_there, elab-not_defined}
-use Rattle.lh_result.proofs.Tops.{is_missing}
-use Rattle.lh_result.proofs.simulate.design_named.Goals as goal
+use Rattle.lh_run.proofs.Tops.{is_missing}
+use Rattle.lh_run.proofs.simulate.design_named.Goals as goal
 
 pub returns-in_default-clause-status : goal.returns-in_default-clause-status
 returns-in_default-clause-status c = (top_missing, elab-not_there c.args.m.now _ c.find.ensures.sound c.in_default.ensures.found, refl)

@@ -1,6 +1,6 @@
 use Rattle.std.proofs.Common.{◌≡◌, ◌++◌}
 use Rattle.lh_args.specs.Meant.{titles_left}
-use Rattle.lh_result.proofs.simulate.titles_of.Given as goal
+use Rattle.lh_run.proofs.simulate.titles_of.Given as goal
 
 -- the titles that are there and those that are still to come are all of them
 abbrev pub invariant-loop-title : goal.invariant-loop-title

@@ -3,7 +3,7 @@ use Rattle.std.proofs.lemmas.Result.{err_from_is_err_and}
 use Rattle.lh_unit.specs.Arena.{Arena, contents}
 use Rattle.lh_unit.specs.Canon.{canon}
 use Rattle.lh_result.proofs.Writes.{BreaksOff_of}
-use Rattle.lh_result.proofs.check.check.Goals as goal
+use Rattle.lh_run.proofs.check.check.Goals as goal
 
 pub returns-in_err-write_all : goal.returns-in_err-write_all
 returns-in_err-write_all g c =
