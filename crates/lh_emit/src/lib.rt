@@ -11,3 +11,4 @@ pub mod tasks;
 pub mod values;
 
 pub use crate::emitter::Emitter;
+pub use lh_emit_body::{Body, BodyLine, BodyLineList, EmitFault};

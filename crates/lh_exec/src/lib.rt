@@ -12,5 +12,6 @@ mod state;
 mod values;
 
 pub use laws::{state_law, steady_law};
+pub use lh_bits::writes::DueWrites;
 pub use process::{Act, ExecFault, activate};
 pub use state::{ProcState, WaitOn};

@@ -13,3 +13,4 @@ mod touched;
 mod woken;
 
 pub use crate::sim::{Sim, SimStep};
+pub use lh_types::frame::{Change, Frame, Outcome};

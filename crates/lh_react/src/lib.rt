@@ -11,4 +11,5 @@ mod state;
 mod triggers;
 
 pub use entity::{EntAct, react};
+pub use lh_bits::writes::DueWrites;
 pub use state::EntState;

@@ -4,6 +4,8 @@
 //! |---|---|
 //! | `check`, `lower`, `simulate ..` | what the program writes by these words, and then its log; without the log where an instance ran away, which the trace says too |
 //! | `run ..` | the code with which the program ends by the words behind it, what it writes, and then its log |
+//! | `log ..` | as `run`, without the output |
+//! | `size ..` | as `run`, with how many bytes the output has in place of it |
 //! | `faults ..` | what the program leaves by the words behind it, and what it leaves where each call of a stream fails in turn, each of at most 50 bytes |
 //! | `narrow HOLD PIECE ..` | as `run`, where the output holds so many bytes, and a call of a stream moves at most so many |
 //! | `long N ..` | by the words behind it on N bytes `!`: the code with which the program ends, and how many bytes of the source are left |
@@ -30,6 +32,9 @@ use std::alloc::Global;
 /// The code with which the program ends where an instance ran away.
 const RUNAWAY: u8 = 10;
 
+/// More bytes than a file may have that `lower` writes.
+const LONGEST: usize = 70_000_000;
+
 /// The answer to a text.
 pub fn answer<P: Program>(
     alloc: Global,
@@ -53,6 +58,8 @@ fn answer_to<P: Program>(
     match word {
         "check" | "lower" | "simulate" => shown(alloc, program, how, text),
         "run" => left(alloc, program, SOUND, rest, text),
+        "log" => told(alloc, program, false, rest, text),
+        "size" => told(alloc, program, true, rest, text),
         "faults" => each_fault(alloc, program, rest, text),
         "narrow" => {
             let (streams, rest) = narrow(rest);
@@ -132,6 +139,37 @@ fn put_left(to: &mut Vec<u8>, ran: &Ran) -> Result<(), NoMemory> {
     put(to, b"\n")?;
     put(to, ran.out.written())?;
     put(to, b"log\n")?;
+    put(to, ran.log.written())
+}
+
+/// The code with which the program ends, how many bytes it writes if that is asked for, and its log.
+fn told<P: Program>(
+    alloc: Global,
+    program: &P,
+    has_size: bool,
+    words: &str,
+    text: &[u8],
+) -> Result<Vec<u8>, NoMemory> {
+    let streams = Streams {
+        hold: LONGEST,
+        ..SOUND
+    };
+    let ran = program.run(alloc, words, text, streams)?;
+    let mut answer = Vec::new(alloc);
+    let is_put = put_told(&mut answer, has_size, &ran);
+    drop(ran);
+    is_put?;
+    Ok(answer)
+}
+
+fn put_told(to: &mut Vec<u8>, has_size: bool, ran: &Ran) -> Result<(), NoMemory> {
+    put(to, b"status ")?;
+    put_number(to, ran.code as u64)?;
+    if has_size {
+        put(to, b", output ")?;
+        put_number(to, ran.out.written().len() as u64)?;
+    }
+    put(to, b"\n")?;
     put(to, ran.log.written())
 }
 

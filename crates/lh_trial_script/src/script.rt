@@ -13,6 +13,7 @@
 //! | `?` | has the answer to each further line, which is a text by itself; with nothing behind it no more |
 //! | `<` | stands for the file of this name, in the text |
 //! | `*` | with a number: the lines up to the next `*` stand so many times, in which `<i>` is 0, 1 and so on, and `<j>` is one more |
+//! | `&` | with a number and a text: the text stands so many times in the text of the trial, without a line end |
 //! | `\` | is a line of the text, without this byte |
 //! | any other | is a line of the text |
 use crate::group::{Group, put_line};
@@ -105,6 +106,7 @@ impl<A: Answers> Script<A> {
             b'-' => put_line(&mut self.group.tail, said),
             b'>' => self.say(said),
             b'?' => self.say_of_each(said),
+            b'&' => self.add_often(said),
             b'\\' => self.add_line(rest),
             _ => self.add_line(line),
         }
@@ -157,6 +159,19 @@ impl<A: Answers> Script<A> {
         }
         self.is_said = true;
         put_line(&mut self.said, &self.group.each)
+    }
+
+    /// Adds what stands behind a number so many times, without a line end.
+    fn add_often(&mut self, line: &[u8]) -> Result<(), NoMemory> {
+        if self.is_said {
+            self.end_trial()?;
+        }
+        let line = str::from_utf8(line).unwrap_or("");
+        let (times, part) = line.split_once(' ').unwrap_or((line, ""));
+        for _ in 0..times.parse::<u32>().unwrap_or(0) {
+            put(&mut self.text, part.as_bytes())?;
+        }
+        Ok(())
     }
 
     /// Adds a file to the text.

@@ -56,6 +56,26 @@ pub fn write_trace_head<K: Sink>(
     write_out(&waits, out)
 }
 
+/// The head of a trace of a design: a line for each signal, with its number, its type, the path of its instance and its name.
+pub fn trace_head(alloc: Global, d: &Design, m: &Module) -> Result<Vec<u8>, NoMemory>
+    requires { IsDesignOf m.now d.now }
+    ensures { IfOk result (λ text. text.items ≡ head.trace_head (shown_in (design_text m.now d.now)) (signals_in (design_text m.now d.now))) }
+{
+    let mut to = Text::new(alloc);
+    let mut path = Path::of(alloc, d, m, 0)?;
+    for (k, signal) in d.signals().iter().enumerate() {
+        path.go_to(alloc, d, m, signal.instance)?;
+        put_signal(
+            &mut to,
+            k as u64,
+            &signal.ty,
+            &path.text,
+            signal.name.as_bytes(),
+        );
+    }
+    to.finish()
+}
+
 /// The path of an instance, kept from one signal to the next: the signals of an instance mostly stand in a row.
 #[derive(Drop)]
 struct Path {
