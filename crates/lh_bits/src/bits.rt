@@ -141,15 +141,6 @@ impl Bits {
         number_run(self.words.as_slice(), lo, width)
     }
 
-    /// The `width` bits from `lo` on become the lowest of the number, least significant first; all
-    /// others stay.
-    pub fn put_int(&mut self, lo: u32, width: u32, number: u128)
-        requires { lo + width ≤ length self.old }
-        ensures { self.new ≡ bits_with lo (number_bits width number) self.old }
-    {
-        put_number_run(self.words.as_mut_slice(), lo, width, number);
-    }
-
     /// Adds the lowest `width` bits of the number at the end, least significant first; for want of
     /// memory the list stays as it was.
     pub fn push_int(&mut self, width: u32, number: u128) -> Result<(), NoMemory>

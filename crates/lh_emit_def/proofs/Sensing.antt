@@ -20,7 +20,7 @@ use Rattle.lh_term.specs.declared.part.Part.{Part}
 use Rattle.lh_emit_def.specs.Names.{value_name, free_number}
 use Rattle.lh_emit_def.specs.Emitted.{PartStep, Emitted, gives, gives_term, next_name, with_part, takes_steps, arg_name, part_name, typed, signal}
 use Rattle.lh_emit_def.specs.Needs.{operation_text}
-use Rattle.lh_emit_def.specs.Laws.{Among}
+use Rattle.lh_region_def.specs.Typed.{Among}
 use Rattle.lh_emit_def.specs.Reads.{range_in}
 use Rattle.lh_emit_def.specs.Ways.{StepsLead}
 use Rattle.lh_term.specs.Parts.{whole_argument}

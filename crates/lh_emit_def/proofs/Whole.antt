@@ -20,7 +20,9 @@ use Rattle.lh_emit_def.specs.Reads.{range_in, reads}
 use Rattle.lh_emit_def.specs.Registers.{triggers_seen}
 use Rattle.lh_term.specs.Leaves.{AllParts, AllPartsIn}
 use Rattle.lh_emit_def.specs.Ways.{IsReached, WaitIsGiven, DriveIsGiven, TriggerIsGiven, RowIsGiven}
-use Rattle.lh_emit_def.specs.Laws.{DriveReads, Among, Passes, CombPasses, CombSenses, OncePasses, OnceSenses, EdgePasses, row_parts, EdgeSenses}
+use Rattle.lh_region_def.specs.Rows.{DriveReads}
+use Rattle.lh_region_def.specs.Typed.{Among}
+use Rattle.lh_emit_def.specs.Laws.{Passes, CombPasses, CombSenses, OncePasses, OnceSenses, EdgePasses, row_parts, EdgeSenses}
 use Rattle.lh_emit_def.proofs.Induction.{IsNamed, Kept}
 use Rattle.lh_emit_def.proofs.Passing.{Frame, HasFewArgs, after, Begins, Inv}
 use Rattle.lh_emit_def.proofs.Beginning.{ArgsFit, begins}

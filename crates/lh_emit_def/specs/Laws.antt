@@ -1,5 +1,5 @@
 -- What an entity that was emitted does: the wish of its pass, what it remembers, and what it senses.
-use Rattle.std.specs.Prelude.{◌≡◌, ◌<◌, ◌^◌, ℕ, List, [], ◌∷◌, length, map, ◌≤◌, Bool, true, false, Option, Some, None, ◌⊎◌}
+use Rattle.std.specs.Prelude.{◌≡◌, ◌<◌, ◌^◌, ℕ, List, [], ◌∷◌, length, map, ◌≤◌, Bool, true, false, Option, Some, None}
 use Rattle.std.specs.List.{flat_map}
 use Rattle.lh_time.specs.declared.Instant.{Instant}
 use Rattle.lh_types.specs.Types.{bit_count}
@@ -14,13 +14,14 @@ use Rattle.lh_unit.specs.Within.{Each}
 use Rattle.lh_unit.specs.Hierarchy.{lines_of}
 use Rattle.lh_text_laws.specs.Printable.{results_repeat}
 use Rattle.lh_term.specs.declared.part.Part.{Part}
+use Rattle.lh_region_def.specs.Rows.{DriveReads}
+use Rattle.lh_region_def.specs.Typed.{Among}
 use Rattle.lh_emit_def.specs.Given.{Drive, TriggerTree, EdgeRowTree}
 use Rattle.lh_emit_def.specs.Emitted.{PartStep, source_of}
 use Rattle.lh_emit_def.specs.Entities.{emits, entity_with, comb_emission, edge_emission, once_emission}
 use Rattle.lh_emit_def.specs.Reads.{range_in, reads, with_rows}
 use Rattle.lh_emit_def.specs.Registers.{registers_wish, triggers_seen}
 use Rattle.lh_emit_def.specs.Reached.{steps_in, IsPartOf}
-use Rattle.lh_term.specs.Leaves.{AllParts}
 use Rattle.lh_emit_def.specs.Ways.{IsReached, WaitIsGiven, DriveIsGiven, RowIsGiven}
 
 -- the arguments of a unit in an instance: few, no two of one name, each with as many bits as its type has
@@ -28,17 +29,6 @@ pub record ArgumentsFit (u : UnitText) (args : List Range) : Type 0 where
   pub few : length u.args < 2 ^ 32
   pub once : args_repeat [] u.args ≡ false
   pub wide : map (λ (r : Range). r.len) args ≡ map (λ (a : ArgText). bit_count a.ty) u.args
-
--- what a drive reads has this
-pub record DriveReads (P : Part → Type 0) (d : Drive) : Type 0 where
-  pub cond : AllParts P d.cond
-  pub value : AllParts P d.value
-  pub delay : AllParts P d.delay
-
--- the part is one of these
-abbrev pub Among : Part → List Part → Type 0
-Among p [] = ⊥
-Among p (q ∷ more) = (q ≡ p) ⊎ Among p more
 
 -- the entity senses exactly these parts: each of them has this property, and the ones asked for are there
 pub record SensesParts (P : Part → Type 0) (asked : List Part) (y : UnitText) (args : List Range) : Type 0 where

@@ -13,7 +13,7 @@ use Rattle.lh_trace_laws.proofs.BitSets.{has, SameSet, IsWithin}
 use Rattle.lh_term.specs.declared.part.Part.{Part}
 use Rattle.lh_term_cover.specs.Bits.{has_bit, is_waited, are_waited, covers, same_bits}
 use Rattle.lh_region_def.specs.Means.{lowest_bit, range_in}
-use Rattle.lh_emit_def.specs.Laws.{Among}
+use Rattle.lh_region_def.specs.Typed.{Among}
 
 -- ---- numbers in a row
 

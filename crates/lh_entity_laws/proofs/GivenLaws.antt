@@ -30,7 +30,7 @@ use Rattle.lh_shape.specs.Shapes.{comb, edge, once, left, edge_row}
 use Rattle.lh_emit_def.specs.Emitted.{Source}
 use Rattle.lh_term.specs.Leaves.{AllParts}
 use Rattle.lh_emit_def.specs.Ways.{IsReached, WaitIsGiven, DriveIsGiven, RowIsGiven}
-use Rattle.lh_emit_def.specs.Laws.{DriveReads}
+use Rattle.lh_region_def.specs.Rows.{DriveReads}
 use Rattle.lh_entity_laws.specs.Given.{source_in, CombGiven, CombIsGiven, EdgeIsGiven, OnceIsGiven}
 use Rattle.lh_entity_laws.proofs.GivenTrees.{make-in, choice-in, conjuncts-in, conjunction-in, filter-in}
 use Rattle.lh_entity_laws.proofs.GivenTriggers.{triggers-given}

@@ -12,7 +12,7 @@ use Rattle.lh_shape.specs.Shapes.{comb, edge, once, shape_of_text}
 use Rattle.lh_emit_def.specs.Emitted.{Source, source_of}
 use Rattle.lh_emit_def.specs.Reached.{steps_in}
 use Rattle.lh_emit_def.specs.Ways.{WaitIsGiven, DriveIsGiven, RowIsGiven}
-use Rattle.lh_emit_def.specs.Laws.{DriveReads}
+use Rattle.lh_region_def.specs.Rows.{DriveReads}
 
 -- ---- the shapes
 

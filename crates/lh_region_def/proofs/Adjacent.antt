@@ -19,7 +19,7 @@ use Rattle.lh_term.specs.declared.part.Part.{Part}
 use Rattle.lh_term.proofs.Typing.{mean_fits}
 use Rattle.lh_region_def.specs.Typed.{IsOfType}
 use Rattle.lh_region_def.specs.Means.{range_in, is_one, due_by}
-use Rattle.lh_region_def.specs.Adjacent.{beyond, drive_merged, AdjacentDrivesMerge, MergedDrivesAreTyped}
+use Rattle.lh_region_def.specs.Adjacent.{beyond, drive_merged, AdjacentDrivesMerge, MergedDriveIsTyped}
 use Rattle.lh_region_def.proofs.Merging.{or-one, beyond-condition, beyond-one, choose, or-condition, made-choice}
 
 -- ---- one key twice, and two keys
@@ -149,7 +149,7 @@ adjacent-drives-merge past now p n args at w a b ta tb part delay =
     split true = refl
     split false = refl
 
-pub merged-drives-typed : MergedDrivesAreTyped
+pub merged-drives-typed : MergedDriveIsTyped
 merged-drives-typed a b ta tb part =
     let vb : IsOfType a.part.ty b.value = subst (λ (q : Part). IsOfType q.ty b.value) part tb.value in
     record {

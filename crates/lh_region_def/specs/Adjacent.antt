@@ -29,5 +29,5 @@ AdjacentDrivesMerge = (past now : Valuation) → IsFitting past → IsFitting no
     with_row past now args at (with_row past now args at w a) b ≡ with_row past now args at w (drive_merged a b)
 
 -- As one they are typed.
-abbrev pub MergedDrivesAreTyped : Type 0
-MergedDrivesAreTyped = (a b : Drive) → DriveTyped a → DriveTyped b → b.part ≡ a.part → DriveTyped (drive_merged a b)
+abbrev pub MergedDriveIsTyped : Type 0
+MergedDriveIsTyped = (a b : Drive) → DriveTyped a → DriveTyped b → b.part ≡ a.part → DriveTyped (drive_merged a b)

@@ -2,6 +2,7 @@
 use Rattle.std.specs.Prelude.{ℕ, List, [], Bool}
 use Rattle.lh_term.specs.Tree.{Tree}
 use Rattle.lh_term.specs.declared.part.Part.{Part}
+use Rattle.lh_term.specs.Leaves.{AllParts}
 use Rattle.lh_region_def.specs.Known.{Knowledge}
 
 -- a part is driven with a value after a delay, where the condition holds
@@ -10,6 +11,12 @@ pub record Drive : Type 0 where
   pub part : Part
   pub value : Tree
   pub delay : Tree
+
+-- each part that a drive reads has this
+pub record DriveReads (P : Part → Type 0) (d : Drive) : Type 0 where
+  pub cond : AllParts P d.cond
+  pub value : AllParts P d.value
+  pub delay : AllParts P d.delay
 
 -- how a region ends: at `halt`; at the head, which only the second region enters; or at a `wait` for a block, which may be the head, on
 -- these parts, and perhaps with a time

@@ -1,5 +1,5 @@
 //! The law of rows, each law as the contract of a function that does nothing.
-ghost use Rattle.lh_region_def.specs.Adjacent.{AdjacentDrivesMerge, MergedDrivesAreTyped};
+ghost use Rattle.lh_region_def.specs.Adjacent.{AdjacentDrivesMerge, MergedDriveIsTyped};
 ghost use Rattle.lh_region_def.specs.Laws.{AgainFromHead, FirstActivation, HeadStaysKnown, RowsAreTyped, SecondRegion};
 
 /// The first activation of an instance comes to exactly one end of its first region: the one whose condition holds. Its wish has
@@ -33,5 +33,5 @@ pub fn second_region()
 /// value where the second does. As one they are typed, where each is.
 pub fn adjacent_drives_merge()
     ensures merge { AdjacentDrivesMerge }
-    ensures typed { MergedDrivesAreTyped }
+    ensures typed { MergedDriveIsTyped }
 {}

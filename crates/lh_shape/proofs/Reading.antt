@@ -12,11 +12,10 @@ use Rattle.lh_term.specs.SameTree.{same_tree}
 use Rattle.lh_term.specs.Make.{is_constant, all_constant, value_in, values_in, is_zero, is_ones, is_bit, is_bit_value, negated, is_not_of, anded, halves, zero_like, ones_like, bit_of, found_or, not_rows, make_not, and_rows, or_rows, make_operation, make_choice}
 use Rattle.lh_term.specs.Conjuncts.{joins_bits, all_conjuncts, joined_conjuncts, with_term, with_terms, conjuncts_of, conjunction_from}
 use Rattle.lh_term.proofs.Sound.{negated_term, anded_term}
-use Rattle.lh_region_def.specs.Rows.{Drive}
+use Rattle.lh_region_def.specs.Rows.{Drive, DriveReads}
 use Rattle.lh_region_def.specs.Adjacent.{beyond, drive_merged}
 use Rattle.lh_shape.specs.Merging.{are_alike, merged_from, merged_drives}
 use Rattle.lh_term.specs.Leaves.{AllParts, AllPartsIn}
-use Rattle.lh_shape.specs.Reading.{DriveReads}
 
 module _ (P : Part → Type 0) where
   -- ---- terms as made

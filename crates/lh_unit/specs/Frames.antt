@@ -9,7 +9,7 @@ use Rattle.lh_types.specs.History.{bits_at}
 use Rattle.lh_unit.specs.Contents.{ItemText}
 use Rattle.lh_unit.specs.Hierarchy.{Instance}
 use Rattle.lh_unit.specs.Design.{Signal, Design}
-use Rattle.lh_unit.specs.World.{State, unit_of, Moment, woken, moment_of, bits_of, acts_at, World, first_world, world_after, next_instant}
+use Rattle.lh_unit.specs.World.{State, unit_of, Moment, woken, moment_of, bits_of, acts_at, World, world_after, next_instant}
 use Rattle.lh_unit.specs.Trace.{Frame, least_runaway, signal_value}
 
 -- the world after a frame, unless an instance ran away in it
@@ -25,10 +25,6 @@ world_past bound items d w t = world_unless (least_runaway 0 (acts_at bound item
 abbrev pub world_later : (bound : ℕ) → List ItemText → Design → (k : ℕ) → World → Option World
 world_later bound items d zero w = Some w
 world_later bound items d (suc k) w = option_and_then (world_later bound items d k) (option_and_then (world_past bound items d w) (next_instant w))
-
--- The world after k frames of a design, where there are so many and none of them ends the run.
-unfoldable pub world_at : (bound : ℕ) → List ItemText → Design → (k : ℕ) → Option World
-world_at bound items d k = world_later bound items d k (first_world items d)
 
 -- the numbers of the instances that are woken, the first of these having this number
 abbrev pub woken_from : (number : ℕ) → List ItemText → Moment → List Instance → List State → List ℕ
