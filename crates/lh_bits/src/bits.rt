@@ -7,7 +7,7 @@ ghost use Rattle.lh_bits.specs.Packed.{IsPacked};
 
 use crate::run::{copy_run, differing_run, grow, number_run, put_number_run, same_run};
 use crate::word::{put_window, window};
-use lh_types::ty::NoMemory;
+use lh_types::memory::NoMemory;
 use smallvec::{SmallVec, smallvec};
 use std::alloc::Global;
 use std::marker::Model;

@@ -7,7 +7,8 @@ ghost use Rattle.lh_types.specs.Fits.{FitsData};
 ghost use Rattle.lh_types.specs.Bits.{value_bits, row_bits, number_bits, bits_number, value_from_bits, row_from_bits, repeat_parts};
 
 use crate::bits::Bits;
-use lh_types::ty::{NoMemory, Ty, TyKind, bits};
+use lh_types::memory::NoMemory;
+use lh_types::ty::{Ty, TyKind, bits};
 use lh_types::val::{Val, ValList};
 use std::alloc::Global;
 

@@ -6,7 +6,7 @@ ghost use Rattle.lh_types.specs.Bits.{differing};
 ghost use Rattle.lh_bits.specs.Flags.{word_bit, flags};
 
 use crate::word::{ones_below, put_window, window};
-use lh_types::ty::NoMemory;
+use lh_types::memory::NoMemory;
 use smallvec::SmallVec;
 
 /// How many of the next `rest` bits from bit `at` on lie in one word.

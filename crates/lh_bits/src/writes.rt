@@ -6,7 +6,7 @@ use crate::bit_run::BitRun;
 use crate::bits::Bits;
 use crate::mostly_one::MostlyOne;
 use lh_time::Instant;
-use lh_types::ty::NoMemory;
+use lh_types::memory::NoMemory;
 use std::alloc::Global;
 use std::marker::Model;
 

@@ -2,7 +2,7 @@
 use Rattle.std.proofs.Common.{◌≡◌, Bool, true, false, List, sym, ap, ◌∙◌, subst, Option, Some, None, Vec, Result, Ok, Err, refl}
 use Rattle.lh_term.specs.declared.part.Part.{Part}
 use Rattle.lh_term.specs.declared.term.TermId.{TermId}
-use Rattle.lh_term.specs.declared.term.Node.{Node}
+use Rattle.lh_term.specs.declared.term.TermNode.{TermNode}
 use Rattle.lh_term.specs.Arena.{tree_at, trees, trees_at, IsIn, Grows, StandsForTree}
 use Rattle.lh_term.proofs.Swaps.{tree_grown, grows_on}
 use Rattle.lh_edge.specs.declared.triggers.Trigger.{Trigger}
@@ -18,7 +18,7 @@ use Rattle.lh_edge.proofs.Found.{found_of_none, found_of_some}
 use Rattle.lh_edge.proofs.Once.{showing_bit, order_bit}
 use Rattle.lh_edge.proofs.Checked.{few_atoms, many_atoms, atoms_check, atoms_triggers}
 
-module _ (a mid cur : List Node) (g : Grows a mid) (h : Grows mid cur) (cond edge : TermId) (cond_in : IsIn a cond) (made : StandsForTree mid edge (edge_part (tree_at (trees a) cond))) where
+module _ (a mid cur : List TermNode) (g : Grows a mid) (h : Grows mid cur) (cond edge : TermId) (cond_in : IsIn a cond) (made : StandsForTree mid edge (edge_part (tree_at (trees a) cond))) where
   pub many : {A : Type 0} (o : Option (Vec TermId A)) → o ≡ None → FindsThe cur (atoms_of (tree_at (trees mid) edge)) (found_items o) → has_too_many_atoms (tree_at (trees a) cond) ≡ true
   many o e f =
       let (ids, of, more) = found_of_none cur (atoms_of (tree_at (trees mid) edge)) o e f in
@@ -45,7 +45,7 @@ module _ (a mid cur : List Node) (g : Grows a mid) (h : Grows mid cur) (cond edg
       pub all_bit : (qs : List Part) → qs ≡ parts → AllBit qs
       all_bit qs q = subst AllBit (sym (q ∙ p)) (order_bit (showing_parts waited (trees_at cur xs)) (showing_bit waited (trees_at cur xs)))
 
-      pub gives : (new : List Node) (ts : List Trigger) (qs : List Part) → qs ≡ parts → true ≡ is_edge_shown waited (tree_at (trees a) cond)
+      pub gives : (new : List TermNode) (ts : List Trigger) (qs : List Part) → qs ≡ parts → true ≡ is_edge_shown waited (tree_at (trees a) cond)
           → AreTriggers new ts (triggers_at (tree_at (trees cur) cond) qs) → GivesTriggers new waited (tree_at (trees a) cond) ts
       gives new ts qs q s t =
           let c : tree_at (trees cur) cond ≡ tree_at (trees a) cond = tree_grown a cur (grows_on a mid cur g h) cond cond_in in
@@ -55,7 +55,7 @@ module _ (a mid cur : List Node) (g : Grows a mid) (h : Grows mid cur) (cond edg
           record { few = few; shown = sym s; triggers = subst (λ (xs : List TriggerTree). AreTriggers new ts xs) e t }
 
       -- the answer, by the check
-      pub answers : (new : List Node) (r : Result (List Trigger) EdgeFault) (ys : List TermId) (qs : List Part) → ys ≡ v.items → qs ≡ parts
+      pub answers : (new : List TermNode) (r : Result (List Trigger) EdgeFault) (ys : List TermId) (qs : List Part) → ys ≡ v.items → qs ≡ parts
           → ShownOrNot new (is_checked (tree_at (trees cur) cond) (tree_at (trees cur) edge) (trees_at cur ys) qs) (triggers_at (tree_at (trees cur) cond) qs) r
           → TriggersOrFault new waited (tree_at (trees a) cond) r
       answers new (Ok ts) ys qs y q h = gives new ts qs q (sym h.0 ∙ shown_is _ ys qs y q refl) h.1

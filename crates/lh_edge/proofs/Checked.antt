@@ -6,7 +6,7 @@ use Rattle.std.specs.Cmp.{first_so, second_so, both_ways}
 use Rattle.std.proofs.lemmas.Bool.{and_from}
 use Rattle.lh_term.specs.declared.part.Part.{Part}
 use Rattle.lh_term.specs.declared.term.TermId.{TermId}
-use Rattle.lh_term.specs.declared.term.Node.{Node}
+use Rattle.lh_term.specs.declared.term.TermNode.{TermNode}
 use Rattle.lh_term.specs.Tree.{Tree, past_of, now_of}
 use Rattle.lh_term.specs.Arena.{tree_at, trees, trees_at}
 use Rattle.lh_term.proofs.Arenas.{map_length}
@@ -91,7 +91,7 @@ few_false k h = grind (arith, nat_tests)
 many_true : (k : ℕ) → 12 < k → not (nat_le k 12) ≡ true
 many_true k h = grind (arith, nat_tests)
 
-module _ (ns : List Node) (c e : Tree) (ids : List TermId) (is : e ≡ edge_part c) where
+module _ (ns : List TermNode) (c e : Tree) (ids : List TermId) (is : e ≡ edge_part c) where
   pub few_atoms : AreAllIdsOf ns (atoms_of e) ids → has_too_many_atoms c ≡ false
   unfolding has_too_many_atoms
   few_atoms a =

@@ -3,7 +3,7 @@ use Rattle.std.proofs.Common.{◌≡◌, ℕ, zero, suc, ◌+◌, ◌<◌, ◌�
 use Rattle.std.specs.Cmp.{first_so, second_so}
 use Rattle.lh_term.specs.declared.part.Part.{Part}
 use Rattle.lh_term.specs.declared.term.TermId.{TermId}
-use Rattle.lh_term.specs.declared.term.Node.{Node}
+use Rattle.lh_term.specs.declared.term.TermNode.{TermNode}
 use Rattle.lh_term.specs.Tree.{Tree, constant, past_of, now_of, operation, choice_of}
 use Rattle.lh_term.specs.SameTree.{same_tree, same_tree-is, same_tree-refl}
 use Rattle.lh_types.specs.Same.{nat_eq-refl, nat_eq-is}
@@ -41,7 +41,7 @@ distinct_push (u ∷ ts) t d h =
     both_false : (a b : Bool) → a ≡ false → b ≡ false → (a || (b || false)) ≡ false
     both_false a b p q = rw (p, q) refl
 
-module _ (ns : List Node) (ids : List TermId) (x : TermId) where
+module _ (ns : List TermNode) (ids : List TermId) (x : TermId) where
   at_end : trees_at ns (ids ++ x ∷ []) ≡ trees_at ns ids ++ tree_at (trees ns) x ∷ []
   at_end = map_push (tree_at (trees ns)) ids x
 
@@ -82,17 +82,17 @@ module _ (ns : List Node) (ids : List TermId) (x : TermId) where
       at true = ([], sym (append-nil ids))
       at false = (x ∷ [], refl)
 
-none_of : (ns : List Node) (ts : List Tree) → AreIdsOf ns ts []
+none_of : (ns : List TermNode) (ts : List Tree) → AreIdsOf ns ts []
 none_of ns ts = record { are_in = refl; distinct = tt; sound = λ t h. cc }
 
 -- ---- the subterms found so far
 
 -- of those terms that are no connective each is found
-pub record FoundSoFar (ns : List Node) (e : TermId) (found done : List TermId) : Type 0 where
+pub record FoundSoFar (ns : List TermNode) (e : TermId) (found done : List TermId) : Type 0 where
   pub of : AreIdsOf ns (subterms (tree_at (trees ns) e)) found
   pub each : (j : ℕ) → is_on done j ≡ true → is_atom (tree_at (trees ns) (record { 0 = j })) ≡ true → has (trees_at ns found) (tree_at (trees ns) (record { 0 = j })) ≡ true
 
-pub found_start : (ns : List Node) (e : TermId) (found : List TermId) → found ≡ [] → FoundSoFar ns e found []
+pub found_start : (ns : List TermNode) (e : TermId) (found : List TermId) → found ≡ [] → FoundSoFar ns e found []
 found_start ns e found m = subst (λ (xs : List TermId). FoundSoFar ns e xs []) (sym m) (record { of = none_of ns (subterms (tree_at (trees ns) e)); each = λ j o. cc })
 
 atom_alone : (t : Tree) → is_atom t ≡ true → subterms t ≡ t ∷ []
@@ -115,7 +115,7 @@ atom_alone (choice_of c f t) e = at (is_one_bit f) e
     at false k = refl
 
 -- a term that is reached has no subterm but those of the edge part
-subterm_of : (ns : List Node) (e : TermId) (ids : List TermId) → AreReached (joined_by (trees ns)) ns (e ∷ []) ids → (j : ℕ) (t : Tree) → is_on ids j ≡ true → has (subterms (tree_at (trees ns) (record { 0 = j }))) t ≡ true
+subterm_of : (ns : List TermNode) (e : TermId) (ids : List TermId) → AreReached (joined_by (trees ns)) ns (e ∷ []) ids → (j : ℕ) (t : Tree) → is_on ids j ≡ true → has (subterms (tree_at (trees ns) (record { 0 = j }))) t ≡ true
     → has (subterms (tree_at (trees ns) e)) t ≡ true
 subterm_of ns e ids r j t o h = at (has (subterms (tree_at (trees ns) e)) t) refl
   where
@@ -131,7 +131,7 @@ subterm_of ns e ids r j t o h = at (has (subterms (tree_at (trees ns) e)) t) ref
     at false q = absurd (not_both (has (subterms (tree_at (trees ns) (record { 0 = j }))) t) h
         (not-true (has (subterms (tree_at (trees ns) (record { 0 = j }))) t) (pass_on lacks ids j (r.only lacks passes (not_from_false (has (subterms (tree_at (trees ns) e)) t) q, tt)) o)))
 
-pub found_next : (ns : List Node) (e : TermId) (found done ids : List TermId) (x : TermId) (more : List TermId) → FoundSoFar ns e found done → AreReached (joined_by (trees ns)) ns (e ∷ []) ids → is_on ids x.0 ≡ true → IsIn ns x
+pub found_next : (ns : List TermNode) (e : TermId) (found done ids : List TermId) (x : TermId) (more : List TermId) → FoundSoFar ns e found done → AreReached (joined_by (trees ns)) ns (e ∷ []) ids → is_on ids x.0 ≡ true → IsIn ns x
     → more ≡ with_atom ns found x → FoundSoFar ns e more (done ++ x ∷ [])
 found_next ns e found done ids x more s r o l m = subst (λ (xs : List TermId). FoundSoFar ns e xs (done ++ x ∷ [])) (sym m) (at (is_atom T) refl)
   where
@@ -159,14 +159,14 @@ found_next ns e found done ids x more s r o l m = subst (λ (xs : List TermId). 
           ];
         }
 
-pub found_turn : (ns : List Node) (e : TermId) (found ids more : List TermId) (n : ℕ) (d : TermId) → AreReached (joined_by (trees ns)) ns (e ∷ []) ids → n < length ids → FoundSoFar ns e found (take n ids)
+pub found_turn : (ns : List TermNode) (e : TermId) (found ids more : List TermId) (n : ℕ) (d : TermId) → AreReached (joined_by (trees ns)) ns (e ∷ []) ids → n < length ids → FoundSoFar ns e found (take n ids)
     → more ≡ with_atom ns found (get_or ids n d) → FoundSoFar ns e more (take (n + 1) ids)
 found_turn ns e found ids more n d r l s m =
     subst (λ (xs : List TermId). FoundSoFar ns e more xs) (sym (take_more ids n d l))
     (found_next ns e found (take n ids) ids (get_or ids n d) more s r (on_at ids n d l) (on_below (length ns) ids (get_or ids n d).0 r.are_in (on_at ids n d l)) m)
 
 -- each subterm of a term that is reached is found
-module _ (ns : List Node) (found ids : List TermId) (t : Tree)
+module _ (ns : List TermNode) (found ids : List TermId) (t : Tree)
     (each : (j : ℕ) → is_on ids j ≡ true → is_atom (tree_at (trees ns) (record { 0 = j })) ≡ true → has (trees_at ns found) (tree_at (trees ns) (record { 0 = j })) ≡ true) where
   all_below : (left : List TermId) → AreIn ns left → ((j : ℕ) → is_on left j ≡ true → is_on ids j ≡ true) → GoOn (joined_by (trees ns)) ns none_left left → (j : ℕ) → is_on left j ≡ true
       → has (subterms (tree_at (trees ns) (record { 0 = j }))) t ≡ true → has (trees_at ns found) t ≡ true
@@ -210,7 +210,7 @@ take_all [] (suc n) l = refl
 take_all (x ∷ xs) zero l = absurd (omega arith)
 take_all (x ∷ xs) (suc n) l = ap (λ r. x ∷ r) (take_all xs n (omega arith))
 
-pub finds_all : (ns : List Node) (e : TermId) (found ids : List TermId) (n : ℕ) → AreReached (joined_by (trees ns)) ns (e ∷ []) ids → length ids ≤ n → length found ≤ 12 → FoundSoFar ns e found (take n ids)
+pub finds_all : (ns : List TermNode) (e : TermId) (found ids : List TermId) (n : ℕ) → AreReached (joined_by (trees ns)) ns (e ∷ []) ids → length ids ≤ n → length found ≤ 12 → FoundSoFar ns e found (take n ids)
     → AreAllIdsOf ns (subterms (tree_at (trees ns) e)) found
 finds_all ns e found ids n r z few w =
     let v : FoundSoFar ns e found ids = subst (λ (xs : List TermId). FoundSoFar ns e found xs) (take_all ids n z) w in
@@ -218,7 +218,7 @@ finds_all ns e found ids n r z few w =
 
 -- ---- values now are added
 
-module _ (old cur : List Node) (g : Grows old cur) where
+module _ (old cur : List TermNode) (g : Grows old cur) where
   pub trees_grown : (xs : List TermId) → AreIn old xs → trees_at cur xs ≡ trees_at old xs
   trees_grown [] h = refl
   trees_grown (x ∷ xs) h =
@@ -245,13 +245,13 @@ abbrev pub with_presents : Tree → List Tree
 with_presents e = subterms e ++ presents (subterms e)
 
 -- the values now of the first k of the subterms are there
-pub record PresentSoFar (old cur : List Node) (e : Tree) (first ids : List TermId) (k : ℕ) : Type 0 where
+pub record PresentSoFar (old cur : List TermNode) (e : Tree) (first ids : List TermId) (k : ℕ) : Type 0 where
   pub grows : Grows old cur
   pub of : AreIdsOf cur (with_presents e) ids
   pub front : (rest : List TermId) × (ids ≡ first ++ rest)
   pub done : (j : ℕ) (x : TermId) (t : Tree) → j < k → slice_get first j ≡ Some x → present_tree (tree_at (trees old) x) ≡ Some t → has (trees_at cur ids) t ≡ true
 
-pub present_start : (ns : List Node) (e : Tree) (first : List TermId) → AreAllIdsOf ns (subterms e) first → PresentSoFar ns ns e first first 0
+pub present_start : (ns : List TermNode) (e : Tree) (first : List TermId) → AreAllIdsOf ns (subterms e) first → PresentSoFar ns ns e first first 0
 present_start ns e first a = record {
   grows = ([], sym (append-nil ns));
   of = record { are_in = a.are.are_in; distinct = a.are.distinct; sound = λ t h. has_left (subterms e) (presents (subterms e)) t (a.are.sound t h) };
@@ -264,12 +264,12 @@ get_front [] ys k d l = absurd (omega arith)
 get_front (x ∷ xs) ys zero d l = refl
 get_front (x ∷ xs) ys (suc k) d l = get_front xs ys k d (omega arith)
 
-has_at : (ns : List Node) (xs : List TermId) (i : ℕ) (x : TermId) → slice_get xs i ≡ Some x → has (trees_at ns xs) (tree_at (trees ns) x) ≡ true
+has_at : (ns : List TermNode) (xs : List TermId) (i : ℕ) (x : TermId) → slice_get xs i ≡ Some x → has (trees_at ns xs) (tree_at (trees ns) x) ≡ true
 has_at ns [] i x e = cc
 has_at ns (y ∷ xs) zero x e = let q : y ≡ x = cc in ap (λ z. has (trees_at ns (y ∷ xs)) (tree_at (trees ns) z)) (sym q) ∙ has_self (tree_at (trees ns) y) (trees_at ns xs)
 has_at ns (y ∷ xs) (suc i) x e = or_right (same_tree (tree_at (trees ns) y) (tree_at (trees ns) x)) _ (has_at ns xs i x e)
 
-place_of : (ns : List Node) (xs : List TermId) (t : Tree) → has (trees_at ns xs) t ≡ true → (i : ℕ) × (x : TermId) × (slice_get xs i ≡ Some x) × (tree_at (trees ns) x ≡ t)
+place_of : (ns : List TermNode) (xs : List TermId) (t : Tree) → has (trees_at ns xs) t ≡ true → (i : ℕ) × (x : TermId) × (slice_get xs i ≡ Some x) × (tree_at (trees ns) x ≡ t)
 place_of ns [] t h = cc
 place_of ns (y ∷ xs) t h = elim (or_cases (same_tree (tree_at (trees ns) y) t) (has (trees_at ns xs) t) h) [
   | inl p ↦ (0, y, refl, same_tree-is _ t p)
@@ -321,14 +321,14 @@ no_present e p t q h = elim (or_cases (has (subterms e) p) (has (presents (subte
   | inr k ↦ let (r, is, m) = present_from (subterms e) p k in let n : None ≡ Some t = ap present_tree (sym is) ∙ q in cc
 ]
 
-module _ (old cur : List Node) (e : Tree) (first ids : List TermId) (k : ℕ) (a : AreAllIdsOf old (subterms e) first) (s : PresentSoFar old cur e first ids k) (l : k < length first) where
+module _ (old cur : List TermNode) (e : Tree) (first ids : List TermId) (k : ℕ) (a : AreAllIdsOf old (subterms e) first) (s : PresentSoFar old cur e first ids k) (l : k < length first) where
   here : (d : TermId) → slice_get first k ≡ Some (get_or ids k d)
   here d = let (rest, f) = s.front in get_front first rest k d l ∙ ap (λ xs. Some (get_or xs k d)) (sym f)
 
   here_in : (d : TermId) → IsIn old (get_or ids k d)
   here_in d = id_below (length old) first k (get_or ids k d) a.are.are_in (here d)
 
-  pub present_next : (new : List Node) (more : List TermId) → Grows cur new → AddsPresent cur new ids k more → PresentSoFar old new e first more (k + 1)
+  pub present_next : (new : List TermNode) (more : List TermId) → Grows cur new → AddsPresent cur new ids k more → PresentSoFar old new e first more (k + 1)
   present_next new more g p = at p.found p.made p.added
     where
       d : TermId
@@ -384,7 +384,7 @@ module _ (old cur : List Node) (e : Tree) (first ids : List TermId) (k : ℕ) (a
             ];
           })
 
-pub all_present : (old cur : List Node) (e : Tree) (first ids : List TermId) (k : ℕ) → AreAllIdsOf old (subterms e) first → PresentSoFar old cur e first ids k → k ≡ length first → (t : Tree)
+pub all_present : (old cur : List TermNode) (e : Tree) (first ids : List TermId) (k : ℕ) → AreAllIdsOf old (subterms e) first → PresentSoFar old cur e first ids k → k ≡ length first → (t : Tree)
     → has (with_presents e) t ≡ true → has (trees_at cur ids) t ≡ true
 all_present old cur e first ids k a s n t h = elim (or_cases (has (subterms e) t) (has (presents (subterms e)) t) (sym (has_append (subterms e) (presents (subterms e)) t) ∙ h)) [
   | inl p ↦
@@ -408,10 +408,10 @@ atoms_has : (e t : Tree) → has (atoms_of e) t ≡ has (with_presents e) t
 unfolding atoms_of
 atoms_has e t = has_once (subterms e ++ presents (subterms e)) t
 
-pub of_atoms : (ns : List Node) (e : Tree) (ids : List TermId) → AreIdsOf ns (with_presents e) ids → AreIdsOf ns (atoms_of e) ids
+pub of_atoms : (ns : List TermNode) (e : Tree) (ids : List TermId) → AreIdsOf ns (with_presents e) ids → AreIdsOf ns (atoms_of e) ids
 of_atoms ns e ids a = record { are_in = a.are_in; distinct = a.distinct; sound = λ t h. atoms_has e t ∙ a.sound t h }
 
-pub the_atoms : (old cur : List Node) (e : Tree) (first ids : List TermId) (k : ℕ) → AreAllIdsOf old (subterms e) first → PresentSoFar old cur e first ids k → k ≡ length first → length ids ≤ 12
+pub the_atoms : (old cur : List TermNode) (e : Tree) (first ids : List TermId) (k : ℕ) → AreAllIdsOf old (subterms e) first → PresentSoFar old cur e first ids k → k ≡ length first → length ids ≤ 12
     → AreAllIdsOf cur (atoms_of e) ids
 the_atoms old cur e first ids k a s n few = record {
   are = of_atoms cur e ids s.of;
@@ -420,18 +420,18 @@ the_atoms old cur e first ids k a s n few = record {
 }
 
 -- more than twelve subterms are more than twelve atoms
-pub too_many : (ns : List Node) (e : Tree) → FindsThe ns (subterms e) None → FindsThe ns (atoms_of e) None
+pub too_many : (ns : List TermNode) (e : Tree) → FindsThe ns (subterms e) None → FindsThe ns (atoms_of e) None
 too_many ns e (ids, a, l) = (ids, of_atoms ns e ids (record { are_in = a.are_in; distinct = a.distinct; sound = λ t h. has_left (subterms e) (presents (subterms e)) t (a.sound t h) }), l)
 
 -- ---- as the code takes it apart
 
-pub found_of_none : {A : Type 0} (ns : List Node) (ts : List Tree) (o : Option (Vec TermId A)) → o ≡ None → FindsThe ns ts (found_items o) → FindsThe ns ts None
+pub found_of_none : {A : Type 0} (ns : List TermNode) (ts : List Tree) (o : Option (Vec TermId A)) → o ≡ None → FindsThe ns ts (found_items o) → FindsThe ns ts None
 found_of_none {A} ns ts o e h = subst (λ (p : Option (Vec TermId A)). FindsThe ns ts (found_items p)) e h
 
-pub found_of_some : {A : Type 0} (ns : List Node) (ts : List Tree) (o : Option (Vec TermId A)) (v : Vec TermId A) → o ≡ Some v → FindsThe ns ts (found_items o) → AreAllIdsOf ns ts v.items
+pub found_of_some : {A : Type 0} (ns : List TermNode) (ts : List Tree) (o : Option (Vec TermId A)) (v : Vec TermId A) → o ≡ Some v → FindsThe ns ts (found_items o) → AreAllIdsOf ns ts v.items
 found_of_some {A} ns ts o v e h = subst (λ (p : Option (Vec TermId A)). FindsThe ns ts (found_items p)) e h
 
-pub more_than : (ns : List Node) (e : Tree) (cur : List Node) (first ids : List TermId) (k : ℕ) → PresentSoFar ns cur e first ids k → 12 < length ids → FindsThe cur (atoms_of e) None
+pub more_than : (ns : List TermNode) (e : Tree) (cur : List TermNode) (first ids : List TermId) (k : ℕ) → PresentSoFar ns cur e first ids k → 12 < length ids → FindsThe cur (atoms_of e) None
 more_than ns e cur first ids k s l = (ids, of_atoms cur e ids s.of, l)
 
 pub id_read : (n : ℕ) (xs : List TermId) (k : ℕ) (x : TermId) → x ≡ get_or xs k x → k < length xs → ids_below n xs ≡ true → x.0 < n

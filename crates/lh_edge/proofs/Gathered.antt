@@ -7,7 +7,7 @@ use Rattle.lh_term.specs.declared.part.Part.{Part}
 use Rattle.lh_term.specs.declared.term.TermId.{TermId}
 use Rattle.lh_term.specs.declared.term.Term.{Term}
 use Rattle.lh_term.specs.declared.term.Term.TheVariants.{Konst, Past, Now, Op as Applied, Choice}
-use Rattle.lh_term.specs.declared.term.Node.{Node}
+use Rattle.lh_term.specs.declared.term.TermNode.{TermNode}
 use Rattle.lh_term.specs.Tree.{Tree, constant, past_of, now_of, operation, choice_of, tree_row}
 use Rattle.lh_term.specs.Same.{same_part, same_part-is}
 use Rattle.lh_types.specs.Same.{nat_eq-refl, nat_eq-is}
@@ -28,11 +28,11 @@ use Rattle.std.proofs.lemmas.Bool.{or_cases, or_left, or_right}
 
 -- ---- pairs of ids
 
-pub pairs_append : (ns : List Node) (xs ys : List (TermId × TermId)) → pairs_at ns (xs ++ ys) ≡ pairs_at ns xs ++ pairs_at ns ys
+pub pairs_append : (ns : List TermNode) (xs ys : List (TermId × TermId)) → pairs_at ns (xs ++ ys) ≡ pairs_at ns xs ++ pairs_at ns ys
 pairs_append ns [] ys = refl
 pairs_append ns (x ∷ xs) ys = ap (λ r. (tree_at (trees ns) x.0, tree_at (trees ns) x.1) ∷ r) (pairs_append ns xs ys)
 
-in_append : (ns : List Node) (xs ys : List (TermId × TermId)) → PairsIn ns xs → PairsIn ns ys → PairsIn ns (xs ++ ys)
+in_append : (ns : List TermNode) (xs ys : List (TermId × TermId)) → PairsIn ns xs → PairsIn ns ys → PairsIn ns (xs ++ ys)
 in_append ns [] ys h k = k
 in_append ns (x ∷ xs) ys h k = (h.0, h.1, in_append ns xs ys h.2 k)
 
@@ -74,13 +74,13 @@ past_under ts (Choice c f t) q h =
 
 -- ---- the pairs so far
 
-pub record GatheredSoFar (old cur : List Node) (done : List TermId) (pairs : List (TermId × TermId)) : Type 0 where
+pub record GatheredSoFar (old cur : List TermNode) (done : List TermId) (pairs : List (TermId × TermId)) : Type 0 where
   pub grows : Grows old cur
   pub pairs_in : PairsIn cur pairs
   pub each : ArePresents (pairs_at cur pairs)
   pub pasts : (j : ℕ) (q : Part) → is_on done j ≡ true → tree_at (trees old) (record { 0 = j }) ≡ past_of q → is_first (pairs_at cur pairs) (past_of q) ≡ true
 
-pub gather_start : (ns : List Node) (pairs : List (TermId × TermId)) → pairs ≡ [] → GatheredSoFar ns ns [] pairs
+pub gather_start : (ns : List TermNode) (pairs : List (TermId × TermId)) → pairs ≡ [] → GatheredSoFar ns ns [] pairs
 gather_start ns pairs e = subst (λ (ps : List (TermId × TermId)). GatheredSoFar ns ns [] ps) (sym e) (record {
   grows = ([], sym (append-nil ns));
   pairs_in = tt;
@@ -95,11 +95,11 @@ present_part (now_of p) t e = cc
 present_part (operation op us) t e = cc
 present_part (choice_of a b c) t e = cc
 
-module _ (old cur : List Node) (done : List TermId) (pairs : List (TermId × TermId)) (x : TermId) (s : GatheredSoFar old cur done pairs) (l : IsIn old x) where
+module _ (old cur : List TermNode) (done : List TermId) (pairs : List (TermId × TermId)) (x : TermId) (s : GatheredSoFar old cur done pairs) (l : IsIn old x) where
   same : tree_at (trees cur) x ≡ tree_at (trees old) x
   same = tree_grown old cur s.grows x l
 
-  pub gather_next : (new : List Node) (more : List (TermId × TermId)) → Grows cur new → Gathers cur new pairs x more → GatheredSoFar old new (done ++ x ∷ []) more
+  pub gather_next : (new : List TermNode) (more : List (TermId × TermId)) → Grows cur new → Gathers cur new pairs x more → GatheredSoFar old new (done ++ x ∷ []) more
   gather_next new more g h = at h.found h.made h.added
     where
       grown : pairs_at new pairs ≡ pairs_at cur pairs
@@ -139,7 +139,7 @@ module _ (old cur : List Node) (done : List TermId) (pairs : List (TermId × Ter
             ];
           })
 
-module _ (old cur : List Node) (ids : List TermId) (pairs : List (TermId × TermId)) (s : GatheredSoFar old cur ids pairs) (q : Part) where
+module _ (old cur : List TermNode) (ids : List TermId) (pairs : List (TermId × TermId)) (s : GatheredSoFar old cur ids pairs) (q : Part) where
   all_below : (left : List TermId) → ids_below (length old) left ≡ true → ((j : ℕ) → is_on left j ≡ true → is_on ids j ≡ true) → GoOn operands_of old none_left left → (j : ℕ) → is_on left j ≡ true
       → list_any (same_part q) (pasts_in (tree_at (trees old) (record { 0 = j }))) ≡ true → is_first (pairs_at cur pairs) (past_of q) ≡ true
   all_below [] i sub g j o h = cc
@@ -167,18 +167,18 @@ module _ (old cur : List Node) (ids : List TermId) (pairs : List (TermId × Term
         | inr r ↦ rest j r h
       ]
 
-pub gather_turn : (old cur new : List Node) (ids : List TermId) (pairs more : List (TermId × TermId)) (c : TermId) (n : ℕ) (d : TermId) → AreReached operands_of old (c ∷ []) ids → n < length ids
+pub gather_turn : (old cur new : List TermNode) (ids : List TermId) (pairs more : List (TermId × TermId)) (c : TermId) (n : ℕ) (d : TermId) → AreReached operands_of old (c ∷ []) ids → n < length ids
     → GatheredSoFar old cur (take n ids) pairs → Grows cur new → Gathers cur new pairs (get_or ids n d) more → GatheredSoFar old new (take (n + 1) ids) more
 gather_turn old cur new ids pairs more c n d r l s g h =
     subst (λ (xs : List TermId). GatheredSoFar old new xs more) (sym (take_more ids n d l))
     (gather_next old cur (take n ids) pairs (get_or ids n d) s (on_below (length old) ids (get_or ids n d).0 r.are_in (on_at ids n d l)) new more g h)
 
 -- the next term is in the arena as it has grown
-pub gather_in : (old cur : List Node) (ids : List TermId) (pairs : List (TermId × TermId)) (c : TermId) (n : ℕ) (d : TermId) → AreReached operands_of old (c ∷ []) ids → n < length ids
+pub gather_in : (old cur : List TermNode) (ids : List TermId) (pairs : List (TermId × TermId)) (c : TermId) (n : ℕ) (d : TermId) → AreReached operands_of old (c ∷ []) ids → n < length ids
     → GatheredSoFar old cur (take n ids) pairs → IsIn cur (get_or ids n d)
 gather_in old cur ids pairs c n d r l s = in_grown old cur s.grows (get_or ids n d) (on_below (length old) ids (get_or ids n d).0 r.are_in (on_at ids n d l))
 
-pub gathered_all : (old cur : List Node) (ids : List TermId) (pairs : List (TermId × TermId)) (c : TermId) (n : ℕ) → AreReached operands_of old (c ∷ []) ids → length ids ≤ n
+pub gathered_all : (old cur : List TermNode) (ids : List TermId) (pairs : List (TermId × TermId)) (c : TermId) (n : ℕ) → AreReached operands_of old (c ∷ []) ids → length ids ≤ n
     → GatheredSoFar old cur (take n ids) pairs → IsPresents cur (tree_at (trees old) c) pairs
 gathered_all old cur ids pairs c n r z s =
     let w : GatheredSoFar old cur ids pairs = subst (λ (xs : List TermId). GatheredSoFar old cur xs pairs) (take_all ids n z) s in
@@ -190,7 +190,7 @@ gathered_all old cur ids pairs c n r z s =
 
 -- ---- the pairs of a gate
 
-pub record GateSoFar (old cur : List Node) (rise : Bool) (p : Part) (presents left swap : List (TermId × TermId)) : Type 0 where
+pub record GateSoFar (old cur : List TermNode) (rise : Bool) (p : Part) (presents left swap : List (TermId × TermId)) : Type 0 where
   pub grows : Grows old cur
   pub swap_in : PairsIn cur swap
   pub left_in : PairsIn old left
@@ -198,7 +198,7 @@ pub record GateSoFar (old cur : List Node) (rise : Bool) (p : Part) (presents le
   pub so_far : SwapSoFar rise p (pairs_at cur swap)
   pub done : (t : Tree) → is_first (pairs_at old presents) t ≡ true → (is_first (pairs_at cur swap) t || is_first (pairs_at old left) t) ≡ true
 
-pub gate_start : (old cur : List Node) (rise : Bool) (p : Part) (c : Tree) (presents : List (TermId × TermId)) (past now before after : TermId) (swap : List (TermId × TermId)) → p.ty ≡ int_type 1
+pub gate_start : (old cur : List TermNode) (rise : Bool) (p : Part) (c : Tree) (presents : List (TermId × TermId)) (past now before after : TermId) (swap : List (TermId × TermId)) → p.ty ≡ int_type 1
     → Grows old cur
     → IsPresents old c presents → StandsForTree cur past (past_of p) → StandsForTree cur now (now_of p) → StandsForTree cur before (bit_of (not rise)) → StandsForTree cur after (bit_of rise)
     → swap ≡ (past, before) ∷ (now, after) ∷ [] → GateSoFar old cur rise p presents presents swap
@@ -215,21 +215,21 @@ gate_start old cur rise p c presents past now before after swap t g i a b d f m 
       done = λ u h. or_right _ _ h;
     })
 
-pub with_is_put : (ns : List Node) (ps : List (TermId × TermId)) (x : TermId × TermId) → pairs_at ns (with_pair ns ps x) ≡ put_pair (pairs_at ns ps) (tree_at (trees ns) x.0, tree_at (trees ns) x.1)
+pub with_is_put : (ns : List TermNode) (ps : List (TermId × TermId)) (x : TermId × TermId) → pairs_at ns (with_pair ns ps x) ≡ put_pair (pairs_at ns ps) (tree_at (trees ns) x.0, tree_at (trees ns) x.1)
 with_is_put ns ps x = at (is_first (pairs_at ns ps) (tree_at (trees ns) x.0))
   where
     at : (b : Bool) → pairs_at ns (if b then ps else ps ++ x ∷ []) ≡ (if b then pairs_at ns ps else pairs_at ns ps ++ (tree_at (trees ns) x.0, tree_at (trees ns) x.1) ∷ [])
     at true = refl
     at false = pairs_append ns ps (x ∷ [])
 
-with_in : (ns : List Node) (ps : List (TermId × TermId)) (x : TermId × TermId) → PairsIn ns ps → IsIn ns x.0 → IsIn ns x.1 → PairsIn ns (with_pair ns ps x)
+with_in : (ns : List TermNode) (ps : List (TermId × TermId)) (x : TermId × TermId) → PairsIn ns ps → IsIn ns x.0 → IsIn ns x.1 → PairsIn ns (with_pair ns ps x)
 with_in ns ps x h a b = at (is_first (pairs_at ns ps) (tree_at (trees ns) x.0))
   where
     at : (b : Bool) → PairsIn ns (if b then ps else ps ++ x ∷ [])
     at true = h
     at false = in_append ns ps (x ∷ []) h (a, b, tt)
 
-gate_step : (old cur : List Node) (rise : Bool) (p : Part) (presents left swap : List (TermId × TermId)) (x : TermId × TermId) → GateSoFar old cur rise p presents (x ∷ left) swap
+gate_step : (old cur : List TermNode) (rise : Bool) (p : Part) (presents left swap : List (TermId × TermId)) (x : TermId × TermId) → GateSoFar old cur rise p presents (x ∷ left) swap
     → GateSoFar old cur rise p presents left (with_pair cur swap x)
 gate_step old cur rise p presents left swap x s =
     let x0 : IsIn old x.0 = s.left_in.0 in
@@ -264,7 +264,7 @@ take_whole (x ∷ xs) = ap (λ r. x ∷ r) (take_whole xs)
 rest_of : (y : TermId × TermId) (r : List (TermId × TermId)) → take (length (y ∷ r) - 1) (drop 1 (y ∷ r)) ≡ r
 rest_of y r = let e : length (y ∷ r) - 1 ≡ length r = omega arith in ap (λ n. take n (drop 1 (y ∷ r))) e ∙ take_whole r
 
-pub gate_next : (old cur : List Node) (rise : Bool) (p : Part) (presents left swap more : List (TermId × TermId)) (d : TermId × TermId) → GateSoFar old cur rise p presents left swap → 1 ≤ length left
+pub gate_next : (old cur : List TermNode) (rise : Bool) (p : Part) (presents left swap more : List (TermId × TermId)) (d : TermId × TermId) → GateSoFar old cur rise p presents left swap → 1 ≤ length left
     → more ≡ with_pair cur swap (get_or left 0 d)
     → GateSoFar old cur rise p presents (take (length left - 1) (drop 1 left)) more
 gate_next old cur rise p presents [] swap more d s h m = absurd (omega arith)
@@ -273,12 +273,12 @@ gate_next old cur rise p presents (x ∷ left) swap more d s h m =
     (subst (λ (w : List (TermId × TermId)). GateSoFar old cur rise p presents left w) (sym m) (gate_step old cur rise p presents left swap x s))
 
 -- the first of what is left
-pub gate_first : (old cur : List Node) (rise : Bool) (p : Part) (presents left swap : List (TermId × TermId)) (d : TermId × TermId) → GateSoFar old cur rise p presents left swap → 1 ≤ length left
+pub gate_first : (old cur : List TermNode) (rise : Bool) (p : Part) (presents left swap : List (TermId × TermId)) (d : TermId × TermId) → GateSoFar old cur rise p presents left swap → 1 ≤ length left
     → IsIn cur (get_or left 0 d).0
 gate_first old cur rise p presents [] swap d s h = absurd (omega arith)
 gate_first old cur rise p presents (x ∷ left) swap d s h = in_grown old cur s.grows x.0 s.left_in.0
 
-pub gate_last : (old cur : List Node) (rise : Bool) (p : Part) (c : Tree) (presents left swap : List (TermId × TermId)) → IsPresents old c presents → length left ≡ 0
+pub gate_last : (old cur : List TermNode) (rise : Bool) (p : Part) (c : Tree) (presents left swap : List (TermId × TermId)) → IsPresents old c presents → length left ≡ 0
     → GateSoFar old cur rise p presents left swap → MakesGate cur rise p c swap
 gate_last old cur rise p c presents (x ∷ left) swap i n s = absurd (omega arith)
 gate_last old cur rise p c presents [] swap i n s = record {

@@ -9,7 +9,7 @@ use Rattle.lh_types.specs.Types.{int_type}
 use Rattle.lh_term.specs.declared.term.TermId.{TermId}
 use Rattle.lh_term.specs.declared.term.Term.{Term}
 use Rattle.lh_term.specs.declared.term.Term.TheVariants.{Konst, Past, Now, Op as Applied, Choice}
-use Rattle.lh_term.specs.declared.term.Node.{Node}
+use Rattle.lh_term.specs.declared.term.TermNode.{TermNode}
 use Rattle.lh_term.specs.Tree.{Tree, tree_row}
 use Rattle.lh_term.specs.Types.{IsTyped, type_of}
 use Rattle.lh_term.specs.Arena.{tree_at, trees, trees_at, terms_in, term_tree, term_below, ids_below, IsIn, AreIn, Grows, StandsForTree}
@@ -36,7 +36,7 @@ row_past : (ts : List Tree) → list_any contains_past ts ≡ some_past (tree_ro
 row_past [] = refl
 row_past (t ∷ ts) = ap (λ b. contains_past t || b) (row_past ts)
 
-pub op_past : (ns : List Node) (x : TermId) (k : Term) (op : Op) (args ys : List TermId) → k ≡ Applied op args → ys ≡ args → term_tree (trees ns) k ≡ tree_at (trees ns) x
+pub op_past : (ns : List TermNode) (x : TermId) (k : Term) (op : Op) (args ys : List TermId) → k ≡ Applied op args → ys ≡ args → term_tree (trees ns) k ≡ tree_at (trees ns) x
     → list_any contains_past (trees_at ns ys) ≡ contains_past (tree_at (trees ns) x)
 op_past ns x k op args ys e f shown =
     ap (λ xs. list_any contains_past (trees_at ns xs)) f ∙ row_past (trees_at ns args) ∙ ap contains_past (ap (term_tree (trees ns)) (sym e) ∙ shown)
@@ -72,15 +72,15 @@ get_end (x ∷ xs) b zero e = absurd (omega arith)
 get_end (x ∷ xs) b (suc j) e = get_end xs b j (omega arith)
 
 -- the flags of the first i terms, which is told of these
-pub record TellSoFar (ns : List Node) (flags : List Bool) (f : ℕ → Bool) (i : ℕ) : Type 0 where
+pub record TellSoFar (ns : List TermNode) (flags : List Bool) (f : ℕ → Bool) (i : ℕ) : Type 0 where
   pub len : length flags ≡ i
   pub tell : TellPasts ns flags
   pub told : (j : ℕ) → j < i → f j ≡ contains_past (tree_at (trees ns) (record { 0 = j }))
 
-pub tell_start : (ns : List Node) (flags : List Bool) (f : ℕ → Bool) → flags ≡ [] → TellSoFar ns flags f 0
+pub tell_start : (ns : List TermNode) (flags : List Bool) (f : ℕ → Bool) → flags ≡ [] → TellSoFar ns flags f 0
 tell_start ns flags f e = subst (λ (fs : List Bool). TellSoFar ns fs f 0) (sym e) (record { len = refl; tell = λ i l. absurd (omega arith); told = λ j l. absurd (omega arith) })
 
-tells_below : (ns : List Node) (f : ℕ → Bool) (i : ℕ) → ((j : ℕ) → j < i → f j ≡ contains_past (tree_at (trees ns) (record { 0 = j }))) → (xs : List TermId) → ids_below i xs ≡ true
+tells_below : (ns : List TermNode) (f : ℕ → Bool) (i : ℕ) → ((j : ℕ) → j < i → f j ≡ contains_past (tree_at (trees ns) (record { 0 = j }))) → (xs : List TermId) → ids_below i xs ≡ true
     → Tells ns contains_past f xs
 tells_below ns f i h [] b = tt
 tells_below ns f i h (x ∷ xs) b = (h x.0 (ltb-true x.0 i (first_so (nat_lt x.0 i) (ids_below i xs) b)), tells_below ns f i h xs (second_so (nat_lt x.0 i) (ids_below i xs) b))
@@ -95,12 +95,12 @@ operands_below i (Choice c f t) h =
     and_from _ _ (first_so (nat_lt c.0 i) (nat_lt f.0 i && nat_lt t.0 i) h) (and_from _ _ (first_so (nat_lt f.0 i) (nat_lt t.0 i) r) (and_from _ _ (second_so (nat_lt f.0 i) (nat_lt t.0 i) r) refl))
 
 -- it is told of the operands of the next term
-pub tells_operands : (ns : List Node) (flags : List Bool) (f : ℕ → Bool) (i : ℕ) (k : Term) → slice_get (terms_in ns) i ≡ Some k → term_below i k ≡ true → TellSoFar ns flags f i
+pub tells_operands : (ns : List TermNode) (flags : List Bool) (f : ℕ → Bool) (i : ℕ) (k : Term) → slice_get (terms_in ns) i ≡ Some k → term_below i k ≡ true → TellSoFar ns flags f i
     → TellsNext operands_of ns contains_past f (record { 0 = i })
 tells_operands ns flags f i k at b t = λ m is. let e : Some k ≡ Some m = sym at ∙ is in let same : k ≡ m = cc in
     tells_below ns f i t.told (operands_of m) (operands_below i m (ap (term_below i) (sym same) ∙ b))
 
-pub tell_next : (ns : List Node) (flags more : List Bool) (f g : ℕ → Bool) (i : ℕ) (b : Bool) → TellSoFar ns flags f i → b ≡ contains_past (tree_at (trees ns) (record { 0 = i })) → more ≡ flags ++ b ∷ []
+pub tell_next : (ns : List TermNode) (flags more : List Bool) (f g : ℕ → Bool) (i : ℕ) (b : Bool) → TellSoFar ns flags f i → b ≡ contains_past (tree_at (trees ns) (record { 0 = i })) → more ≡ flags ++ b ∷ []
     → ((q : ℕ) → g q ≡ (if nat_eq i q then contains_past (tree_at (trees ns) (record { 0 = i })) else f q)) → TellSoFar ns more g (i + 1)
 tell_next ns flags more f g i b t e m h = subst (λ (fs : List Bool). TellSoFar ns fs g (i + 1)) (sym m) (record {
   len = omega (arith, length-append flags (b ∷ []), t.len);
@@ -120,7 +120,7 @@ tell_next ns flags more f g i b t e m h = subst (λ (fs : List Bool). TellSoFar 
 
 -- ---- the conjunction so far
 
-pub record Conjoining (old cur : List Node) (f : ℕ → Bool) (xs left : List TermId) (all : TermId) : Type 0 where
+pub record Conjoining (old cur : List TermNode) (f : ℕ → Bool) (xs left : List TermId) (all : TermId) : Type 0 where
   pub grows : Grows old cur
   pub all_in : IsIn cur all
   pub bit : IntTerm (tree_at (trees cur) all) 1
@@ -129,7 +129,7 @@ pub record Conjoining (old cur : List Node) (f : ℕ → Bool) (xs left : List T
   pub tells : Tells old contains_past f left
   pub same : conjunction_from (tree_at (trees cur) all) (filter contains_past (trees_at old left)) ≡ conjunction (filter contains_past (trees_at old xs))
 
-pub conjoin_start : (old cur : List Node) (f : ℕ → Bool) (xs : List TermId) (all : TermId) → Grows old cur → StandsForTree cur all (bit_of true) → AreIn old xs → AllBits (trees_at old xs)
+pub conjoin_start : (old cur : List TermNode) (f : ℕ → Bool) (xs : List TermId) (all : TermId) → Grows old cur → StandsForTree cur all (bit_of true) → AreIn old xs → AllBits (trees_at old xs)
     → Tells old contains_past f xs → Conjoining old cur f xs xs all
 conjoin_start old cur f xs all g s i b w = record {
   grows = g;
@@ -146,14 +146,14 @@ take_whole [] = refl
 take_whole (x ∷ xs) = ap (λ r. x ∷ r) (take_whole xs)
 
 -- what is known of the first of what is left
-pub record FirstLeft (old cur : List Node) (f : ℕ → Bool) (x : TermId) : Type 0 where
+pub record FirstLeft (old cur : List TermNode) (f : ℕ → Bool) (x : TermId) : Type 0 where
   pub old_in : IsIn old x
   pub x_in : IsIn cur x
   pub same : tree_at (trees cur) x ≡ tree_at (trees old) x
   pub bit : IntTerm (tree_at (trees cur) x) 1
   pub told : f x.0 ≡ contains_past (tree_at (trees old) x)
 
-pub first_left : (old cur : List Node) (f : ℕ → Bool) (xs left : List TermId) (all d : TermId) → Conjoining old cur f xs left all → 1 ≤ length left
+pub first_left : (old cur : List TermNode) (f : ℕ → Bool) (xs left : List TermId) (all d : TermId) → Conjoining old cur f xs left all → 1 ≤ length left
     → FirstLeft old cur f (get_or left 0 d)
 first_left old cur f xs [] all d c h = absurd (omega arith)
 first_left old cur f xs (x ∷ left) all d c h =
@@ -167,7 +167,7 @@ first_left old cur f xs (x ∷ left) all d c h =
       told = c.tells.0;
     }
 
-conjoin_rest : (old cur : List Node) (f : ℕ → Bool) (xs left : List TermId) (x all : TermId) → Conjoining old cur f xs (x ∷ left) all
+conjoin_rest : (old cur : List TermNode) (f : ℕ → Bool) (xs left : List TermId) (x all : TermId) → Conjoining old cur f xs (x ∷ left) all
     → conjunction_from (tree_at (trees cur) all) (filter contains_past (trees_at old left)) ≡ conjunction (filter contains_past (trees_at old xs)) → Conjoining old cur f xs left all
 conjoin_rest old cur f xs left x all c e = record {
   grows = c.grows;
@@ -179,7 +179,7 @@ conjoin_rest old cur f xs left x all c e = record {
   same = e;
 }
 
-pub conjoin_skip : (old cur : List Node) (f : ℕ → Bool) (xs left : List TermId) (all d : TermId) → Conjoining old cur f xs left all → 1 ≤ length left
+pub conjoin_skip : (old cur : List TermNode) (f : ℕ → Bool) (xs left : List TermId) (all d : TermId) → Conjoining old cur f xs left all → 1 ≤ length left
     → f (get_or left 0 d).0 ≡ false → Conjoining old cur f xs (take (length left - 1) (drop 1 left)) all
 conjoin_skip old cur f xs [] all d c h n = absurd (omega arith)
 conjoin_skip old cur f xs (x ∷ left) all d c h m =
@@ -189,7 +189,7 @@ conjoin_skip old cur f xs (x ∷ left) all d c h m =
     subst (λ (r : List TermId). Conjoining old cur f xs r all) (sym (rest_of x left))
     (conjoin_rest old cur f xs left x all c (ap (conjunction_from (tree_at (trees cur) all)) (sym e) ∙ c.same))
 
-pub conjoin_next : (old cur new : List Node) (f : ℕ → Bool) (xs left : List TermId) (all more d : TermId) → Conjoining old cur f xs left all → 1 ≤ length left
+pub conjoin_next : (old cur new : List TermNode) (f : ℕ → Bool) (xs left : List TermId) (all more d : TermId) → Conjoining old cur f xs left all → 1 ≤ length left
     → f (get_or left 0 d).0 ≡ true
     → Grows cur new → StandsForTree new more (make_operation And (tree_at (trees cur) all ∷ tree_at (trees cur) (get_or left 0 d) ∷ []))
     → Conjoining old new f xs (take (length left - 1) (drop 1 left)) more
@@ -213,18 +213,18 @@ conjoin_next old cur new f xs (x ∷ left) all more d c h m g s =
           ∙ ap (conjunction_from A) (sym e) ∙ c.same;
     })
 
-pub conjoin_end : (old cur : List Node) (f : ℕ → Bool) (xs left : List TermId) (all : TermId) → length left ≡ 0 → Conjoining old cur f xs left all
+pub conjoin_end : (old cur : List TermNode) (f : ℕ → Bool) (xs left : List TermId) (all : TermId) → length left ≡ 0 → Conjoining old cur f xs left all
     → StandsForTree cur all (conjunction (filter contains_past (trees_at old xs)))
 conjoin_end old cur f xs [] all n c = record { is_in = c.all_in; tree = c.same }
 conjoin_end old cur f xs (x ∷ left) all n c = absurd (omega arith)
 
 -- ---- the edge part
 
-pub edge_bits : (ns : List Node) (x : TermId) (xs ys : List TermId) → IsTyped (tree_at (trees ns) x) → type_of (tree_at (trees ns) x) ≡ int_type 1
+pub edge_bits : (ns : List TermNode) (x : TermId) (xs ys : List TermId) → IsTyped (tree_at (trees ns) x) → type_of (tree_at (trees ns) x) ≡ int_type 1
     → trees_at ns xs ≡ conjuncts_of (tree_at (trees ns) x) → ys ≡ xs → AllBits (trees_at ns ys)
 edge_bits ns x xs ys h e c f = subst AllBits (sym (ap (trees_at ns) f ∙ c)) (conjuncts_are_bits (tree_at (trees ns) x) h e)
 
-pub edge_is : (ns : List Node) (x : TermId) (xs ys : List TermId) → trees_at ns xs ≡ conjuncts_of (tree_at (trees ns) x) → ys ≡ xs
+pub edge_is : (ns : List TermNode) (x : TermId) (xs ys : List TermId) → trees_at ns xs ≡ conjuncts_of (tree_at (trees ns) x) → ys ≡ xs
     → conjunction (filter contains_past (trees_at ns ys)) ≡ edge_part (tree_at (trees ns) x)
 unfolding edge_part
 edge_is ns x xs ys c f = ap (λ ts. conjunction (filter contains_past ts)) (ap (trees_at ns) f ∙ c)

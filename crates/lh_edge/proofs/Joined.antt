@@ -5,7 +5,7 @@ use Rattle.lh_types.specs.ValueOf.{datum_of}
 use Rattle.lh_term.specs.declared.term.TermId.{TermId}
 use Rattle.lh_term.specs.declared.term.Term.{Term}
 use Rattle.lh_term.specs.declared.term.Term.TheVariants.{Konst, Past, Now, Op as Applied, Choice}
-use Rattle.lh_term.specs.declared.term.Node.{Node}
+use Rattle.lh_term.specs.declared.term.TermNode.{TermNode}
 use Rattle.lh_term.specs.Tree.{Tree, constant, choice_of, tree_row, operation_on}
 use Rattle.lh_types.specs.Same.{nat_eq-refl, nat_eq-is}
 use Rattle.lh_term.specs.Arena.{tree_at, trees, term_tree}
@@ -100,7 +100,7 @@ found_in ts (x ∷ xs) t h = elim (or_cases (has (subterms (tree_at ts x)) t) (h
 ]
 
 -- what a joined term has is of the term
-pub joined_sound : (ns : List Node) (i : ℕ) (k : Term) → term_tree (trees ns) k ≡ tree_at (trees ns) (record { 0 = i }) → (j : ℕ) (t : Tree) → is_on (joined_by (trees ns) k) j ≡ true
+pub joined_sound : (ns : List TermNode) (i : ℕ) (k : Term) → term_tree (trees ns) k ≡ tree_at (trees ns) (record { 0 = i }) → (j : ℕ) (t : Tree) → is_on (joined_by (trees ns) k) j ≡ true
     → has (subterms (tree_at (trees ns) (record { 0 = j }))) t ≡ true → has (subterms (tree_at (trees ns) (record { 0 = i }))) t ≡ true
 joined_sound ns i k s j t a h = at (is_atom (term_tree (trees ns) k)) refl (is_joined (trees ns) k)
   where

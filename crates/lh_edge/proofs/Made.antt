@@ -3,7 +3,7 @@ use Rattle.std.proofs.Common.{◌≡◌, ℕ, zero, suc, ◌+◌, ◌<◌, ◌�
 use Rattle.lh_types.specs.Types.{int_type}
 use Rattle.lh_term.specs.declared.part.Part.{Part}
 use Rattle.lh_term.specs.declared.term.TermId.{TermId}
-use Rattle.lh_term.specs.declared.term.Node.{Node}
+use Rattle.lh_term.specs.declared.term.TermNode.{TermNode}
 use Rattle.lh_term.specs.Tree.{Tree, past_of}
 use Rattle.lh_term.specs.Make.{is_bit}
 use Rattle.lh_term.specs.Arena.{tree_at, trees, IsIn, Grows, StandsForTree}
@@ -17,13 +17,13 @@ use Rattle.lh_edge.specs.Steps.{place_in}
 
 -- ---- lists of triggers
 
-triggers_append : (ns : List Node) (ts us : List Trigger) (xs ys : List TriggerTree) → AreTriggers ns ts xs → AreTriggers ns us ys → AreTriggers ns (ts ++ us) (xs ++ ys)
+triggers_append : (ns : List TermNode) (ts us : List Trigger) (xs ys : List TriggerTree) → AreTriggers ns ts xs → AreTriggers ns us ys → AreTriggers ns (ts ++ us) (xs ++ ys)
 triggers_append ns [] us [] ys h k = k
 triggers_append ns [] us (x ∷ xs) ys h k = absurd h
 triggers_append ns (t ∷ ts) us [] ys h k = absurd h
 triggers_append ns (t ∷ ts) us (x ∷ xs) ys h k = (h.0, triggers_append ns ts us xs ys h.1 k)
 
-triggers_grown : (old cur : List Node) → Grows old cur → (ts : List Trigger) (xs : List TriggerTree) → AreTriggers old ts xs → AreTriggers cur ts xs
+triggers_grown : (old cur : List TermNode) → Grows old cur → (ts : List Trigger) (xs : List TriggerTree) → AreTriggers old ts xs → AreTriggers cur ts xs
 triggers_grown old cur g [] [] h = tt
 triggers_grown old cur g [] (x ∷ xs) h = absurd h
 triggers_grown old cur g (t ∷ ts) [] h = absurd h
@@ -40,14 +40,14 @@ at_append c (p ∷ ps) qs =
 
 -- ---- one trigger
 
-pub adds_none : (ns : List Node) (c : Tree) (p : Part) (rise : Bool) (old : List Trigger) → is_bit 0 (gate_of rise p c) ≡ true → AddsTrigger ns old (trigger_at c p rise) old
+pub adds_none : (ns : List TermNode) (c : Tree) (p : Part) (rise : Bool) (old : List Trigger) → is_bit 0 (gate_of rise p c) ≡ true → AddsTrigger ns old (trigger_at c p rise) old
 adds_none ns c p rise old e = record {
   more = [];
   added = sym (append-nil old);
   are = subst (λ (b : Bool). AreTriggers ns [] (if b then [] else (record { rise = rise; part = p; gate = gate_of rise p c }) ∷ [])) (sym e) tt;
 }
 
-pub adds_one : (ns : List Node) (c : Tree) (p q : Part) (rise : Bool) (gate : TermId) (old new : List Trigger) → q ≡ p → is_bit 0 (gate_of rise p c) ≡ false → StandsForTree ns gate (gate_of rise p c)
+pub adds_one : (ns : List TermNode) (c : Tree) (p q : Part) (rise : Bool) (gate : TermId) (old new : List Trigger) → q ≡ p → is_bit 0 (gate_of rise p c) ≡ false → StandsForTree ns gate (gate_of rise p c)
     → new ≡ old ++ (record { rise = rise; part = q; gate = gate }) ∷ []
     → AddsTrigger ns old (trigger_at c p rise) new
 adds_one ns c p q rise gate old new f e s m = record {
@@ -58,7 +58,7 @@ adds_one ns c p q rise gate old new f e s m = record {
 }
 
 -- the gate as `subst` makes it
-pub gate_stands : (old cur new : List Node) (rise : Bool) (p : Part) (cond gate : TermId) (swap : List (TermId × TermId)) → Grows old cur → IsIn old cond
+pub gate_stands : (old cur new : List TermNode) (rise : Bool) (p : Part) (cond gate : TermId) (swap : List (TermId × TermId)) → Grows old cur → IsIn old cond
     → MakesGate cur rise p (tree_at (trees old) cond) swap
     → StandsForTree new gate (swapped (pairs_at cur swap) (tree_at (trees cur) cond)) → StandsForTree new gate (gate_of rise p (tree_at (trees old) cond))
 gate_stands old cur new rise p cond gate swap g i m s = record {
@@ -68,14 +68,14 @@ gate_stands old cur new rise p cond gate swap g i m s = record {
 
 -- ---- the triggers so far
 
-pub record MadeSoFar (old cur : List Node) (cond : TermId) (parts : List Part) (presents : List (TermId × TermId)) (ts : List Trigger) (k : ℕ) : Type 0 where
+pub record MadeSoFar (old cur : List TermNode) (cond : TermId) (parts : List Part) (presents : List (TermId × TermId)) (ts : List Trigger) (k : ℕ) : Type 0 where
   pub grows : Grows old cur
   pub presents_are : IsPresents cur (tree_at (trees cur) cond) presents
   pub done : List Part
   pub split : parts ≡ done ++ drop k parts
   pub are : AreTriggers cur ts (triggers_at (tree_at (trees old) cond) done)
 
-presents_grown : (old cur : List Node) → Grows old cur → (c : Tree) (pairs : List (TermId × TermId)) → IsPresents old c pairs → IsPresents cur c pairs
+presents_grown : (old cur : List TermNode) → Grows old cur → (c : Tree) (pairs : List (TermId × TermId)) → IsPresents old c pairs → IsPresents cur c pairs
 presents_grown old cur g c pairs i =
     let e = pairs_grown old cur g pairs i.pairs_in in
     record {
@@ -84,7 +84,7 @@ presents_grown old cur g c pairs i =
       whole = λ q h. ap (λ ps. is_first ps (past_of q)) e ∙ i.whole q h;
     }
 
-pub made_start : (old cur : List Node) (cond : TermId) (parts : List Part) (presents : List (TermId × TermId)) (ts : List Trigger) → Grows old cur → IsIn old cond
+pub made_start : (old cur : List TermNode) (cond : TermId) (parts : List Part) (presents : List (TermId × TermId)) (ts : List Trigger) → Grows old cur → IsIn old cond
     → IsPresents cur (tree_at (trees old) cond) presents → ts ≡ [] → MadeSoFar old cur cond parts presents ts 0
 made_start old cur cond parts presents ts g i p m = subst (λ (us : List Trigger). MadeSoFar old cur cond parts presents us 0) (sym m) (record {
   grows = g;
@@ -95,12 +95,12 @@ made_start old cur cond parts presents ts g i p m = subst (λ (us : List Trigger
 })
 
 -- the presents after the arena grew
-pub presents_on : (cur new : List Node) (cond : TermId) (presents : List (TermId × TermId)) → Grows cur new → IsIn cur cond → IsPresents cur (tree_at (trees cur) cond) presents
+pub presents_on : (cur new : List TermNode) (cond : TermId) (presents : List (TermId × TermId)) → Grows cur new → IsIn cur cond → IsPresents cur (tree_at (trees cur) cond) presents
     → IsPresents new (tree_at (trees new) cond) presents
 presents_on cur new cond presents g i p =
     subst (λ (t : Tree). IsPresents new t presents) (sym (tree_grown cur new g cond i)) (presents_grown cur new g (tree_at (trees cur) cond) presents p)
 
-pub made_next : (old cur mid new : List Node) (cond : TermId) (parts : List Part) (presents : List (TermId × TermId)) (ts us vs : List Trigger) (k : ℕ) (p : Part)
+pub made_next : (old cur mid new : List TermNode) (cond : TermId) (parts : List Part) (presents : List (TermId × TermId)) (ts us vs : List Trigger) (k : ℕ) (p : Part)
     → MadeSoFar old cur cond parts presents ts k → IsIn old cond → k < length parts → p ≡ get_or parts k p
     → Grows cur mid → AddsTrigger mid ts (trigger_at (tree_at (trees cur) cond) p true) us → Grows mid new → AddsTrigger new us (trigger_at (tree_at (trees mid) cond) p false) vs
     → MadeSoFar old new cond parts presents vs (k + 1)
@@ -130,7 +130,7 @@ made_next old cur mid new cond parts presents ts us vs k p s i l is g a h b =
           (subst (λ (ws : List Trigger). AreTriggers new ws (triggers_at c s.done ++ triggers_at c (p ∷ []))) (sym vs_is) all);
     }
 
-pub made_all : (old cur : List Node) (cond : TermId) (parts : List Part) (presents : List (TermId × TermId)) (ts : List Trigger) (k : ℕ) → MadeSoFar old cur cond parts presents ts k → length parts ≤ k
+pub made_all : (old cur : List TermNode) (cond : TermId) (parts : List Part) (presents : List (TermId × TermId)) (ts : List Trigger) (k : ℕ) → MadeSoFar old cur cond parts presents ts k → length parts ≤ k
     → AreTriggers cur ts (triggers_at (tree_at (trees old) cond) parts)
 made_all old cur cond parts presents ts k s l =
     let e : parts ≡ s.done = s.split ∙ ap (λ r. s.done ++ r) (drop_of_length-le parts l) ∙ append-nil s.done in
@@ -182,7 +182,7 @@ pub put_in_place : {A B : Type 0} (r : Result A B) (old new : List Part) (p : Pa
 put_in_place (Ok x) old new p k e h = h ∙ put_at old p k e
 put_in_place (Err x) old new p k e h = tt
 
-pub adds_one_ok : {A B : Type 0} (r : Result A B) (ns : List Node) (c : Tree) (p q : Part) (rise : Bool) (gate : TermId) (old new : List Trigger) → q ≡ p → is_bit 0 (gate_of rise p c) ≡ false
+pub adds_one_ok : {A B : Type 0} (r : Result A B) (ns : List TermNode) (c : Tree) (p q : Part) (rise : Bool) (gate : TermId) (old new : List Trigger) → q ≡ p → is_bit 0 (gate_of rise p c) ≡ false
     → StandsForTree ns gate (gate_of rise p c)
     → OnOk r (new ≡ old ++ (record { rise = rise; part = q; gate = gate }) ∷ []) → OnOk r (AddsTrigger ns old (trigger_at c p rise) new)
 adds_one_ok (Ok x) ns c p q rise gate old new f e s m = adds_one ns c p q rise gate old new f e s m

@@ -7,7 +7,7 @@ use Rattle.std.proofs.lemmas.List.{length-replicate}
 use Rattle.std.proofs.Math.Bool.{or_assoc, or-false, or-true}
 use Rattle.lh_term.specs.declared.part.Part.{Part}
 use Rattle.lh_term.specs.declared.term.TermId.{TermId}
-use Rattle.lh_term.specs.declared.term.Node.{Node}
+use Rattle.lh_term.specs.declared.term.TermNode.{TermNode}
 use Rattle.lh_types.specs.Same.{nat_eq-refl, nat_eq-is}
 use Rattle.lh_term.specs.Tree.{Tree, past_of, now_of}
 use Rattle.lh_term.specs.SameTree.{same_tree}
@@ -170,10 +170,10 @@ bit_small (suc n) (a ∷ ts) t l = at (same_tree a t) (bit_of_atom ts t) (2 ^ n)
     at true k m w e z h = omega arith
     at false k m w e z h = omega arith
 
-length_at : (ns : List Node) (xs : List TermId) → length (trees_at ns xs) ≡ length xs
+length_at : (ns : List TermNode) (xs : List TermId) → length (trees_at ns xs) ≡ length xs
 length_at ns xs = map_length (tree_at (trees ns)) xs
 
-few_left : (ns : List Node) (xs : List TermId) (k : ℕ) → length xs ≤ 12 → length (trees_at ns (drop k xs)) ≤ 12
+few_left : (ns : List TermNode) (xs : List TermId) (k : ℕ) → length xs ≤ 12 → length (trees_at ns (drop k xs)) ≤ 12
 few_left ns xs k h = omega (arith, length_at ns (drop k xs), drop_length xs k)
   where
     drop_length : (xs : List TermId) (k : ℕ) → length (drop k xs) ≤ length xs
@@ -182,7 +182,7 @@ few_left ns xs k h = omega (arith, length_at ns (drop k xs), drop_length xs k)
     drop_length (x ∷ xs) zero = omega arith
     drop_length (x ∷ xs) (suc k) = omega (arith, drop_length xs k)
 
-module _ (ns : List Node) (atoms : List TermId) (k : ℕ) (d : TermId) (h : 0 < k) (l : k ≤ length atoms) where
+module _ (ns : List TermNode) (atoms : List TermId) (k : ℕ) (d : TermId) (h : 0 < k) (l : k ≤ length atoms) where
   cut : drop (k - 1) atoms ≡ get_or atoms (k - 1) d ∷ drop k atoms
   cut = let up : suc (k - 1) ≡ k = omega arith in drop-cons atoms (k - 1) d (omega arith) ∙ ap (λ n. get_or atoms (k - 1) d ∷ drop n atoms) up
 
@@ -194,17 +194,17 @@ module _ (ns : List Node) (atoms : List TermId) (k : ℕ) (d : TermId) (h : 0 < 
       → new ≡ (if is then 2 * old else 1 + 2 * old) → new ≡ kept_bits b (trees_at ns (drop (k - 1) atoms))
   kept_turn b old new is o s m = m ∙ (λ i. if s i then 2 * o i else 1 + 2 * o i) ∙ ap (λ xs. kept_bits b (trees_at ns xs)) (sym cut)
 
-module _ (ns : List Node) (atoms : List TermId) (k : ℕ) (l : length atoms ≤ k) where
+module _ (ns : List TermNode) (atoms : List TermId) (k : ℕ) (l : length atoms ≤ k) where
   pub bit_start : (t : Tree) (n : ℕ) → n ≡ 0 → n ≡ bit_of_atom (trees_at ns (drop k atoms)) t
   bit_start t n e = e ∙ ap (λ xs. bit_of_atom (trees_at ns xs) t) (sym (drop_of_length-le atoms l))
 
   pub kept_start : (b : Tree) (n : ℕ) → n ≡ 0 → n ≡ kept_bits b (trees_at ns (drop k atoms))
   kept_start b n e = e ∙ ap (λ xs. kept_bits b (trees_at ns xs)) (sym (drop_of_length-le atoms l))
 
-pub bit_fits : (ns : List Node) (atoms : List TermId) (k : ℕ) (t : Tree) (n : ℕ) → length atoms ≤ 12 → n ≡ bit_of_atom (trees_at ns (drop k atoms)) t → n < 2 ^ 12
+pub bit_fits : (ns : List TermNode) (atoms : List TermId) (k : ℕ) (t : Tree) (n : ℕ) → length atoms ≤ 12 → n ≡ bit_of_atom (trees_at ns (drop k atoms)) t → n < 2 ^ 12
 bit_fits ns atoms k t n l e = let b = bit_small 12 (trees_at ns (drop k atoms)) t (few_left ns atoms k l) in omega (arith, e, b)
 
-pub kept_fits : (ns : List Node) (atoms : List TermId) (k : ℕ) (b : Tree) (n : ℕ) → length atoms ≤ 12 → n ≡ kept_bits b (trees_at ns (drop k atoms)) → n < 2 ^ 12
+pub kept_fits : (ns : List TermNode) (atoms : List TermId) (k : ℕ) (b : Tree) (n : ℕ) → length atoms ≤ 12 → n ≡ kept_bits b (trees_at ns (drop k atoms)) → n < 2 ^ 12
 kept_fits ns atoms k b n l e = let s = kept_small 12 b (trees_at ns (drop k atoms)) (few_left ns atoms k l) in omega (arith, e, s)
 
 -- ---- where the table holds, so far

@@ -7,7 +7,7 @@ use Rattle.lh_term.specs.declared.part.Part.{Part}
 use Rattle.lh_term.specs.declared.term.TermId.{TermId}
 use Rattle.lh_term.specs.declared.term.Term.{Term}
 use Rattle.lh_term.specs.declared.term.Term.TheVariants.{Konst, Past, Now, Op as Applied, Choice}
-use Rattle.lh_term.specs.declared.term.Node.{Node}
+use Rattle.lh_term.specs.declared.term.TermNode.{TermNode}
 use Rattle.lh_term.specs.Tree.{Tree, constant, past_of, now_of, operation, choice_of, tree_row, operation_on}
 use Rattle.lh_term.specs.Make.{is_bit_value}
 use Rattle.lh_term.specs.Arena.{tree_at, trees, trees_at, terms_in, term_tree}
@@ -19,7 +19,7 @@ use Rattle.lh_edge.proofs.Numbers.{table_push}
 
 -- ---- the value of one term
 
-values_bits : (ns : List Node) (v : Tree → Bool) (values : ℕ → Bool) (xs : List TermId) → Tells ns (holds v) values xs → values_at values xs ≡ bits_of v (tree_row (trees_at ns xs))
+values_bits : (ns : List TermNode) (v : Tree → Bool) (values : ℕ → Bool) (xs : List TermId) → Tells ns (holds v) values xs → values_at values xs ≡ bits_of v (tree_row (trees_at ns xs))
 values_bits ns v values [] h = refl
 values_bits ns v values (x ∷ xs) h =
     let a : values x.0 ≡ holds v (tree_at (trees ns) x) = h.0 in
@@ -46,7 +46,7 @@ atom_holds v (choice_of c f t) e = at (is_one_bit f) e
     at true k = cc
     at false k = refl
 
-module _ (ns : List Node) (v : Tree → Bool) (x : TermId) (k : Term) (shown : term_tree (trees ns) k ≡ tree_at (trees ns) x) where
+module _ (ns : List TermNode) (v : Tree → Bool) (x : TermId) (k : Term) (shown : term_tree (trees ns) k ≡ tree_at (trees ns) x) where
   pub one_value : (d : Val) → k ≡ Konst d → is_one_bit (tree_at (trees ns) x) ≡ true → is_bit_value 1 (datum_of d) ≡ holds v (tree_at (trees ns) x)
   one_value d e o =
       let s : constant (datum_of d) ≡ tree_at (trees ns) x = ap (term_tree (trees ns)) (sym e) ∙ shown in

@@ -6,7 +6,7 @@ use Rattle.lh_term.specs.declared.term.Term.{Term}
 use Rattle.lh_term.specs.declared.term.Term.TheVariants.{Op as Applied, Choice}
 use Rattle.lh_types.specs.declared.op.Op.{Op}
 use Rattle.lh_term.specs.Reach.{operands_of, Leads, is_on, AllPass, GoOn, none_left}
-use Rattle.lh_term.specs.declared.term.Node.{Node}
+use Rattle.lh_term.specs.declared.term.TermNode.{TermNode}
 use Rattle.lh_term.specs.Tree.{Tree}
 use Rattle.lh_types.specs.Same.{nat_eq-refl, nat_eq-is}
 use Rattle.lh_term.specs.Arena.{tree_at, trees}
@@ -14,7 +14,7 @@ use Rattle.lh_term.proofs.Reaching.{is_behind}
 use Rattle.lh_edge.specs.Reached.{Tells, TellsNext}
 use Rattle.lh_edge.proofs.Joined.{at_place}
 
-module _ (ns : List Node) (p : Tree → Bool) where
+module _ (ns : List TermNode) (p : Tree → Bool) where
   pub tells_on : (f : ℕ → Bool) (xs : List TermId) (i : ℕ) → Tells ns p f xs → is_on xs i ≡ true → f i ≡ p (tree_at (trees ns) (record { 0 = i }))
   tells_on f [] i h o = cc
   tells_on f (x ∷ xs) i h o = elim (or_cases (nat_eq i x.0) (is_on xs i) o) [

@@ -3,7 +3,7 @@ use Rattle.std.proofs.Common.{◌≡◌, ℕ, Bool, true, false, not, ◌||◌, 
 use Rattle.lh_term.specs.declared.term.TermId.{TermId}
 use Rattle.lh_term.specs.declared.term.Term.{Term}
 use Rattle.lh_term.specs.declared.term.Term.TheVariants.{Konst, Past, Now, Op as Applied, Choice}
-use Rattle.lh_term.specs.declared.term.Node.{Node}
+use Rattle.lh_term.specs.declared.term.TermNode.{TermNode}
 use Rattle.lh_term.specs.Tree.{Tree, tree_row}
 use Rattle.lh_term.specs.Arena.{tree_at, trees, terms_in, term_tree, ids_below}
 use Rattle.lh_term.specs.Reach.{operands_of, is_on, Leaves}
@@ -27,7 +27,7 @@ joins_all ts (Choice c f t) e = at (is_one_bit (tree_at ts f)) e
     at true h = refl
     at false h = cc
 
-module _ (ns : List Node) (x : TermId) (f g : ℕ → Bool) (v : Term) (is : slice_get (terms_in ns) x.0 ≡ Some v) (shown : term_tree (trees ns) v ≡ tree_at (trees ns) x) where
+module _ (ns : List TermNode) (x : TermId) (f g : ℕ → Bool) (v : Term) (is : slice_get (terms_in ns) x.0 ≡ Some v) (shown : term_tree (trees ns) v ≡ tree_at (trees ns) x) where
   the_term : (k : Term) → slice_get (terms_in ns) x.0 ≡ Some k → term_tree (trees ns) k ≡ tree_at (trees ns) x
   the_term k at = let e : Some v ≡ Some k = sym is ∙ at in let same : v ≡ k = cc in ap (term_tree (trees ns)) (sym same) ∙ shown
 

@@ -2,7 +2,7 @@
 use Rattle.std.specs.Prelude.{◌≡◌, ℕ, Bool, true, not, if◌then◌else◌, slice_get, List, [], ◌∷◌, map, Some}
 use Rattle.lh_term.specs.declared.term.TermId.{TermId}
 use Rattle.lh_term.specs.declared.term.Term.{Term}
-use Rattle.lh_term.specs.declared.term.Node.{Node}
+use Rattle.lh_term.specs.declared.term.TermNode.{TermNode}
 use Rattle.lh_term.specs.declared.term.Term.TheVariants.{Op as Applied, Choice}
 use Rattle.lh_term.specs.Tree.{Tree, constant, past_of, now_of, operation, choice_of, tree_row}
 use Rattle.lh_term.specs.Arena.{tree_at, trees, terms_in}
@@ -28,10 +28,10 @@ is_atom (choice_of c f t) = not (is_one_bit f)
 -- ---- what is told of terms
 
 -- f says of each of these ids whether its term passes p
-abbrev pub Tells : List Node → (Tree → Bool) → (ℕ → Bool) → List TermId → Type 0
+abbrev pub Tells : List TermNode → (Tree → Bool) → (ℕ → Bool) → List TermId → Type 0
 Tells ns p f [] = Unit {0}
 Tells ns p f (x ∷ xs) = (f x.0 ≡ p (tree_at (trees ns) x)) × Tells ns p f xs
 
 -- it does of those to which x leads
-abbrev pub TellsNext : Leads → List Node → (Tree → Bool) → (ℕ → Bool) → TermId → Type 0
+abbrev pub TellsNext : Leads → List TermNode → (Tree → Bool) → (ℕ → Bool) → TermId → Type 0
 TellsNext leads ns p f x = (k : Term) → slice_get (terms_in ns) x.0 ≡ Some k → Tells ns p f (leads k)

@@ -5,7 +5,7 @@ use Rattle.std.proofs.Common.{Vec}
 use Rattle.std.proofs.Common.{zero, suc}
 use Rattle.lh_term.specs.declared.part.Part.{Part}
 use Rattle.lh_term.specs.declared.term.TermId.{TermId}
-use Rattle.lh_term.specs.declared.term.Node.{Node}
+use Rattle.lh_term.specs.declared.term.TermNode.{TermNode}
 use Rattle.lh_term.specs.Tree.{Tree, past_of, now_of}
 use Rattle.lh_term.specs.SameTree.{same_tree}
 use Rattle.lh_term.specs.Arena.{tree_at, trees, trees_at, IsIn, AreIn}
@@ -19,7 +19,7 @@ use Rattle.lh_edge.specs.declared.shown.Sight.{Sight}
 -- ---- values before
 
 -- each flag tells whether a value before is in the term of its number
-abbrev pub TellPasts : List Node → List Bool → Type 0
+abbrev pub TellPasts : List TermNode → List Bool → Type 0
 TellPasts ns flags = (i : ℕ) → i < length flags → slice_get flags i ≡ Some (contains_past (tree_at (trees ns) (record { 0 = i })))
 
 -- ---- atoms
@@ -30,19 +30,19 @@ AreDistinct [] = Unit {0}
 AreDistinct (t ∷ ts) = (has ts t ≡ false) × AreDistinct ts
 
 -- ids of terms of a list, no two alike
-pub record AreIdsOf (ns : List Node) (ts : List Tree) (ids : List TermId) : Type 0 where
+pub record AreIdsOf (ns : List TermNode) (ts : List Tree) (ids : List TermId) : Type 0 where
   pub are_in : AreIn ns ids
   pub distinct : AreDistinct (trees_at ns ids)
   pub sound : (t : Tree) → has (trees_at ns ids) t ≡ true → has ts t ≡ true
 
 -- of all terms of the list, which are at most twelve
-pub record AreAllIdsOf (ns : List Node) (ts : List Tree) (ids : List TermId) : Type 0 where
+pub record AreAllIdsOf (ns : List TermNode) (ts : List Tree) (ids : List TermId) : Type 0 where
   pub are : AreIdsOf ns ts ids
   pub few : length ids ≤ 12
   pub whole : (t : Tree) → has ts t ≡ true → has (trees_at ns ids) t ≡ true
 
 -- the ids of the terms of a list, or more than twelve of them
-abbrev pub FindsThe : List Node → List Tree → Option (List TermId) → Type 0
+abbrev pub FindsThe : List TermNode → List Tree → Option (List TermId) → Type 0
 FindsThe ns ts (Some ids) = AreAllIdsOf ns ts ids
 FindsThe ns ts None = (ids : List TermId) × AreIdsOf ns ts ids × (12 < length ids)
 
@@ -136,7 +136,7 @@ values_at values [] = []
 values_at values (a ∷ more) = values a.0 ∷ values_at values more
 
 -- what the check of all valuations knows of its atoms
-pub record IsKnown (ns : List Node) (atoms : List TermId) (pasts : ℕ → Bool) : Type 0 where
+pub record IsKnown (ns : List TermNode) (atoms : List TermId) (pasts : ℕ → Bool) : Type 0 where
   pub are_in : AreIn ns atoms
   pub tells : Tells ns contains_past pasts atoms
 
@@ -146,11 +146,11 @@ showing_of waited (past_of p) = if can_show waited p then Some p else None
 showing_of waited t = None
 
 -- ids with one more, unless its term is there
-abbrev pub with_missing : List Node → List TermId → TermId → List TermId
+abbrev pub with_missing : List TermNode → List TermId → TermId → List TermId
 with_missing ns ids x = if has (trees_at ns ids) (tree_at (trees ns) x) then ids else ids ++ x ∷ []
 
 -- the same, unless its term is a connective
-abbrev pub with_atom : List Node → List TermId → TermId → List TermId
+abbrev pub with_atom : List TermNode → List TermId → TermId → List TermId
 with_atom ns ids x = if is_atom (tree_at (trees ns) x) then with_missing ns ids x else ids
 
 -- the value now of the part whose value before the term is, if it is one
@@ -158,17 +158,17 @@ abbrev pub present_tree : Tree → Option Tree
 present_tree (past_of p) = Some (now_of p)
 present_tree t = None
 
-abbrev pub IsPresent : List Node → Tree → Option TermId → Type 0
+abbrev pub IsPresent : List TermNode → Tree → Option TermId → Type 0
 IsPresent ns t None = present_tree t ≡ None
 IsPresent ns t (Some y) = IsIn ns y × (present_tree t ≡ Some (tree_at (trees ns) y))
 
 -- ids with one more, if there is one
-abbrev pub with_some : List Node → List TermId → Option TermId → List TermId
+abbrev pub with_some : List TermNode → List TermId → Option TermId → List TermId
 with_some ns ids None = ids
 with_some ns ids (Some y) = with_missing ns ids y
 
 -- the value now was added to ids for the one at place k
-pub record AddsPresent (old new : List Node) (ids : List TermId) (k : ℕ) (more : List TermId) : Type 0 where
+pub record AddsPresent (old new : List TermNode) (ids : List TermId) (k : ℕ) (more : List TermId) : Type 0 where
   pub found : Option TermId
   pub made : IsPresent new (tree_at (trees old) (slice_index_or ids k (record { 0 = 0 }))) found
   pub added : more ≡ with_some new ids found

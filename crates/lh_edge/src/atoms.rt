@@ -14,8 +14,9 @@ use crate::reach::joined_of;
 use lh_term::part::Part;
 use lh_term::term::{Term, TermId};
 use lh_term::terms::Terms;
+use lh_types::memory::NoMemory;
 use lh_types::op::Op;
-use lh_types::ty::{NoMemory, TyKind};
+use lh_types::ty::TyKind;
 use std::alloc::Global;
 
 /// How many atoms the edge part of a condition may have.

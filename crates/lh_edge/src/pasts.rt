@@ -17,8 +17,8 @@ ghost use Rattle.lh_edge.specs.Reached.{Tells, TellsNext};
 
 use lh_term::term::{Term, TermId};
 use lh_term::terms::Terms;
+use lh_types::memory::NoMemory;
 use lh_types::op::Op;
-use lh_types::ty::NoMemory;
 use lh_types::val::Val;
 use std::alloc::Global;
 use std::collections::HashSet;

@@ -12,7 +12,7 @@ use crate::pasts::put;
 use lh_term::reach::leave_all;
 use lh_term::term::TermId;
 use lh_term::terms::Terms;
-use lh_types::ty::NoMemory;
+use lh_types::memory::NoMemory;
 use std::alloc::Global;
 use std::collections::BTreeSet;
 

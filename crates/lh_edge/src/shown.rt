@@ -13,7 +13,7 @@ use crate::table::differ;
 use lh_term::part::Part;
 use lh_term::term::{Term, TermId};
 use lh_term::terms::Terms;
-use lh_types::ty::NoMemory;
+use lh_types::memory::NoMemory;
 use std::alloc::Global;
 use std::collections::HashSet;
 

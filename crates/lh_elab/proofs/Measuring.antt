@@ -10,7 +10,7 @@ use Rattle.lh_unit_graph.specs.Measures as descent
 use Rattle.lh_unit_graph.proofs.Measuring.{measure-holds}
 use Rattle.lh_verify_laws.proofs.Capped.{not_below_zero, zero_capped, below_max, sum_capped, left_max, right_max, first_below, next_below, none_at_zero, below_next, right_capped}
 use Rattle.lh_elab.specs.declared.graph.HierarchyNode.{HierarchyNode}
-use Rattle.lh_elab.specs.declared.measure.Measure.{Measure}
+use Rattle.lh_elab.specs.declared.measure.HierarchyMeasure.{HierarchyMeasure}
 use Rattle.lh_elab.specs.Graph.{node_at, targets_at, max_counted}
 use Rattle.lh_elab.specs.Measures.{depth_end, instances_end, nothing, beside, around, measuring}
 
@@ -30,13 +30,13 @@ bits_in zero g n = 0
 bits_in (suc k) g n = (node_at g n).bits + sum_by (λ (t : UnitId). bits_in k g t.0) (targets_at g n)
 
 -- the measure of an instance of the unit n
-pub record IsMeasure (g : List HierarchyNode) (n : ℕ) (m : Measure) : Type 0 where
+pub record IsMeasure (g : List HierarchyNode) (n : ℕ) (m : HierarchyMeasure) : Type 0 where
   pub depth : (k : ℕ) → suc k ≤ depth_end → nests k g n ≡ nat_lt k m.depth
   pub instances : (k : ℕ) → suc k ≤ depth_end → m.depth ≤ k → min (count_in k g n) instances_end ≡ m.instances
   pub bits : (k : ℕ) → suc k ≤ depth_end → m.depth ≤ k → min (bits_in k g n) max_counted ≡ m.bits
 
 -- instances of these units beside each other
-record IsSum (g : List HierarchyNode) (ts : List UnitId) (m : Measure) : Type 0 where
+record IsSum (g : List HierarchyNode) (ts : List UnitId) (m : HierarchyMeasure) : Type 0 where
   pub depth : (k : ℕ) → suc k ≤ depth_end → list_any (λ (t : UnitId). nests k g t.0) ts ≡ nat_lt k m.depth
   pub instances : (k : ℕ) → suc k ≤ depth_end → m.depth ≤ k → min (sum_by (λ (t : UnitId). count_in k g t.0) ts) instances_end ≡ m.instances
   pub bits : (k : ℕ) → suc k ≤ depth_end → m.depth ≤ k → min (sum_by (λ (t : UnitId). bits_in k g t.0) ts) max_counted ≡ m.bits
@@ -44,7 +44,7 @@ record IsSum (g : List HierarchyNode) (ts : List UnitId) (m : Measure) : Type 0 
 IsSum-none : (g : List HierarchyNode) → IsSum g [] nothing
 IsSum-none g = record { depth = λ k l. not_below_zero k; instances = λ k l d. zero_capped instances_end; bits = λ k l d. zero_capped max_counted }
 
-IsSum-beside : (g : List HierarchyNode) (ts : List UnitId) (t : UnitId) (m n : Measure) → IsSum g ts m → IsMeasure g t.0 n → IsSum g (ts ++ t ∷ []) (beside m n)
+IsSum-beside : (g : List HierarchyNode) (ts : List UnitId) (t : UnitId) (m n : HierarchyMeasure) → IsSum g ts m → IsMeasure g t.0 n → IsSum g (ts ++ t ∷ []) (beside m n)
 IsSum-beside g ts t m n o p = record {
   depth = λ k l.
       list_any-append (λ (x : UnitId). nests k g x.0) ts (t ∷ [])
@@ -61,28 +61,28 @@ IsSum-beside g ts t m n o p = record {
       ∙ sum_capped (sum_by (λ (x : UnitId). bits_in k g x.0) ts) (bits_in k g t.0) max_counted m.bits n.bits (o.bits k l (left_max m.depth n.depth k d)) (p.bits k l (right_max m.depth n.depth k d));
 }
 
-depth-around : (g : List HierarchyNode) (u : ℕ) (m : Measure) → IsSum g (targets_at g u) m → (k : ℕ) → suc k ≤ depth_end → nests k g u ≡ nat_lt k (min (1 + m.depth) depth_end)
+depth-around : (g : List HierarchyNode) (u : ℕ) (m : HierarchyMeasure) → IsSum g (targets_at g u) m → (k : ℕ) → suc k ≤ depth_end → nests k g u ≡ nat_lt k (min (1 + m.depth) depth_end)
 depth-around g u m o zero l = first_below m.depth depth_end (omega arith)
 depth-around g u m o (suc j) l = o.depth j (omega arith) ∙ next_below j m.depth depth_end l
 
-instances-around : (g : List HierarchyNode) (u : ℕ) (m : Measure) → IsSum g (targets_at g u) m → (k : ℕ) → suc k ≤ depth_end → min (1 + m.depth) depth_end ≤ k
+instances-around : (g : List HierarchyNode) (u : ℕ) (m : HierarchyMeasure) → IsSum g (targets_at g u) m → (k : ℕ) → suc k ≤ depth_end → min (1 + m.depth) depth_end ≤ k
     → min (count_in k g u) instances_end ≡ min (1 + m.instances) instances_end
 instances-around g u m o zero l d = absurd (none_at_zero m.depth depth_end (omega arith) d)
 instances-around g u m o (suc j) l d = right_capped 1 (sum_by (λ (t : UnitId). count_in j g t.0) (targets_at g u)) instances_end m.instances
     (o.instances j (omega arith) (below_next j m.depth depth_end l d))
 
-bits-around : (g : List HierarchyNode) (u : ℕ) (m : Measure) → IsSum g (targets_at g u) m → (k : ℕ) → suc k ≤ depth_end → min (1 + m.depth) depth_end ≤ k
+bits-around : (g : List HierarchyNode) (u : ℕ) (m : HierarchyMeasure) → IsSum g (targets_at g u) m → (k : ℕ) → suc k ≤ depth_end → min (1 + m.depth) depth_end ≤ k
     → min (bits_in k g u) max_counted ≡ min ((node_at g u).bits + m.bits) max_counted
 bits-around g u m o zero l d = absurd (none_at_zero m.depth depth_end (omega arith) d)
 bits-around g u m o (suc j) l d = right_capped (node_at g u).bits (sum_by (λ (t : UnitId). bits_in j g t.0) (targets_at g u)) max_counted m.bits
     (o.bits j (omega arith) (below_next j m.depth depth_end l d))
 
-IsMeasure-around : (g : List HierarchyNode) (u : ℕ) (m : Measure) → IsSum g (targets_at g u) m → IsMeasure g u (around m (node_at g u))
+IsMeasure-around : (g : List HierarchyNode) (u : ℕ) (m : HierarchyMeasure) → IsSum g (targets_at g u) m → IsMeasure g u (around m (node_at g u))
 IsMeasure-around g u m o = record { depth = depth-around g u m o; instances = instances-around g u m o; bits = bits-around g u m o }
 
-IsMeasure-prop : (g : List HierarchyNode) (u : ℕ) (m : Measure) → IsProp (IsMeasure g u m)
+IsMeasure-prop : (g : List HierarchyNode) (u : ℕ) (m : HierarchyMeasure) → IsProp (IsMeasure g u m)
 IsMeasure-prop g u m = hlevel props
 
 -- the measure of the search is the one of its depth and its counts
-pub measure-is : (g : List HierarchyNode) (u : ℕ) (m : Measure) → descent.IsMeasure measuring g u m → IsMeasure g u m
+pub measure-is : (g : List HierarchyNode) (u : ℕ) (m : HierarchyMeasure) → descent.IsMeasure measuring g u m → IsMeasure g u m
 measure-is g u m h = measure-holds measuring g (IsMeasure g) (IsSum g) (IsMeasure-prop g) (IsSum-none g) (IsSum-beside g) (IsMeasure-around g) u m h

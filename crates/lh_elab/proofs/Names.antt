@@ -145,7 +145,7 @@ signal-text : (f : Naming) (e : Env) (t : Table) (i : InstId) (ls : List LineTex
     → sum_by (λ (s : SignalText). bit_count s.ty) (signals_of e (inst_line_text f t i ∷ ls)) ≡ bits_if_any (line_at t i.0).inst more
 signal-text f e t i ls more h = by (line_at t i.0)
   where
-    by : (x : Rattle.lh_unit.specs.declared.table.Line.Line)
+    by : (x : Rattle.lh_unit.specs.declared.table.TableLine.TableLine)
         → sum_by (λ (s : SignalText). bit_count s.ty) (Rattle.lh_unit.specs.Hierarchy.signal_if e (Rattle.lh_unit.specs.Naming.inst_text f x.inst) (Rattle.lh_unit.specs.Naming.maybe_text f x.result)
         (signals_of e ls)) ≡ bits_if_any x.inst more
     by x = sort x.inst (Rattle.lh_unit.specs.Naming.maybe_text f x.result)

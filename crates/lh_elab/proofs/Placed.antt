@@ -14,7 +14,7 @@ use Rattle.lh_unit_graph.specs.declared.fault.DescentFault.TheVariants as descen
 use Rattle.lh_elab.specs.declared.fault.ElabFault.{ElabFault}
 use Rattle.lh_elab.specs.declared.fault.ElabFault.TheVariants as fault
 use Rattle.lh_elab.specs.declared.graph.HierarchyNode.{HierarchyNode}
-use Rattle.lh_elab.specs.declared.measure.Measure.{Measure}
+use Rattle.lh_elab.specs.declared.measure.HierarchyMeasure.{HierarchyMeasure}
 use Rattle.lh_elab.specs.Graph.{targets_at, max_counted, IsGraph}
 use Rattle.lh_elab.specs.Measures.{measuring, fault_of}
 use Rattle.lh_elab.specs.Refusals.{limited, FaultWithin}
@@ -40,7 +40,7 @@ cycle-within (suc k) g opened w n x e =
     (λ t y l q. met-within (length g) (cycle_in measuring k g (n ∷ opened)) (cycle-within k g (n ∷ opened) w) (is_open (n ∷ opened) t.0) t.0 y l q) x e
 
 -- the refusal of a search
-pub found-within : (a : Arena) (g : List HierarchyNode) (top : ℕ) (r : Result Measure DescentFault) → IsArena a → IsGraph a g → NodesWithin measuring g → Measures measuring g top r → IfErr r (λ f. FaultWithin a (fault_of f))
+pub found-within : (a : Arena) (g : List HierarchyNode) (top : ℕ) (r : Result HierarchyMeasure DescentFault) → IsArena a → IsGraph a g → NodesWithin measuring g → Measures measuring g top r → IfErr r (λ f. FaultWithin a (fault_of f))
 found-within a g top (Ok m) o q w h = tt
 found-within a g top (Err (descent.Cycle v)) o q w h =
     let l : v.0 < length g = cycle-within (length (defined a)) g [] w top v.0 (h (defined a) (has-busy a g o q)) in
@@ -48,7 +48,7 @@ found-within a g top (Err (descent.Cycle v)) o q w h =
 found-within a g top (Err descent.OutOfMemory) o q w h = tt
 
 -- no limit names a unit
-pub limit-within : (a : Arena) (m : Measure) (b : ℕ) (r : Result ℕ ElabFault) → r ≡ limited m b → IfErr r (FaultWithin a)
+pub limit-within : (a : Arena) (m : HierarchyMeasure) (b : ℕ) (r : Result ℕ ElabFault) → r ≡ limited m b → IfErr r (FaultWithin a)
 limit-within a m b r e = subst (λ (x : Result ℕ ElabFault). IfErr x (FaultWithin a)) (sym e)
     (by (nat_lt 64 m.depth) (nat_lt 65536 m.instances) (nat_lt 16777216 (min (b + m.bits) max_counted)) (min (b + m.bits) max_counted))
   where

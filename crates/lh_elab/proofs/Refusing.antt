@@ -17,7 +17,7 @@ use Rattle.lh_unit.specs.Design.{Refusal, top_is_function, refusal_by, refusal_o
 use Rattle.lh_elab.specs.declared.fault.ElabFault.{ElabFault}
 use Rattle.lh_elab.specs.declared.fault.ElabFault.TheVariants as fault
 use Rattle.lh_elab.specs.declared.graph.HierarchyNode.{HierarchyNode}
-use Rattle.lh_elab.specs.declared.measure.Measure.{Measure}
+use Rattle.lh_elab.specs.declared.measure.HierarchyMeasure.{HierarchyMeasure}
 use Rattle.lh_elab.specs.Graph.{max_counted}
 use Rattle.lh_elab.specs.Measures.{depth_end, instances_end, measuring, fault_of}
 use Rattle.lh_unit_graph.specs.Measures.{cycle_in}
@@ -92,7 +92,7 @@ below_end : (n e x y : ℕ) → e ≡ n + 1 → min x e ≡ y → y ≤ n → x 
 below_end n e x y p q l = omega arith
 
 -- by the three limits
-record Limits (m : Measure) (deep : Bool) (count bits : ℕ) : Type 0 where
+record Limits (m : HierarchyMeasure) (deep : Bool) (count bits : ℕ) : Type 0 where
   pub deep_is : deep ≡ nat_lt 64 m.depth
   pub count_is : m.depth ≤ 64 → min count instances_end ≡ m.instances
   pub bits_is : m.depth ≤ 64 → min bits max_counted ≡ m.bits
@@ -103,7 +103,7 @@ Answers a r bits (Ok n) = (r ≡ None) × (bits ≡ n)
 Answers a r bits (Err fault.OutOfMemory) = Unit {0}
 Answers a r bits (Err e) = r ≡ refusal_text a e
 
-limits-third : (a : Arena) (m : Measure) (args bits : ℕ) (z : Bool) → min bits max_counted ≡ m.bits → nat_lt 16777216 (min (min args max_counted + m.bits) max_counted) ≡ z
+limits-third : (a : Arena) (m : HierarchyMeasure) (args bits : ℕ) (z : Bool) → min bits max_counted ≡ m.bits → nat_lt 16777216 (min (min args max_counted + m.bits) max_counted) ≡ z
     → Answers a (refusal_by false None false false (nat_lt max_bits (args + bits))) (args + bits) (if z then Err fault.TooManyBits else Ok (min (min args max_counted + m.bits) max_counted))
 limits-third a m args bits true h e = ap (refusal_by false None false false)
     (lt_capped 16777216 max_counted (args + bits) (min (min args max_counted + m.bits) max_counted) refl (sum_capped args bits max_counted m.bits h) ∙ e)
@@ -113,7 +113,7 @@ limits-third a m args bits false h e = (
       (ltb-false 16777216 (min (min args max_counted + m.bits) max_counted) e),
 )
 
-limits-second : (a : Arena) (m : Measure) (args count bits : ℕ) (y : Bool) → min count instances_end ≡ m.instances → min bits max_counted ≡ m.bits → nat_lt 65536 m.instances ≡ y
+limits-second : (a : Arena) (m : HierarchyMeasure) (args count bits : ℕ) (y : Bool) → min count instances_end ≡ m.instances → min bits max_counted ≡ m.bits → nat_lt 65536 m.instances ≡ y
     → Answers a (refusal_by false None false (nat_lt max_instances count) (nat_lt max_bits (args + bits))) (args + bits)
     (if y then Err fault.TooManyInstances else (if nat_lt 16777216 (min (min args max_counted + m.bits) max_counted) then Err fault.TooManyBits else Ok
     (min (min args max_counted + m.bits) max_counted)))
@@ -124,7 +124,7 @@ limits-second a m args count bits false k h e =
     (sym (lt_capped 65536 instances_end count m.instances refl k ∙ e))
     (limits-third a m args bits (nat_lt 16777216 (min (min args max_counted + m.bits) max_counted)) h refl)
 
-limits-first : (a : Arena) (m : Measure) (args count bits : ℕ) (deep x : Bool) → Limits m deep count bits → nat_lt 64 m.depth ≡ x
+limits-first : (a : Arena) (m : HierarchyMeasure) (args count bits : ℕ) (deep x : Bool) → Limits m deep count bits → nat_lt 64 m.depth ≡ x
     → Answers a (refusal_by false None deep (nat_lt max_instances count) (nat_lt max_bits (args + bits))) (args + bits)
     (if x then Err fault.TooDeep else (if nat_lt 65536 m.instances then Err
     fault.TooManyInstances else (if nat_lt 16777216 (min (min args max_counted + m.bits) max_counted) then Err fault.TooManyBits else Ok (min (min args max_counted + m.bits) max_counted))))
@@ -149,7 +149,7 @@ answers-is a top bits r (Err fault.TooManyBits) e f h = e ∙ h
 small : (k e : ℕ) → k ≡ 64 → e ≡ 65 → suc k ≤ e
 small k e p q = omega arith
 
-limits-named : (a : Arena) (g : List HierarchyNode) (top k : ℕ) (m : Measure) → k ≡ 64 → StandsFor (hierarchies (contents a)) (unit_name_at a) g → top < length g → IsMeasure g top m
+limits-named : (a : Arena) (g : List HierarchyNode) (top k : ℕ) (m : HierarchyMeasure) → k ≡ 64 → StandsFor (hierarchies (contents a)) (unit_name_at a) g → top < length g → IsMeasure g top m
     → Limits m (nests_deeper k (hierarchies (contents a)) (unit_name_at a top)) (instance_count k (hierarchies (contents a)) (unit_name_at a top)) (bits_below k (hierarchies (contents a))
     (unit_name_at a top))
 limits-named a g top k m e o l s = record {
@@ -158,7 +158,7 @@ limits-named a g top k m e o l s = record {
   bits_is = λ d. bits-named k (hierarchies (contents a)) (unit_name_at a) g top o l ∙ s.bits k (small k depth_end e refl) (subst (λ n. m.depth ≤ n) (sym e) d);
 }
 
-pub Refuses-limited : (a : Arena) (top : ℕ) (m : Measure) (x : Result ℕ ElabFault) → IsArena a → top < unit_count a → false ≡ is_function (kind_text (kind_at a top)) → MeasuresIn a top (Ok m)
+pub Refuses-limited : (a : Arena) (top : ℕ) (m : HierarchyMeasure) (x : Result ℕ ElabFault) → IsArena a → top < unit_count a → false ≡ is_function (kind_text (kind_at a top)) → MeasuresIn a top (Ok m)
     → x ≡ limited m (min (arg_bits_of (args_at a top)) max_counted) → Refuses a top x
 Refuses-limited a top m x o l e (inr q) f = cc
 Refuses-limited a top m x o l e (inl (g, q, s)) f =

@@ -6,7 +6,7 @@ use Rattle.lh_unit_graph.specs.declared.fault.DescentFault.TheVariants as descen
 use Rattle.lh_elab.specs.declared.fault.ElabFault.{ElabFault}
 use Rattle.lh_elab.specs.declared.fault.ElabFault.TheVariants as fault
 use Rattle.lh_elab.specs.declared.graph.HierarchyNode.{HierarchyNode}
-use Rattle.lh_elab.specs.declared.measure.Measure.{Measure}
+use Rattle.lh_elab.specs.declared.measure.HierarchyMeasure.{HierarchyMeasure}
 use Rattle.lh_elab.specs.Graph.{no_node, max_counted}
 
 -- the numbers stand still here, at one more than is allowed
@@ -17,19 +17,19 @@ abbrev pub instances_end : ℕ
 instances_end = 65537
 
 -- no instance
-abbrev pub nothing : Measure
+abbrev pub nothing : HierarchyMeasure
 nothing = record { depth = 0; instances = 0; bits = 0 }
 
 -- instances, and others beside them
-abbrev pub beside : Measure → Measure → Measure
+abbrev pub beside : HierarchyMeasure → HierarchyMeasure → HierarchyMeasure
 beside m n = record { depth = max m.depth n.depth; instances = min (m.instances + n.instances) instances_end; bits = min (m.bits + n.bits) max_counted }
 
 -- an instance of a unit that has these in it
-abbrev pub around : Measure → HierarchyNode → Measure
+abbrev pub around : HierarchyMeasure → HierarchyNode → HierarchyMeasure
 around m n = record { depth = min (1 + m.depth) depth_end; instances = min (1 + m.instances) instances_end; bits = min (n.bits + m.bits) max_counted }
 
 -- so the search of the instances measures
-abbrev pub measuring : Measuring HierarchyNode Measure
+abbrev pub measuring : Measuring HierarchyNode HierarchyMeasure
 measuring = record { none = no_node; targets = λ n. n.targets; nothing = nothing; beside = beside; around = around }
 
 -- a fault of the search

@@ -10,7 +10,7 @@ use Rattle.lh_unit_graph.specs.declared.fault.DescentFault.{DescentFault}
 use Rattle.lh_unit_graph.specs.declared.fault.DescentFault.TheVariants as descent
 use Rattle.lh_elab.specs.declared.fault.ElabFault.{ElabFault}
 use Rattle.lh_elab.specs.declared.fault.ElabFault.TheVariants as fault
-use Rattle.lh_elab.specs.declared.measure.Measure.{Measure}
+use Rattle.lh_elab.specs.declared.measure.HierarchyMeasure.{HierarchyMeasure}
 use Rattle.lh_elab.specs.declared.graph.HierarchyNode.{HierarchyNode}
 use Rattle.lh_elab.specs.Graph.{max_counted, IsGraph}
 use Rattle.lh_elab.specs.Measures.{measuring}
@@ -20,7 +20,7 @@ abbrev pub arg_bits_of : List Arg → ℕ
 arg_bits_of args = sum_by (λ (x : Arg). bit_count x.ty) args
 
 -- the first limit that is passed; where none is, how many bits there are
-abbrev pub limited : Measure → (arg_bits : ℕ) → Result ℕ ElabFault
+abbrev pub limited : HierarchyMeasure → (arg_bits : ℕ) → Result ℕ ElabFault
 limited m b =
     if nat_lt 64 m.depth then Err fault.TooDeep
     else (if nat_lt 65536 m.instances then Err fault.TooManyInstances
@@ -56,5 +56,5 @@ Refuses a top (Err fault.OutOfMemory) = Unit {0}
 Refuses a top (Err e) = refusal_at a top ≡ refusal_text a e
 
 -- the measure of the unit `top` in the graph of the module
-abbrev pub MeasuresIn : Arena → (top : ℕ) → Result Measure DescentFault → Type 0
+abbrev pub MeasuresIn : Arena → (top : ℕ) → Result HierarchyMeasure DescentFault → Type 0
 MeasuresIn a top r = ((g : List HierarchyNode) × IsGraph a g × Measures measuring g top r) ⊎ (r ≡ Err descent.OutOfMemory)

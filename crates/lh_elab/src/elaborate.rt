@@ -10,7 +10,7 @@ use crate::build::{Building, Pending};
 use crate::{ElabFault, first_refusal};
 use lh_design::Design;
 use lh_elab_plan::plan::{Plan, plan_of};
-use lh_types::ty::NoMemory;
+use lh_types::memory::NoMemory;
 use lh_unit::inst::UnitId;
 use lh_unit::module::Module;
 use std::alloc::Global;

@@ -1,6 +1,6 @@
 //! Why a top unit has no design.
 
-use lh_types::ty::NoMemory;
+use lh_types::memory::NoMemory;
 use lh_unit::inst::UnitId;
 use lh_unit_graph::DescentFault;
 use thiserror::Error;

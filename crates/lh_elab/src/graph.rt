@@ -5,7 +5,7 @@ ghost use Rattle.lh_elab.specs.Graph.{no_node, node_after, node_of, IsGraph, max
 
 use lh_elab_plan::width::width;
 use lh_types::list::ListOf;
-use lh_types::ty::NoMemory;
+use lh_types::memory::NoMemory;
 use lh_unit::inst::{BlockId, Inst, UnitId, UnitKind};
 use lh_unit::module::Module;
 use std::alloc::Global;

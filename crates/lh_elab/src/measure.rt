@@ -15,7 +15,7 @@ pub const MAX_INSTANCES: u32 = 65_536;
 /// What is counted of an instance and all in it, or of instances beside each other. Each number stands still at one more
 /// than is allowed.
 #[derive(Clone, Copy, Debug)]
-pub struct Measure {
+pub struct HierarchyMeasure {
     /// How many nest.
     pub depth: u32,
     /// How many there are.
@@ -24,7 +24,7 @@ pub struct Measure {
     pub bits: u32,
 }
 
-impl Measured for Measure {
+impl Measured for HierarchyMeasure {
     type Node = HierarchyNode;
 
     ghost measuring = { measuring };
@@ -35,8 +35,8 @@ impl Measured for Measure {
     }
 
     /// No instance.
-    fn nothing() -> Measure {
-        Measure {
+    fn nothing() -> HierarchyMeasure {
+        HierarchyMeasure {
             depth: 0,
             instances: 0,
             bits: 0,
@@ -44,8 +44,8 @@ impl Measured for Measure {
     }
 
     /// These instances, and others beside them.
-    fn beside(self, other: Measure) -> Measure {
-        Measure {
+    fn beside(self, other: HierarchyMeasure) -> HierarchyMeasure {
+        HierarchyMeasure {
             depth: self.depth.max(other.depth),
             instances: up_to(self.instances, other.instances, MAX_INSTANCES + 1),
             bits: counted(self.bits, other.bits),
@@ -53,8 +53,8 @@ impl Measured for Measure {
     }
 
     /// An instance of a unit that has these in it.
-    fn around(self, unit: &HierarchyNode) -> Measure {
-        Measure {
+    fn around(self, unit: &HierarchyNode) -> HierarchyMeasure {
+        HierarchyMeasure {
             depth: up_to(1, self.depth, MAX_NESTING + 1),
             instances: up_to(1, self.instances, MAX_INSTANCES + 1),
             bits: counted(unit.bits, self.bits),

@@ -7,8 +7,8 @@ ghost use Rattle.lh_elab.specs.Answer.{IsDesignOf};
 ghost use Rattle.lh_elab.specs.Climbing.{parent_at, dotted};
 
 use lh_design::Design;
+use lh_types::memory::NoMemory;
 use lh_types::text::{put, put_number};
-use lh_types::ty::NoMemory;
 use lh_unit::module::Module;
 use std::alloc::Global;
 

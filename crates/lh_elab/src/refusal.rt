@@ -9,11 +9,11 @@ ghost use Rattle.lh_elab.specs.Measures.{fault_of};
 
 use crate::fault::ElabFault;
 use crate::graph::{MAX_BITS, counted, graph};
-use crate::measure::{MAX_INSTANCES, MAX_NESTING, Measure};
+use crate::measure::{HierarchyMeasure, MAX_INSTANCES, MAX_NESTING};
 use lh_elab_plan::width::width_of;
 use lh_unit::inst::{Arg, UnitId, UnitKind};
 use lh_unit::module::Module;
-use lh_unit_graph::{DescentFault, Search};
+use lh_unit_graph::{DescentFault, UnitSearch};
 use std::alloc::Global;
 
 /// The first reason why a top unit has no design; where there is none, how many bits the signals of its design have.
@@ -44,14 +44,14 @@ fn is_function(kind: Option<UnitKind>) -> bool
 }
 
 /// The measure of a unit of a module.
-fn measured(alloc: Global, m: &Module, top: UnitId) -> Result<Measure, DescentFault>
+fn measured(alloc: Global, m: &Module, top: UnitId) -> Result<HierarchyMeasure, DescentFault>
     requires { top.0 < unit_count m.now }
     ensures measure { MeasuresIn m.now top.0 result }
     ensures placed { IfErr result (λ f. FaultWithin m.now (fault_of f)) }
     ensures sound { IsArena m.now }
 {
     let nodes = graph(alloc, m)?;
-    let mut search = Search::new(alloc, nodes.len())?;
+    let mut search = UnitSearch::new(alloc, nodes.len())?;
     search.measure_of(nodes.as_slice(), top)
 }
 
@@ -67,7 +67,7 @@ fn arg_bits(args: &[Arg]) -> u32
 }
 
 /// The first limit that is passed; where none is, how many bits there are.
-fn limits(measure: Measure, arg_bits: u32) -> Result<u32, ElabFault>
+fn limits(measure: HierarchyMeasure, arg_bits: u32) -> Result<u32, ElabFault>
     ensures { result ≡ limited measure arg_bits }
 {
     if measure.depth > MAX_NESTING {

@@ -23,8 +23,8 @@ ghost use Rattle.lh_elab_plan.specs.Statics.{by_of, held_by, given_by, args_begu
 use crate::width::{width, width_of};
 use lh_eval::held::{Held, Slots};
 use lh_eval::operate::operate;
+use lh_types::memory::NoMemory;
 use lh_types::part::Range;
-use lh_types::ty::NoMemory;
 use lh_unit::inst::{Arg, Inst, InstId, Typed, UnitId, ValueId};
 use lh_unit::module::Module;
 use std::alloc::Global;

@@ -9,7 +9,7 @@ use Rattle.lh_unit.specs.Naming.{value_text}
 use Rattle.lh_unit.specs.Typing.{or_else}
 use Rattle.lh_term.specs.declared.part.Part.{Part}
 use Rattle.lh_term.specs.declared.term.TermId.{TermId}
-use Rattle.lh_term.specs.declared.term.Node.{Node}
+use Rattle.lh_term.specs.declared.term.TermNode.{TermNode}
 use Rattle.lh_term.proofs.Arenas.{map_length}
 use Rattle.lh_emit_def.specs.Emitted.{Source, nothing_emitted, whole_name}
 use Rattle.lh_emit_body.specs.Lines.{naming, line_text, arg_names, HasRoom, BeginsWith, AddsArg, LinesAreEmitted}
@@ -88,7 +88,7 @@ or-none : {A : Type 0} (x y : Option A) → y ≡ None → x ≡ or_else x y
 or-none None y e = sym e
 or-none (Some a) y e = refl
 
-pub begins-emitted : (ns : List Node) (s : Source) (ls : Lines) (vs : Values) (ps : Parts) → HasRoom ls → BeginsWith s.args ls → ((x : TermId) → value_in vs x ≡ None)
+pub begins-emitted : (ns : List TermNode) (s : Source) (ls : Lines) (vs : Values) (ps : Parts) → HasRoom ls → BeginsWith s.args ls → ((x : TermId) → value_in vs x ≡ None)
     → ((p : Part) → part_in ps p ≡ None) →
     IsEmitted ns s record { lines = ls; values = vs; parts = ps } (nothing_emitted s)
 begins-emitted ns s ls vs ps room b no_values no_parts = record {

@@ -23,8 +23,8 @@ use Rattle.lh_emit_def.proofs.Computing.{pair-constant, pair-else, array-parts, 
 use Rattle.lh_emit_def.proofs.Pairs.{pair-typed, pair-constant_typed}
 use Rattle.lh_emit.specs.Making.{form_of, IsProbed}
 use Rattle.lh_emit.specs.Tasks.{made_of, makes, has_pair}
-use Rattle.lh_emit.specs.declared.making.Form.{Form}
-use Rattle.lh_emit.specs.declared.making.Form.TheVariants.{Scalar, Probe, Joined}
+use Rattle.lh_emit.specs.declared.making.TermForm.{TermForm}
+use Rattle.lh_emit.specs.declared.making.TermForm.TheVariants.{Scalar, Probe, Joined}
 
 -- ---- the instruction that gives a term
 

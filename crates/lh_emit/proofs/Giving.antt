@@ -20,7 +20,7 @@ use Rattle.lh_term.specs.SameTree.{same_tree, same_tree-is}
 use Rattle.lh_term.specs.Arena.{trees, tree_at, IsIn, OneId, Grows}
 use Rattle.lh_term.specs.declared.part.Part.{Part}
 use Rattle.lh_term.specs.declared.term.TermId.{TermId}
-use Rattle.lh_term.specs.declared.term.Node.{Node}
+use Rattle.lh_term.specs.declared.term.TermNode.{TermNode}
 use Rattle.lh_term.proofs.Swaps.{tree_grown, in_grown}
 use Rattle.lh_emit_def.specs.Emitted.{Source, Emitted, gives_term, with_term, next_name, whole_name, signal, typed, need_part}
 use Rattle.lh_emit_def.specs.Entities.{max_lines, choices_fit}
@@ -42,7 +42,7 @@ use Rattle.lh_term.proofs.Arenas.{map_length}
 use Rattle.lh_emit.specs.Values.{value_in, Keeps, ValuesNameTerms}
 use Rattle.lh_emit.specs.declared.emitter.Emitter.{Emitter}
 use Rattle.lh_emit_body.specs.declared.lines.Lines.{Lines}
-use Rattle.lh_emit.specs.declared.making.Form.TheVariants.{Scalar, Joined}
+use Rattle.lh_emit.specs.declared.making.TermForm.TheVariants.{Scalar, Joined}
 use Rattle.lh_emit_source.specs.declared.origin.Origin.{Origin}
 use Rattle.lh_emit.specs.declared.parts.Parts.{Parts}
 use Rattle.lh_emit.specs.declared.values.Values.{Values}
@@ -54,7 +54,7 @@ use Rattle.lh_emit.proofs.Walking.{GivesFault, says-length, grows-same, grows-th
 
 -- ---- entities by larger arenas and with more names
 
-pub emitted-grown : (ns ms : List Node) (s : Source) (x : Emitter) (e : Emitted) → Grows ns ms → OneId ms → IsEmitted ns s x e → IsEmitted ms s x e
+pub emitted-grown : (ns ms : List TermNode) (s : Source) (x : Emitter) (e : Emitted) → Grows ns ms → OneId ms → IsEmitted ns s x e → IsEmitted ms s x e
 emitted-grown ns ms s x e g one w = record { room = w.room; says = w.says; arguments = w.arguments; terms = knows-grown ns ms g one x.lines.names x.values e w.terms; parts = w.parts; fit = w.fit }
 
 pub args-more : (args : List ArgText) (names new : List (List ℕ)) → NamesGrow names new → ArgumentsFirst args names → ArgumentsFirst args new
@@ -75,11 +75,11 @@ parts-more args names new ps e x (more, g) k q = record {
 
 -- ---- the terms that a term is made of
 
-pub made-fits : (ns : List Node) (s : Source) (x : Emitter) (e : Emitted) → IsEmitted ns s x e → (ts : List Tree) → Each (HasName e) ts → Each (λ (t : Tree). choices_fit t ≡ true) ts
+pub made-fits : (ns : List TermNode) (s : Source) (x : Emitter) (e : Emitted) → IsEmitted ns s x e → (ts : List Tree) → Each (HasName e) ts → Each (λ (t : Tree). choices_fit t ≡ true) ts
 made-fits ns s x e w [] h = tt
 made-fits ns s x e w (t ∷ ts) h = (w.fit t h.0.0 h.0.1, made-fits ns s x e w ts h.1)
 
-module _ (ns : List Node) (s : Source) (x : Emitter) (t : TermId) (e : Emitted) (r : IsReady ns s x t e) where
+module _ (ns : List TermNode) (s : Source) (x : Emitter) (t : TermId) (e : Emitted) (r : IsReady ns s x t e) where
   abbrev tree : Tree
   tree = tree_at (trees ns) t
 
@@ -101,7 +101,7 @@ module _ (ns : List Node) (s : Source) (x : Emitter) (t : TermId) (e : Emitted) 
   }
 
   -- the terms that it is made of have values
-  module _ (ms : List Node) (g : Grows ns ms) (one : OneId ms) (xs : List TermId) (m : AreMade ns ms t xs) where
+  module _ (ms : List TermNode) (g : Grows ns ms) (one : OneId ms) (xs : List TermId) (m : AreMade ns ms t xs) where
     grown : IsEmitted ms s x e
     grown = emitted-grown ns ms s x e g one r.is
 
@@ -129,7 +129,7 @@ module _ (ns : List Node) (s : Source) (x : Emitter) (t : TermId) (e : Emitted) 
 
   -- ---- the entity after the instruction
 
-  module _ (ms : List Node) (y : Emitter) (i : Inst) (g : Grows ns ms) (one : OneId ms) (k : IsInstOf ns s t e ms y i) where
+  module _ (ms : List TermNode) (y : Emitter) (i : Inst) (g : Grows ns ms) (one : OneId ms) (k : IsInstOf ns s t e ms y i) where
     abbrev text : InstText
     text = inst_text (naming y.lines.names) i
 
@@ -182,21 +182,21 @@ module _ (ns : List Node) (s : Source) (x : Emitter) (t : TermId) (e : Emitted) 
 
 -- ---- by contracts
 
-pub inst-no-memory : (ns : List Node) (o : Origin) (x : Emitter) (t : TermId) (ms : List Node) (y : Emitter) (r : Result Inst EmitFault) → IsErrAnd r (λ f. f ≡ fault.OutOfMemory)
+pub inst-no-memory : (ns : List TermNode) (o : Origin) (x : Emitter) (t : TermId) (ms : List TermNode) (y : Emitter) (r : Result Inst EmitFault) → IsErrAnd r (λ f. f ≡ fault.OutOfMemory)
     → GivesInstOr ns o x t ms y r
 inst-no-memory ns o x t ms y (Ok v) h = absurd h
 inst-no-memory ns o x t ms y (Err f) h = subst (MakesNot ns o x t) (sym h) tt
 
-pub inst-cause : (ns : List Node) (o : Origin) (x : Emitter) (t : TermId) (ms : List Node) (y : Emitter) (r : Result Inst EmitFault) (f : EmitFault) → IsErrAnd r (λ e. e ≡ f) → MakesNot ns o x t f
+pub inst-cause : (ns : List TermNode) (o : Origin) (x : Emitter) (t : TermId) (ms : List TermNode) (y : Emitter) (r : Result Inst EmitFault) (f : EmitFault) → IsErrAnd r (λ e. e ≡ f) → MakesNot ns o x t f
     → GivesInstOr ns o x t ms y r
 inst-cause ns o x t ms y (Ok v) f h g = absurd h
 inst-cause ns o x t ms y (Err e) f h g = subst (MakesNot ns o x t) (sym h) g
 
-pub gives-scalar : (ns : List Node) (o : Origin) (x : Emitter) (t : TermId) (v : Datum) → tree_at (trees ns) t ≡ constant v → form_of (tree_at (trees ns) t) ≡ Scalar
+pub gives-scalar : (ns : List TermNode) (o : Origin) (x : Emitter) (t : TermId) (v : Datum) → tree_at (trees ns) t ≡ constant v → form_of (tree_at (trees ns) t) ≡ Scalar
     → GivesInstOr ns o x t ns x (Ok (inst.Const v))
 gives-scalar ns o x t v q h = (grows-same x.lines.names x.lines.names refl, λ s e src r. scalar-inst ns s x t e r v q h)
 
-pub can-probe : (ns : List Node) (o : Origin) (x : Emitter) (t : TermId) (p : Part) → CanMake ns o x t → IsProbed (tree_at (trees ns) t) p → CanTakePart ns o x p
+pub can-probe : (ns : List TermNode) (o : Origin) (x : Emitter) (t : TermId) (p : Part) → CanMake ns o x t → IsProbed (tree_at (trees ns) t) p → CanTakePart ns o x p
 can-probe ns o x t p c h = record {
   source = c.source;
   emitted = c.emitted;
@@ -205,7 +205,7 @@ can-probe ns o x t p c h = record {
   given = probe-reached c.source (tree_at (trees ns) t) p h c.is.given.parts;
 }
 
-pub gives-probe : (ns : List Node) (o : Origin) (x : Emitter) (t : TermId) (p : Part) (y : Emitter) (v : ValueId) (from : Typed) → IsProbed (tree_at (trees ns) t) p → TakesPartOr ns o x p y (Ok v)
+pub gives-probe : (ns : List TermNode) (o : Origin) (x : Emitter) (t : TermId) (p : Part) (y : Emitter) (v : ValueId) (from : Typed) → IsProbed (tree_at (trees ns) t) p → TakesPartOr ns o x p y (Ok v)
     → from ≡ with_type (signal_type p.ty) v →
     GivesInstOr ns o x t ns y (Ok (inst.Prb from))
 gives-probe ns o x t p y v from h k q = (
@@ -213,7 +213,7 @@ gives-probe ns o x t p y v from h k q = (
   λ s e src r. probe-inst ns s x t e r p y v (inst.Prb from) h (k.1 s e src r.is (probe-reached s (tree_at (trees ns) t) p h r.given.parts)) (ap inst.Prb q),
 )
 
-pub probe-not : (ns : List Node) (o : Origin) (x : Emitter) (t : TermId) (p : Part) (f : EmitFault) → IsProbed (tree_at (trees ns) t) p → GivesNoPart ns o x p f → MakesNot ns o x t f
+pub probe-not : (ns : List TermNode) (o : Origin) (x : Emitter) (t : TermId) (p : Part) (f : EmitFault) → IsProbed (tree_at (trees ns) t) p → GivesNoPart ns o x p f → MakesNot ns o x t f
 probe-not ns o x t p fault.OutOfMemory h g = tt
 probe-not ns o x t p fault.EntityTooLarge h g = λ s e src r.
     let tree = tree_at (trees ns) t in
@@ -224,13 +224,13 @@ probe-not ns o x t p fault.EntityTooLarge h g = λ s e src r.
     ap (λ (z : Emitted). length z.lines) (probe-makes s tree p e h) in
     inr (omega (arith, far, long, same))
 
-pub have-made : (ns : List Node) (o : Origin) (x : Emitter) (t : TermId) (ms : List Node) (xs : List TermId) → CanMake ns o x t → Grows ns ms → OneId ms → AreMade ns ms t xs → HaveValues x.values xs
+pub have-made : (ns : List TermNode) (o : Origin) (x : Emitter) (t : TermId) (ms : List TermNode) (xs : List TermId) → CanMake ns o x t → Grows ns ms → OneId ms → AreMade ns ms t xs → HaveValues x.values xs
 have-made ns o x t ms xs c g one m = made-values ns c.source x t c.emitted c.is ms g one xs m
 
 pub values-length : (vs : Values) (xs : List TermId) (given : List ValueId) → AreValues vs xs given → length given ≡ length xs
 values-length vs xs given a = sym (map_length {X = ValueId} {Y = Option ValueId} Some given) ∙ ap length a ∙ map_length (value_in vs) xs
 
-pub gives-joined : (ns : List Node) (o : Origin) (x : Emitter) (t : TermId) (op : Op) (ms : List Node) (xs : List TermId) (given : List ValueId) (d : TypeTree) (args : List Typed)
+pub gives-joined : (ns : List TermNode) (o : Origin) (x : Emitter) (t : TermId) (op : Op) (ms : List TermNode) (xs : List TermId) (given : List ValueId) (d : TypeTree) (args : List Typed)
     → form_of (tree_at (trees ns) t) ≡ Joined op → IsIn ns t →
     Grows ns ms → OneId ms → AreMade ns ms t xs → AreValues x.values xs given → d ≡ type_of (tree_at (trees ms) t) → args ≡ operands_of ms op xs d given
     → GivesInstOr ns o x t ms x (Ok (inst.Pure op args))
@@ -239,27 +239,27 @@ gives-joined ns o x t op ms xs given d args f h g one m a q z = (
   λ s e src r. joined-inst ns s x t e r ms g one xs m op given d args f a (q ∙ ap type_of (tree_grown ns ms g t h)) z,
 )
 
-pub joined-not : (ns : List Node) (o : Origin) (x : Emitter) (t : TermId) (f : EmitFault) → HasNoPair ns t f → MakesNot ns o x t f
+pub joined-not : (ns : List TermNode) (o : Origin) (x : Emitter) (t : TermId) (f : EmitFault) → HasNoPair ns t f → MakesNot ns o x t f
 joined-not ns o x t fault.OutOfMemory h = tt
 joined-not ns o x t fault.EntityTooLarge h = λ s e src r. inl (no-pair-fits (tree_at (trees ns) t) h)
 
 -- ---- the whole instruction
 
-pub make-no-memory : (ns : List Node) (o : Origin) (x : Emitter) (t : TermId) (ms : List Node) (y : Emitter) (r : Result (Unit {0}) EmitFault) → IsErrAnd r (λ f. f ≡ fault.OutOfMemory)
+pub make-no-memory : (ns : List TermNode) (o : Origin) (x : Emitter) (t : TermId) (ms : List TermNode) (y : Emitter) (r : Result (Unit {0}) EmitFault) → IsErrAnd r (λ f. f ≡ fault.OutOfMemory)
     → MakesOr ns o x t ms y r
 make-no-memory ns o x t ms y (Ok v) h = absurd h
 make-no-memory ns o x t ms y (Err f) h = subst (MakesNot ns o x t) (sym h) tt
 
-pub make-cause : (ns : List Node) (o : Origin) (x : Emitter) (t : TermId) (ms : List Node) (y : Emitter) (r : Result (Unit {0}) EmitFault) (f : EmitFault) → IsErrAnd r (λ e. e ≡ f)
+pub make-cause : (ns : List TermNode) (o : Origin) (x : Emitter) (t : TermId) (ms : List TermNode) (y : Emitter) (r : Result (Unit {0}) EmitFault) (f : EmitFault) → IsErrAnd r (λ e. e ≡ f)
     → MakesNot ns o x t f → MakesOr ns o x t ms y r
 make-cause ns o x t ms y (Ok v) f h g = absurd h
 make-cause ns o x t ms y (Err e) f h g = subst (MakesNot ns o x t) (sym h) g
 
-pub can-give : (ns : List Node) (o : Origin) (x : Emitter) (t : TermId) (ms : List Node) (y : Emitter) (i : Inst) → CanMake ns o x t → GivesInstOr ns o x t ms y (Ok i) → HasRoom y.lines
+pub can-give : (ns : List TermNode) (o : Origin) (x : Emitter) (t : TermId) (ms : List TermNode) (y : Emitter) (i : Inst) → CanMake ns o x t → GivesInstOr ns o x t ms y (Ok i) → HasRoom y.lines
     × InstWithin (values_alone (length y.lines.names)) i
 can-give ns o x t ms y i c k = let m = k.1 c.source c.emitted c.origin c.is in (m.is.room, m.within)
 
-pub makes-inst : (ns : List Node) (o : Origin) (x : Emitter) (t : TermId) (ms : List Node) (y : Emitter) (i : Inst) (new : Lines) (v : ValueId) (vs : Values) → Grows ns ms → OneId ms
+pub makes-inst : (ns : List TermNode) (o : Origin) (x : Emitter) (t : TermId) (ms : List TermNode) (y : Emitter) (i : Inst) (new : Lines) (v : ValueId) (vs : Values) → Grows ns ms → OneId ms
     → GivesInstOr ns o x t ms y (Ok i) → GivesValue y.lines i new v →
     Keeps y.values t v vs → MakesOr ns o x t ms record { lines = new; values = vs; parts = y.parts } (Ok tt)
 makes-inst ns o x t ms y i new v vs g one k h keeps = (
@@ -267,7 +267,7 @@ makes-inst ns o x t ms y i new v vs g one k h keeps = (
   λ s e src r. inst-made ns s x t e r ms y i g one (k.1 s e src r) new v vs h keeps,
 )
 
-pub makes-not : (ns : List Node) (o : Origin) (x : Emitter) (t : TermId) (ms : List Node) (y : Emitter) (i : Inst) (f : EmitFault) → Grows ns ms → OneId ms → GivesInstOr ns o x t ms y (Ok i)
+pub makes-not : (ns : List TermNode) (o : Origin) (x : Emitter) (t : TermId) (ms : List TermNode) (y : Emitter) (i : Inst) (f : EmitFault) → Grows ns ms → OneId ms → GivesInstOr ns o x t ms y (Ok i)
     → GivesFault y.lines f → MakesNot ns o x t f
 makes-not ns o x t ms y i fault.OutOfMemory g one k h = tt
 makes-not ns o x t ms y i fault.EntityTooLarge g one k h = λ s e src r. inst-not ns s x t e r ms y i g one (k.1 s e src r) h

@@ -11,7 +11,7 @@ use Rattle.lh_term.proofs.Swaps.{tree_grown, in_grown}
 use Rattle.lh_types.specs.Same.{nat_eq-refl, nat_eq-is}
 use Rattle.lh_term.specs.SameTree.{same_tree, same_tree-is, same_tree-refl}
 use Rattle.lh_term.specs.declared.term.TermId.{TermId}
-use Rattle.lh_term.specs.declared.term.Node.{Node}
+use Rattle.lh_term.specs.declared.term.TermNode.{TermNode}
 use Rattle.lh_emit_def.specs.Emitted.{Emitted, with_term}
 use Rattle.lh_emit_body.specs.Lines.{naming}
 use Rattle.lh_emit.specs.Values.{value_in, Keeps, ValuesNameTerms}
@@ -26,7 +26,7 @@ text-more names more (Some v) h = ap Some (get_or-append names more [] v.0 (h v 
 not-below : (a k : ℕ) → nat_lt a k ≡ false → a < k → ⊥
 not-below a k b i = let q : nat_lt a k ≡ true = lt-ltb a k i in absurd cc
 
-module _ (ns : List Node) (names more : List (List ℕ)) (old new : Values) (e : Emitted) (t : TermId) (v : ValueId) where
+module _ (ns : List TermNode) (names more : List (List ℕ)) (old new : Values) (e : Emitted) (t : TermId) (v : ValueId) where
   -- the value of one more term
   pub knows-kept : OneId ns → IsIn ns t → ValuesNameTerms ns names old e → v.0 < length (names ++ more) → Keeps old t v new → (terms : Tree → Option (List ℕ)) →
       terms ≡ with_term e.terms (tree_at (trees ns) t) (value_text (naming (names ++ more)) v) → ValuesNameTerms ns (names ++ more) new record e { terms = terms }
@@ -69,7 +69,7 @@ module _ (ns : List Node) (names more : List (List ℕ)) (old new : Values) (e :
       among y n false g h = k.among y n h
 
 -- more names, and another entity with the same terms
-pub knows-more : (ns : List Node) (names more : List (List ℕ)) (vs : Values) (e x : Emitted) → ValuesNameTerms ns names vs e → x.terms ≡ e.terms → ValuesNameTerms ns (names ++ more) vs x
+pub knows-more : (ns : List TermNode) (names more : List (List ℕ)) (vs : Values) (e x : Emitted) → ValuesNameTerms ns names vs e → x.terms ≡ e.terms → ValuesNameTerms ns (names ++ more) vs x
 knows-more ns names more vs e x k q = record {
   named = λ y h. ap (λ f. f (tree_at (trees ns) y)) q ∙ k.named y h ∙ sym (text-more names more (value_in vs y) (k.within y));
   within = λ y v h. let d : v.0 < length names = k.within y v h in omega (arith, d, length-append names more);
@@ -78,7 +78,7 @@ knows-more ns names more vs e x k q = record {
 }
 
 -- no term has a value
-pub knows-none : (ns : List Node) (names : List (List ℕ)) (vs : Values) (e : Emitted) → ((x : TermId) → value_in vs x ≡ None) → ((t : Tree) → e.terms t ≡ None) → ValuesNameTerms ns names vs e
+pub knows-none : (ns : List TermNode) (names : List (List ℕ)) (vs : Values) (e : Emitted) → ((x : TermId) → value_in vs x ≡ None) → ((t : Tree) → e.terms t ≡ None) → ValuesNameTerms ns names vs e
 knows-none ns names vs e none empty = record {
   named = λ x h. empty (tree_at (trees ns) x) ∙ sym (ap (option_map (value_text (naming names))) (none x));
   within = λ x v h. let z = none x in absurd cc;
@@ -87,7 +87,7 @@ knows-none ns names vs e none empty = record {
 }
 
 -- terms that are added have no value
-module _ (ns ms : List Node) (g : Grows ns ms) (one : OneId ms) (names : List (List ℕ)) (vs : Values) (e : Emitted) where
+module _ (ns ms : List TermNode) (g : Grows ns ms) (one : OneId ms) (names : List (List ℕ)) (vs : Values) (e : Emitted) where
   pub knows-grown : ValuesNameTerms ns names vs e → ValuesNameTerms ms names vs e
   knows-grown k = record {
     named = λ x h. at x h (nat_lt x.0 (length ns)) refl;

@@ -15,7 +15,7 @@ use Rattle.lh_term.specs.Tree.{Tree}
 use Rattle.lh_term.specs.Types.{type_of, first_of, row_result}
 use Rattle.lh_term.specs.Arena.{trees, tree_at, trees_at, ids_below, IsIn, AreIn}
 use Rattle.lh_term.specs.declared.term.TermId.{TermId}
-use Rattle.lh_term.specs.declared.term.Node.{Node}
+use Rattle.lh_term.specs.declared.term.TermNode.{TermNode}
 use Rattle.lh_types.specs.Same.{and_both}
 use Rattle.lh_emit_def.specs.Emitted.{Emitted, term_name, bare}
 use Rattle.lh_emit_def.specs.Needs.{writes_each, writes_result, types_of_all, each_typed, first_typed, operation_text}
@@ -28,12 +28,12 @@ use Rattle.lh_emit.specs.declared.values.Values.{Values}
 
 -- ---- one operand after the other
 
-pub each-in : (ns : List Node) (xs : List TermId) (k : ℕ) → AreIn ns xs → k < length xs → IsIn ns (get_or xs k (record { 0 = 0 }))
+pub each-in : (ns : List TermNode) (xs : List TermId) (k : ℕ) → AreIn ns xs → k < length xs → IsIn ns (get_or xs k (record { 0 = 0 }))
 each-in ns [] k h l = absurd (omega (arith, l))
 each-in ns (x ∷ xs) zero h l = ltb-true x.0 (length ns) (and_both (nat_lt x.0 (length ns)) (ids_below (length ns) xs) h).0
 each-in ns (x ∷ xs) (suc k) h l = each-in ns xs k (and_both (nat_lt x.0 (length ns)) (ids_below (length ns) xs) h).1 (omega (arith, l))
 
-each-suc : (ns : List Node) (xs : List TermId) (vs : List ValueId) (k : ℕ) (d : TermId) (w : ValueId) → k < length vs → length vs ≡ length xs →
+each-suc : (ns : List TermNode) (xs : List TermId) (vs : List ValueId) (k : ℕ) (d : TermId) (w : ValueId) → k < length vs → length vs ≡ length xs →
     each_with_type ns (drop k xs) (drop k vs) ≡ with_type (type_of (tree_at (trees ns) (get_or xs k d))) (get_or vs k w) ∷ each_with_type ns (drop (suc k) xs) (drop (suc k) vs)
 each-suc ns [] [] k d w l e = absurd (omega (arith, l))
 each-suc ns [] (v ∷ vs) k d w l e = absurd (omega (arith, e))
@@ -42,7 +42,7 @@ each-suc ns (x ∷ xs) (v ∷ vs) zero d w l e = refl
 each-suc ns (x ∷ xs) (v ∷ vs) (suc k) d w l e = each-suc ns xs vs k d w (omega (arith, l)) (omega (arith, e))
 
 -- one more operand of those that are left
-pub each-next : (ns : List Node) (xs : List TermId) (vs : List ValueId) (k : ℕ) (so_far more all : List Typed) (d : TermId) (w : ValueId) → k < length vs → length vs ≡ length xs →
+pub each-next : (ns : List TermNode) (xs : List TermId) (vs : List ValueId) (k : ℕ) (so_far more all : List Typed) (d : TermId) (w : ValueId) → k < length vs → length vs ≡ length xs →
     so_far ++ each_with_type ns (drop k xs) (drop k vs) ≡ all → more ≡ so_far ++ with_type (type_of (tree_at (trees ns) (get_or xs k d))) (get_or vs k w) ∷ [] →
     more ++ each_with_type ns (drop (k + 1) xs) (drop (k + 1) vs) ≡ all
 each-next ns xs vs k so_far more all d w l e h q =
@@ -52,7 +52,7 @@ each-next ns xs vs k so_far more all d w l e h q =
     ∙ append_assoc so_far (one ∷ []) (each_with_type ns (drop (suc k) xs) (drop (suc k) vs))
     ∙ ap (λ ts. so_far ++ ts) (sym (each-suc ns xs vs k d w l e)) ∙ h
 
-each-end : (ns : List Node) (xs : List TermId) (vs : List ValueId) (k : ℕ) → length vs ≤ k → each_with_type ns (drop k xs) (drop k vs) ≡ []
+each-end : (ns : List TermNode) (xs : List TermId) (vs : List ValueId) (k : ℕ) → length vs ≤ k → each_with_type ns (drop k xs) (drop k vs) ≡ []
 each-end ns [] [] zero h = refl
 each-end ns (x ∷ xs) [] zero h = refl
 each-end ns [] (v ∷ vs) zero h = absurd (omega (arith, h))
@@ -66,7 +66,7 @@ each-end ns (x ∷ xs) [] (suc k) h = none (drop k xs)
     none (y ∷ ys) = refl
 each-end ns (x ∷ xs) (v ∷ vs) (suc k) h = each-end ns xs vs k (omega (arith, h))
 
-pub each-all : (ns : List Node) (xs : List TermId) (vs : List ValueId) (k : ℕ) (all : List Typed) → length vs ≤ k → all ++ each_with_type ns (drop k xs) (drop k vs) ≡ each_with_type ns xs vs
+pub each-all : (ns : List TermNode) (xs : List TermId) (vs : List ValueId) (k : ℕ) (all : List Typed) → length vs ≤ k → all ++ each_with_type ns (drop k xs) (drop k vs) ≡ each_with_type ns xs vs
     → all ≡ each_with_type ns xs vs
 each-all ns xs vs k all l h = sym (append-nil all) ∙ ap (λ ts. all ++ ts) (sym (each-end ns xs vs k l)) ∙ h
 
@@ -106,7 +106,7 @@ pub no-operands : (xs : List TermId) (vs : List ValueId) (d : TypeTree) → leng
 no-operands xs [] d e l = refl
 no-operands xs (v ∷ vs) d e l = absurd (omega (arith, e, l))
 
-module _ (ns : List Node) (names : List (List ℕ)) (vs : Values) (e : Emitted) (k : ValuesNameTerms ns names vs e) where
+module _ (ns : List TermNode) (names : List (List ℕ)) (vs : Values) (e : Emitted) (k : ValuesNameTerms ns names vs e) where
   -- terms that were emitted have values
   pub have-value : (x : TermId) → IsIn ns x → HasName e (tree_at (trees ns) x) → is_some (value_in vs x) ≡ true
   have-value x h (n, q) = at (value_in vs x) refl
@@ -164,7 +164,7 @@ module _ (f : Naming) (e : Emitted) where
       let m = bare-text vs ts r in
       λ i. record { value = p i; ty = Some d } ∷ m i
 
-  each-text : (ns : List Node) (xs : List TermId) (vs : List ValueId) → map (value_text f) vs ≡ map (term_name e) (trees_at ns xs)
+  each-text : (ns : List TermNode) (xs : List TermId) (vs : List ValueId) → map (value_text f) vs ≡ map (term_name e) (trees_at ns xs)
       → map (operand_text f) (each_with_type ns xs vs) ≡ each_typed e (trees_at ns xs)
   each-text ns [] vs q = refl
   each-text ns (x ∷ xs) [] q = absurd cc
@@ -175,7 +175,7 @@ module _ (f : Naming) (e : Emitted) where
       λ i. record { value = p i; ty = Some (type_of (tree_at (trees ns) x)) } ∷ m i
 
   -- the operation on the values is the operation on the terms
-  pub operation-same : (ns : List Node) (op : Op) (xs : List TermId) (d : TypeTree) (vs : List ValueId) → map (value_text f) vs ≡ map (term_name e) (trees_at ns xs) →
+  pub operation-same : (ns : List TermNode) (op : Op) (xs : List TermId) (d : TypeTree) (vs : List ValueId) → map (value_text f) vs ≡ map (term_name e) (trees_at ns xs) →
       (writes_result op ≡ true → d ≡ row_result op (types_of_all (trees_at ns xs))) → inst_text f (inst.Pure op (operands_of ns op xs d vs)) ≡ operation_text e op (trees_at ns xs)
   operation-same ns op xs d vs q w = ap (pure_text op) (at (writes_each op) (writes_result op) refl refl)
     where
@@ -196,12 +196,12 @@ first-within : (n : ℕ) (d : TypeTree) (vs : List ValueId) → Each (λ (v : Va
 first-within n d [] h = tt
 first-within n d (v ∷ vs) h = (h.0, bare-within n vs h.1)
 
-each-within : (n : ℕ) (ns : List Node) (xs : List TermId) (vs : List ValueId) → Each (λ (v : ValueId). v.0 < n) vs → Each (OperandWithin (values_alone n)) (each_with_type ns xs vs)
+each-within : (n : ℕ) (ns : List TermNode) (xs : List TermId) (vs : List ValueId) → Each (λ (v : ValueId). v.0 < n) vs → Each (OperandWithin (values_alone n)) (each_with_type ns xs vs)
 each-within n ns [] vs h = tt
 each-within n ns (x ∷ xs) [] h = tt
 each-within n ns (x ∷ xs) (v ∷ vs) h = (h.0, each-within n ns xs vs h.1)
 
-pub operands-within : (n : ℕ) (ns : List Node) (op : Op) (xs : List TermId) (d : TypeTree) (vs : List ValueId) → Each (λ (v : ValueId). v.0 < n) vs
+pub operands-within : (n : ℕ) (ns : List TermNode) (op : Op) (xs : List TermId) (d : TypeTree) (vs : List ValueId) → Each (λ (v : ValueId). v.0 < n) vs
     → Each (OperandWithin (values_alone n)) (operands_of ns op xs d vs)
 operands-within n ns op xs d vs h = at (writes_each op)
   where

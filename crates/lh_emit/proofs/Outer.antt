@@ -9,7 +9,7 @@ use Rattle.lh_term.specs.Tree.{Tree, now_of}
 use Rattle.lh_term.specs.Arena.{trees, tree_at, IsIn, OneId, Grows, StandsForTree}
 use Rattle.lh_term.specs.declared.part.Part.{Part}
 use Rattle.lh_term.specs.declared.term.TermId.{TermId}
-use Rattle.lh_term.specs.declared.term.Node.{Node}
+use Rattle.lh_term.specs.declared.term.TermNode.{TermNode}
 use Rattle.lh_emit_def.specs.Emitted.{Source, Emitted, term_name}
 use Rattle.lh_emit_def.specs.Entities.{max_lines, choices_fit}
 use Rattle.lh_emit_def.specs.Needs.{need}
@@ -27,39 +27,39 @@ use Rattle.lh_emit.proofs.Sourcing.{source-of}
 
 -- ---- terms
 
-pub can-term : (ns : List Node) (o : Origin) (x : Emitter) (t : TermId) → CanNeed ns o x t → CanTakeTerm ns o x t
+pub can-term : (ns : List TermNode) (o : Origin) (x : Emitter) (t : TermId) → CanNeed ns o x t → CanTakeTerm ns o x t
 can-term ns o x t c = record { source = source_by c.name c.naming o.flat.now; emitted = c.emitted; origin = source-of o c.name c.naming c.origin; is = c.is; within = c.within; given = c.given }
 
-pub term-grows : (ns : List Node) (o : Origin) (x : Emitter) (t : TermId) (ms : List Node) (y : Emitter) (r : Result ValueId EmitFault) → TakesTermOr ns o x t ms y r
+pub term-grows : (ns : List TermNode) (o : Origin) (x : Emitter) (t : TermId) (ms : List TermNode) (y : Emitter) (r : Result ValueId EmitFault) → TakesTermOr ns o x t ms y r
     → OnOk r (NamesGrow x.lines.names y.lines.names)
 term-grows ns o x t ms y (Ok v) h = h.0
 term-grows ns o x t ms y (Err f) h = tt
 
-pub term-needed : (ns : List Node) (o : Origin) (x : Emitter) (t : TermId) (ms : List Node) (y : Emitter) (r : Result ValueId EmitFault) → TakesTermOr ns o x t ms y r
+pub term-needed : (ns : List TermNode) (o : Origin) (x : Emitter) (t : TermId) (ms : List TermNode) (y : Emitter) (r : Result ValueId EmitFault) → TakesTermOr ns o x t ms y r
     → IfOk r (λ v. NeedsTerm ns o x t ms y v)
 term-needed ns o x t ms y (Ok v) h = λ name f e origin w given. let k = h.1 (source_by name f o.flat.now) e (source-of o name f origin) w given in
     record { is = k.is; name = k.name; within = k.within; fits = k.fits }
 term-needed ns o x t ms y (Err f) h = tt
 
-pub term-not : (ns : List Node) (o : Origin) (x : Emitter) (t : TermId) (ms : List Node) (y : Emitter) (r : Result ValueId EmitFault) → TakesTermOr ns o x t ms y r → IfErr r (NeedsNot ns o x t)
+pub term-not : (ns : List TermNode) (o : Origin) (x : Emitter) (t : TermId) (ms : List TermNode) (y : Emitter) (r : Result ValueId EmitFault) → TakesTermOr ns o x t ms y r → IfErr r (NeedsNot ns o x t)
 term-not ns o x t ms y (Ok v) h = tt
 term-not ns o x t ms y (Err fault.OutOfMemory) h = tt
 term-not ns o x t ms y (Err fault.EntityTooLarge) h = λ name f e origin w given. h (source_by name f o.flat.now) e (source-of o name f origin) w given
 
 -- ---- parts
 
-pub can-part : (ns : List Node) (o : Origin) (x : Emitter) (p : Part) → CanReach ns o x p → CanTakePart ns o x p
+pub can-part : (ns : List TermNode) (o : Origin) (x : Emitter) (p : Part) → CanReach ns o x p → CanTakePart ns o x p
 can-part ns o x p c = record { source = source_by c.name c.naming o.flat.now; emitted = c.emitted; origin = source-of o c.name c.naming c.origin; is = c.is; given = c.given }
 
-pub part-grows : (ns : List Node) (o : Origin) (x : Emitter) (p : Part) (y : Emitter) (r : Result ValueId EmitFault) → TakesPartOr ns o x p y r → OnOk r (NamesGrow x.lines.names y.lines.names)
+pub part-grows : (ns : List TermNode) (o : Origin) (x : Emitter) (p : Part) (y : Emitter) (r : Result ValueId EmitFault) → TakesPartOr ns o x p y r → OnOk r (NamesGrow x.lines.names y.lines.names)
 part-grows ns o x p y (Ok v) h = h.0
 part-grows ns o x p y (Err f) h = tt
 
-pub part-needed : (ns : List Node) (o : Origin) (x : Emitter) (p : Part) (y : Emitter) (r : Result ValueId EmitFault) → TakesPartOr ns o x p y r → IfOk r (λ v. NeedsPart ns o x p y v)
+pub part-needed : (ns : List TermNode) (o : Origin) (x : Emitter) (p : Part) (y : Emitter) (r : Result ValueId EmitFault) → TakesPartOr ns o x p y r → IfOk r (λ v. NeedsPart ns o x p y v)
 part-needed ns o x p y (Ok v) h = λ name f e origin w given. let k = h.1 (source_by name f o.flat.now) e (source-of o name f origin) w given in record { is = k.is; name = k.name; within = k.within }
 part-needed ns o x p y (Err f) h = tt
 
-pub part-not : (ns : List Node) (o : Origin) (x : Emitter) (p : Part) (y : Emitter) (r : Result ValueId EmitFault) → TakesPartOr ns o x p y r → IfErr r (NeedsPartNot ns o x p)
+pub part-not : (ns : List TermNode) (o : Origin) (x : Emitter) (p : Part) (y : Emitter) (r : Result ValueId EmitFault) → TakesPartOr ns o x p y r → IfErr r (NeedsPartNot ns o x p)
 part-not ns o x p y (Ok v) h = tt
 part-not ns o x p y (Err fault.OutOfMemory) h = tt
 part-not ns o x p y (Err fault.EntityTooLarge) h = λ name f e origin w given. h (source_by name f o.flat.now) e (source-of o name f origin) w given
@@ -69,7 +69,7 @@ part-not ns o x p y (Err fault.EntityTooLarge) h = λ name f e origin w given. h
 now-given : (s : Source) (p : Part) → WaitIsGiven s p → IsGiven s (now_of p)
 now-given s p w = record { typed = w.is_data; parts = w.part }
 
-module _ (ns ms : List Node) (o : Origin) (x : Emitter) (p : Part) (t : TermId) (g : Grows ns ms) (one : OneId ms) (st : StandsForTree ms t (now_of p)) where
+module _ (ns ms : List TermNode) (o : Origin) (x : Emitter) (p : Part) (t : TermId) (g : Grows ns ms) (one : OneId ms) (st : StandsForTree ms t (now_of p)) where
   pub can-now : CanProbe ns o x p → CanNeed ms o x t
   can-now c = record {
     name = c.name;
@@ -81,7 +81,7 @@ module _ (ns ms : List Node) (o : Origin) (x : Emitter) (p : Part) (t : TermId) 
     given = subst (IsGiven (source_by c.name c.naming o.flat.now)) (sym st.tree) (now-given (source_by c.name c.naming o.flat.now) p c.given);
   }
 
-  module _ (ls : List Node) (y : Emitter) where
+  module _ (ls : List TermNode) (y : Emitter) where
     pub now-needed : (r : Result ValueId EmitFault) → IfOk r (λ v. NeedsTerm ms o x t ls y v) → IfOk r (λ v. NeedsNow ns o x p ls y v)
     now-needed (Err f) h = tt
     now-needed (Ok v) h = λ name f e origin w given.
@@ -101,6 +101,6 @@ module _ (ns ms : List Node) (o : Origin) (x : Emitter) (p : Part) (t : TermId) 
         by s e (inr far) = subst (λ z. max_lines < length (need s z e).lines) st.tree far
 
 -- nothing is said for want of memory
-pub now-none : (ns : List Node) (o : Origin) (x : Emitter) (p : Part) (r : Result ValueId EmitFault) → IsErrAnd r (λ f. f ≡ fault.OutOfMemory) → IfErr r (NeedsNowNot ns o x p)
+pub now-none : (ns : List TermNode) (o : Origin) (x : Emitter) (p : Part) (r : Result ValueId EmitFault) → IsErrAnd r (λ f. f ≡ fault.OutOfMemory) → IfErr r (NeedsNowNot ns o x p)
 now-none ns o x p (Ok v) h = tt
 now-none ns o x p (Err f) h = subst (NeedsNowNot ns o x p) (sym h) tt

@@ -11,7 +11,7 @@ use Rattle.lh_unit.specs.declared.inst.Arg.{Arg}
 use Rattle.lh_unit.specs.declared.inst.ValueId.{ValueId}
 use Rattle.lh_term.specs.Same.{same_part, same_part-is, same_part-refl}
 use Rattle.lh_term.specs.declared.part.Part.{Part}
-use Rattle.lh_term.specs.declared.term.Node.{Node}
+use Rattle.lh_term.specs.declared.term.TermNode.{TermNode}
 use Rattle.lh_emit_def.specs.Emitted.{PartStep, Source, Emitted, whole_name, name_if_whole, arg_name, with_part, takes_steps, unless_there, need_part, part_name}
 use Rattle.lh_emit_def.specs.Entities.{max_lines}
 use Rattle.lh_emit_def.specs.Ways.{StepsLead, IsReached}
@@ -81,7 +81,7 @@ module _ (o : Origin) (s : Source) (src : IsSource o s) (p : Part) (r : IsReache
   pub whole-name : (b : Bool) → b ≡ is_whole p (get_or (args_of o) p.arg d).ty → whole_name s.args p ≡ (if b then Some r.arg.name else None)
   whole-name b e = whole-at b (sym (e ∙ ap (is_whole p) arg-type))
 
-  module _ (ns : List Node) (x : Emitter) (e : Emitted) (w : IsEmitted ns s x e) where
+  module _ (ns : List TermNode) (x : Emitter) (e : Emitted) (w : IsEmitted ns s x e) where
     pub from-within : p.arg < length x.lines.names
     from-within = omega (arith, slice_get_within s.args p.arg r.arg r.there, w.arguments.long)
 
@@ -227,23 +227,23 @@ module _ (o : Origin) (s : Source) (src : IsSource o s) (p : Part) (r : IsReache
 
 -- ---- by contracts
 
-pub part-no-memory : (ns : List Node) (o : Origin) (x : Emitter) (p : Part) (y : Emitter) (r : Result ValueId EmitFault) → IsErrAnd r (λ f. f ≡ fault.OutOfMemory) → TakesPartOr ns o x p y r
+pub part-no-memory : (ns : List TermNode) (o : Origin) (x : Emitter) (p : Part) (y : Emitter) (r : Result ValueId EmitFault) → IsErrAnd r (λ f. f ≡ fault.OutOfMemory) → TakesPartOr ns o x p y r
 part-no-memory ns o x p y (Ok v) h = absurd h
 part-no-memory ns o x p y (Err f) h = subst (GivesNoPart ns o x p) (sym h) tt
 
-pub part-in-args : (ns : List Node) (o : Origin) (x : Emitter) (p : Part) (args : List Arg) (d : Arg) → CanTakePart ns o x p → args ≡ args_of o → p.arg < length args
+pub part-in-args : (ns : List TermNode) (o : Origin) (x : Emitter) (p : Part) (args : List Arg) (d : Arg) → CanTakePart ns o x p → args ≡ args_of o → p.arg < length args
 part-in-args ns o x p args d c e = subst (λ (xs : List Arg). p.arg < length xs) (sym e) (arg-in o c.source c.origin p c.given d)
 
 pub looks-at : (args : List Arg) (p : Part) (b : Bool) (a : Arg) (t : TypeTree) → a ≡ get_or args p.arg a → t ≡ a.ty → b ≡ is_whole p t → IsLimited t → Looks args p b
 looks-at args p b a t e q w l = record { arg = a; whole = w ∙ ap (is_whole p) (q ∙ ap (λ (z : Arg). z.ty) e); limited = subst IsLimited (q ∙ ap (λ (z : Arg). z.ty) e) l }
 
-pub takes-whole : (ns : List Node) (o : Origin) (x : Emitter) (p : Part) (args : List Arg) (b : Bool) → args ≡ args_of o → Looks args p b → b ≡ true → TakesPartOr ns o x p x (Ok record { 0 = p.arg })
+pub takes-whole : (ns : List TermNode) (o : Origin) (x : Emitter) (p : Part) (args : List Arg) (b : Bool) → args ≡ args_of o → Looks args p b → b ≡ true → TakesPartOr ns o x p x (Ok record { 0 = p.arg })
 takes-whole ns o x p args b e k t = (
   grows-same x.lines.names x.lines.names refl,
   λ s em src w r. let l = subst (λ xs. Looks xs p b) e k in whole-taken o s src p r l.arg ns x em w b l.whole t,
 )
 
-pub takes-known : (ns : List Node) (o : Origin) (x : Emitter) (p : Part) (args : List Arg) (b : Bool) (v : ValueId) → args ≡ args_of o → Looks args p b → b ≡ false → part_in x.parts p ≡ Some v
+pub takes-known : (ns : List TermNode) (o : Origin) (x : Emitter) (p : Part) (args : List Arg) (b : Bool) (v : ValueId) → args ≡ args_of o → Looks args p b → b ≡ false → part_in x.parts p ≡ Some v
     → TakesPartOr ns o x p x (Ok v)
 takes-known ns o x p args b v e k t h = (
   grows-same x.lines.names x.lines.names refl,
@@ -253,17 +253,17 @@ takes-known ns o x p args b v e k t h = (
 pub new-part : (o : Origin) (x : Emitter) (p : Part) (args : List Arg) (b : Bool) → args ≡ args_of o → Looks args p b → b ≡ false → part_in x.parts p ≡ None → IsNewPart o x p
 new-part o x p args b e k t h = record { looks = subst (Looks (args_of o) p) t (subst (λ xs. Looks xs p b) e k); none = h }
 
-pub new-types : (ns : List Node) (o : Origin) (x : Emitter) (p : Part) (route : List RouteStep) → CanTakePart ns o x p → IsNewPart o x p → ((s : Source) → IsSource o s → AreStepsOf (s.steps p) route)
+pub new-types : (ns : List TermNode) (o : Origin) (x : Emitter) (p : Part) (route : List RouteStep) → CanTakePart ns o x p → IsNewPart o x p → ((s : Source) → IsSource o s → AreStepsOf (s.steps p) route)
     → AllData route
 new-types ns o x p route c k a = route-types o c.source c.origin p c.given k.looks.arg route k.looks.limited (a c.source c.origin)
 
-pub new-from : (ns : List Node) (o : Origin) (x : Emitter) (p : Part) → CanTakePart ns o x p → p.arg < length x.lines.names
+pub new-from : (ns : List TermNode) (o : Origin) (x : Emitter) (p : Part) → CanTakePart ns o x p → p.arg < length x.lines.names
 new-from ns o x p c = from-within o c.source c.origin p c.given d ns x c.emitted c.is
   where
     d : Arg
     d = record { value = record { 0 = 0 }; ty = int_type 1; output = false }
 
-pub takes-new : (ns : List Node) (o : Origin) (x : Emitter) (p : Part) (route : List RouteStep) (new : Lines) (v : ValueId) (ps : Parts) → IsNewPart o x p
+pub takes-new : (ns : List TermNode) (o : Origin) (x : Emitter) (p : Part) (route : List RouteStep) (new : Lines) (v : ValueId) (ps : Parts) → IsNewPart o x p
     → ((s : Source) → IsSource o s → AreStepsOf (s.steps p) route) →
     Walks route x.lines record { 0 = p.arg } new v [] → KeepsPart x.parts p v ps → TakesPartOr ns o x p record { lines = new; values = x.values; parts = ps } (Ok v)
 takes-new ns o x p route new v ps k a w keeps = (
@@ -271,12 +271,12 @@ takes-new ns o x p route new v ps k a w keeps = (
   λ s em src i r. new-taken o s src p r k.looks.arg ns x em i false route new v ps k.looks.whole refl k.none (a s src) w keeps,
 )
 
-pub takes-not : (ns : List Node) (o : Origin) (x : Emitter) (p : Part) (route : List RouteStep) (f : EmitFault) → IsNewPart o x p → ((s : Source) → IsSource o s → AreStepsOf (s.steps p) route) →
+pub takes-not : (ns : List TermNode) (o : Origin) (x : Emitter) (p : Part) (route : List RouteStep) (f : EmitFault) → IsNewPart o x p → ((s : Source) → IsSource o s → AreStepsOf (s.steps p) route) →
     WalksNot route x.lines record { 0 = p.arg } f → GivesNoPart ns o x p f
 takes-not ns o x p route fault.OutOfMemory k a w = tt
 takes-not ns o x p route fault.EntityTooLarge k a w = λ s em src i r. steps-fault o s src p r k.looks.arg ns x em i false route k.looks.whole refl k.none (a s src) w
 
-pub part-cause : (ns : List Node) (o : Origin) (x : Emitter) (p : Part) (y : Emitter) (r : Result ValueId EmitFault) (f : EmitFault) → IsErrAnd r (λ e. e ≡ f) → GivesNoPart ns o x p f
+pub part-cause : (ns : List TermNode) (o : Origin) (x : Emitter) (p : Part) (y : Emitter) (r : Result ValueId EmitFault) (f : EmitFault) → IsErrAnd r (λ e. e ≡ f) → GivesNoPart ns o x p f
     → TakesPartOr ns o x p y r
 part-cause ns o x p y (Ok v) f h g = absurd h
 part-cause ns o x p y (Err e) f h g = subst (GivesNoPart ns o x p) (sym h) g

@@ -3,7 +3,7 @@ use Rattle.std.proofs.Common.{◌≡◌, ℕ, List, sym, subst}
 use Rattle.std.specs.Prelude.{Result, Ok, Err}
 use Rattle.lh_unit.specs.Naming.{inst_text}
 use Rattle.lh_unit.specs.declared.inst.Inst.{Inst}
-use Rattle.lh_term.specs.declared.term.Node.{Node}
+use Rattle.lh_term.specs.declared.term.TermNode.{TermNode}
 use Rattle.lh_emit_def.specs.Emitted.{Source, Emitted, puts}
 use Rattle.lh_emit_body.specs.Lines.{naming, LinesAreEmitted, PutsOne}
 use Rattle.lh_emit_body.specs.declared.lines.EmitFault.{EmitFault}
@@ -15,7 +15,7 @@ use Rattle.lh_emit.specs.declared.emitter.Emitter.{Emitter}
 use Rattle.lh_emit_body.specs.declared.lines.Lines.{Lines}
 
 -- the entity after the instruction
-pub puts-emitted : (ns : List Node) (s : Source) (x : Emitter) (e : Emitted) (i : Inst) (new : Lines) → IsEmitted ns s x e → PutsOne x.lines i new (Ok tt) →
+pub puts-emitted : (ns : List TermNode) (s : Source) (x : Emitter) (e : Emitted) (i : Inst) (new : Lines) → IsEmitted ns s x e → PutsOne x.lines i new (Ok tt) →
     IsEmitted ns s record { lines = new; values = x.values; parts = x.parts } (puts (inst_text (naming x.lines.names) i) e)
 puts-emitted ns s x e i new w h =
     let k : ValuesNameTerms ns x.lines.names x.values (puts (inst_text (naming x.lines.names) i) e) = record

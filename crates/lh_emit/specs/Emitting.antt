@@ -9,7 +9,7 @@ use Rattle.lh_term.specs.Tree.{Tree, now_of}
 use Rattle.lh_term.specs.Arena.{trees, tree_at, IsIn}
 use Rattle.lh_term.specs.declared.part.Part.{Part}
 use Rattle.lh_term.specs.declared.term.TermId.{TermId}
-use Rattle.lh_term.specs.declared.term.Node.{Node}
+use Rattle.lh_term.specs.declared.term.TermNode.{TermNode}
 use Rattle.lh_emit_def.specs.Emitted.{Source, Emitted, puts, term_name, part_name, need_part}
 use Rattle.lh_emit_def.specs.Needs.{need}
 use Rattle.lh_emit_def.specs.Entities.{max_lines, choices_fit}
@@ -25,7 +25,7 @@ use Rattle.lh_emit_body.specs.declared.lines.EmitFault.TheVariants as fault
 pub use Rattle.lh_emit_body.specs.Bodies.{ArgumentsFirst}
 
 -- The instructions by ids are those of the definition; the terms and parts that have names there have values here, of these names; and each term that was emitted has only choices that fit.
-pub record IsEmitted (ns : List Node) (s : Source) (x : Emitter) (e : Emitted) : Type 0 where
+pub record IsEmitted (ns : List TermNode) (s : Source) (x : Emitter) (e : Emitted) : Type 0 where
   pub room : HasRoom x.lines
   pub says : LinesAreEmitted s.args x.lines e
   pub arguments : ArgumentsFirst s.args x.lines.names
@@ -36,7 +36,7 @@ pub record IsEmitted (ns : List Node) (s : Source) (x : Emitter) (e : Emitted) :
 -- ---- need of a term
 
 -- some entity underway, for which a term is needed
-pub record CanNeed (ns : List Node) (o : Origin) (x : Emitter) (t : TermId) : Type 0 where
+pub record CanNeed (ns : List TermNode) (o : Origin) (x : Emitter) (t : TermId) : Type 0 where
   pub name : UnitName
   pub naming : Naming
   pub emitted : Emitted
@@ -46,13 +46,13 @@ pub record CanNeed (ns : List Node) (o : Origin) (x : Emitter) (t : TermId) : Ty
   pub given : IsGiven (source_by name naming o.flat.now) (tree_at (trees ns) t)
 
 -- the entity after need of a term, whose value is this
-pub record IsNeeded (ms : List Node) (s : Source) (x : Tree) (e : Emitted) (y : Emitter) (v : ValueId) : Type 0 where
+pub record IsNeeded (ms : List TermNode) (s : Source) (x : Tree) (e : Emitted) (y : Emitter) (v : ValueId) : Type 0 where
   pub is : IsEmitted ms s y (need s x e)
   pub name : value_text (naming y.lines.names) v ≡ term_name (need s x e) x
   pub within : v.0 < length y.lines.names
   pub fits : choices_fit x ≡ true
 
-abbrev pub NeedsTerm : List Node → Origin → Emitter → TermId → List Node → Emitter → ValueId → Type 0
+abbrev pub NeedsTerm : List TermNode → Origin → Emitter → TermId → List TermNode → Emitter → ValueId → Type 0
 NeedsTerm ns o x t ms y v =
     (name : UnitName) (f : Naming) (e : Emitted) → IsOrigin f o → IsEmitted ns (source_by name f o.flat.now) x e → IsGiven (source_by name f o.flat.now) (tree_at (trees ns) t) →
     IsNeeded ms (source_by name f o.flat.now) (tree_at (trees ns) t) e y v
@@ -62,7 +62,7 @@ abbrev pub IsTooLarge : Source → Tree → Emitted → Type 0
 IsTooLarge s x e = (choices_fit x ≡ false) ⊎ (max_lines < length (need s x e).lines)
 
 -- A fault has its cause.
-abbrev pub NeedsNot : List Node → Origin → Emitter → TermId → EmitFault → Type 0
+abbrev pub NeedsNot : List TermNode → Origin → Emitter → TermId → EmitFault → Type 0
 NeedsNot ns o x t fault.OutOfMemory = Unit {0}
 NeedsNot ns o x t fault.EntityTooLarge =
     (name : UnitName) (f : Naming) (e : Emitted) → IsOrigin f o → IsEmitted ns (source_by name f o.flat.now) x e → IsGiven (source_by name f o.flat.now) (tree_at (trees ns) t) →
@@ -70,7 +70,7 @@ NeedsNot ns o x t fault.EntityTooLarge =
 
 -- ---- need of the present value of a part
 
-pub record CanProbe (ns : List Node) (o : Origin) (x : Emitter) (p : Part) : Type 0 where
+pub record CanProbe (ns : List TermNode) (o : Origin) (x : Emitter) (p : Part) : Type 0 where
   pub name : UnitName
   pub naming : Naming
   pub emitted : Emitted
@@ -78,12 +78,12 @@ pub record CanProbe (ns : List Node) (o : Origin) (x : Emitter) (p : Part) : Typ
   pub is : IsEmitted ns (source_by name naming o.flat.now) x emitted
   pub given : WaitIsGiven (source_by name naming o.flat.now) p
 
-abbrev pub NeedsNow : List Node → Origin → Emitter → Part → List Node → Emitter → ValueId → Type 0
+abbrev pub NeedsNow : List TermNode → Origin → Emitter → Part → List TermNode → Emitter → ValueId → Type 0
 NeedsNow ns o x p ms y v =
     (name : UnitName) (f : Naming) (e : Emitted) → IsOrigin f o → IsEmitted ns (source_by name f o.flat.now) x e → WaitIsGiven (source_by name f o.flat.now) p →
     IsNeeded ms (source_by name f o.flat.now) (now_of p) e y v
 
-abbrev pub NeedsNowNot : List Node → Origin → Emitter → Part → EmitFault → Type 0
+abbrev pub NeedsNowNot : List TermNode → Origin → Emitter → Part → EmitFault → Type 0
 NeedsNowNot ns o x p fault.OutOfMemory = Unit {0}
 NeedsNowNot ns o x p fault.EntityTooLarge =
     (name : UnitName) (f : Naming) (e : Emitted) → IsOrigin f o → IsEmitted ns (source_by name f o.flat.now) x e → WaitIsGiven (source_by name f o.flat.now) p →
@@ -91,7 +91,7 @@ NeedsNowNot ns o x p fault.EntityTooLarge =
 
 -- ---- need of a part
 
-pub record CanReach (ns : List Node) (o : Origin) (x : Emitter) (p : Part) : Type 0 where
+pub record CanReach (ns : List TermNode) (o : Origin) (x : Emitter) (p : Part) : Type 0 where
   pub name : UnitName
   pub naming : Naming
   pub emitted : Emitted
@@ -99,17 +99,17 @@ pub record CanReach (ns : List Node) (o : Origin) (x : Emitter) (p : Part) : Typ
   pub is : IsEmitted ns (source_by name naming o.flat.now) x emitted
   pub given : IsReached (source_by name naming o.flat.now) p
 
-pub record IsPartNeeded (ms : List Node) (s : Source) (p : Part) (e : Emitted) (y : Emitter) (v : ValueId) : Type 0 where
+pub record IsPartNeeded (ms : List TermNode) (s : Source) (p : Part) (e : Emitted) (y : Emitter) (v : ValueId) : Type 0 where
   pub is : IsEmitted ms s y (need_part s p e)
   pub name : value_text (naming y.lines.names) v ≡ part_name (need_part s p e) p
   pub within : v.0 < length y.lines.names
 
-abbrev pub NeedsPart : List Node → Origin → Emitter → Part → Emitter → ValueId → Type 0
+abbrev pub NeedsPart : List TermNode → Origin → Emitter → Part → Emitter → ValueId → Type 0
 NeedsPart ns o x p y v =
     (name : UnitName) (f : Naming) (e : Emitted) → IsOrigin f o → IsEmitted ns (source_by name f o.flat.now) x e → IsReached (source_by name f o.flat.now) p →
     IsPartNeeded ns (source_by name f o.flat.now) p e y v
 
-abbrev pub NeedsPartNot : List Node → Origin → Emitter → Part → EmitFault → Type 0
+abbrev pub NeedsPartNot : List TermNode → Origin → Emitter → Part → EmitFault → Type 0
 NeedsPartNot ns o x p fault.OutOfMemory = Unit {0}
 NeedsPartNot ns o x p fault.EntityTooLarge =
     (name : UnitName) (f : Naming) (e : Emitted) → IsOrigin f o → IsEmitted ns (source_by name f o.flat.now) x e → IsReached (source_by name f o.flat.now) p →
@@ -119,6 +119,6 @@ NeedsPartNot ns o x p fault.EntityTooLarge =
 
 -- it is added; or there are as many as there may be
 abbrev pub PutsInst : Emitter → Inst → Emitter → Result (Unit {0}) EmitFault → Type 0
-PutsInst x i y (Ok u) = (ns : List Node) (s : Source) (e : Emitted) → IsEmitted ns s x e → IsEmitted ns s y (puts (inst_text (naming x.lines.names) i) e)
+PutsInst x i y (Ok u) = (ns : List TermNode) (s : Source) (e : Emitted) → IsEmitted ns s x e → IsEmitted ns s y (puts (inst_text (naming x.lines.names) i) e)
 PutsInst x i y (Err fault.EntityTooLarge) = length x.lines.lines ≡ most_lines
 PutsInst x i y (Err fault.OutOfMemory) = Unit {0}

@@ -11,28 +11,28 @@ use Rattle.lh_term.specs.Types.{type_of, FitsTerm, IsTyped}
 use Rattle.lh_term.specs.Arena.{trees, tree_at, trees_at, IsIn, AreIn}
 use Rattle.lh_term.specs.declared.part.Part.{Part}
 use Rattle.lh_term.specs.declared.term.TermId.{TermId}
-use Rattle.lh_term.specs.declared.term.Node.{Node}
+use Rattle.lh_term.specs.declared.term.TermNode.{TermNode}
 use Rattle.lh_emit_def.specs.Needs.{pair_of}
 use Rattle.lh_emit_body.specs.declared.lines.EmitFault.{EmitFault}
 use Rattle.lh_emit_body.specs.declared.lines.EmitFault.TheVariants as fault
 use Rattle.lh_emit.specs.Tasks.{made_of, has_pair}
 use Rattle.lh_emit.specs.declared.making.Needs.{Needs}
 use Rattle.lh_emit.specs.declared.making.Needs.TheVariants.{Parts, Terms, Chosen}
-use Rattle.lh_emit.specs.declared.making.Form.{Form}
-use Rattle.lh_emit.specs.declared.making.Form.TheVariants.{Scalar, Probe, Joined}
+use Rattle.lh_emit.specs.declared.making.TermForm.{TermForm}
+use Rattle.lh_emit.specs.declared.making.TermForm.TheVariants.{Scalar, Probe, Joined}
 
 -- the ids of the terms that a term is made of; a choice has its array
-pub record AreMade (ns ms : List Node) (t : TermId) (xs : List TermId) : Type 0 where
+pub record AreMade (ns ms : List TermNode) (t : TermId) (xs : List TermId) : Type 0 where
   pub within : AreIn ms xs
   pub made : trees_at ms xs ≡ made_of (tree_at (trees ns) t)
   pub pair : has_pair (tree_at (trees ns) t) ≡ true
 
-abbrev pub HasNoPair : List Node → TermId → EmitFault → Type 0
+abbrev pub HasNoPair : List TermNode → TermId → EmitFault → Type 0
 HasNoPair ns t fault.OutOfMemory = Unit {0}
 HasNoPair ns t fault.EntityTooLarge = has_pair (tree_at (trees ns) t) ≡ false
 
 -- which instruction gives a term
-abbrev pub form_of : Tree → Form
+abbrev pub form_of : Tree → TermForm
 form_of (constant (int_value w b)) = Scalar
 form_of (constant (time_value d)) = Scalar
 form_of (constant (array_value vs)) = Joined op.Array
@@ -55,18 +55,18 @@ pub record IsProbed (t : Tree) (p : Part) : Type 0 where
   pub is_data : IsData p.ty
 
 -- the ids of the constants of these values
-pub record AreConstants (ds : List Datum) (ms : List Node) (xs : List TermId) : Type 0 where
+pub record AreConstants (ds : List Datum) (ms : List TermNode) (xs : List TermId) : Type 0 where
   pub within : AreIn ms xs
   pub made : trees_at ms xs ≡ map constant ds
 
 -- the ids of the array of both terms of a choice, and of its condition
-pub record AreChosen (c f t : Tree) (ms : List Node) (xs : List TermId) : Type 0 where
+pub record AreChosen (c f t : Tree) (ms : List TermNode) (xs : List TermId) : Type 0 where
   pub within : AreIn ms xs
   pub made : trees_at ms xs ≡ pair_of f t ∷ c ∷ []
   pub pair : is_none (array_fault 2 (type_of f)) ≡ true
 
 -- what stands in the arena of what a term is made of
-abbrev pub IsMadeBy : List Node → TermId → Needs → Type 0
+abbrev pub IsMadeBy : List TermNode → TermId → Needs → Type 0
 IsMadeBy ns t (Parts vs) = (d : Datum) × (tree_at (trees ns) t ≡ constant d) × (vs ≡ parts_in d) × FitsTerm d
 IsMadeBy ns t (Terms xs) = AreMade ns ns t xs
 IsMadeBy ns t (Chosen c f g) =

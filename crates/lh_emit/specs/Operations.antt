@@ -6,7 +6,7 @@ use Rattle.lh_types.specs.declared.op.Op.{Op}
 use Rattle.lh_term.specs.Arena.{trees, tree_at, trees_at}
 use Rattle.lh_term.specs.Types.{type_of, first_of}
 use Rattle.lh_term.specs.declared.term.TermId.{TermId}
-use Rattle.lh_term.specs.declared.term.Node.{Node}
+use Rattle.lh_term.specs.declared.term.TermNode.{TermNode}
 use Rattle.lh_unit.specs.Within.{Each}
 use Rattle.lh_unit.specs.declared.inst.Typed.{Typed}
 use Rattle.lh_unit.specs.declared.inst.ValueId.{ValueId}
@@ -24,18 +24,18 @@ abbrev pub AreValues : Values → List TermId → List ValueId → Type 0
 AreValues vs xs given = map Some given ≡ map (value_in vs) xs
 
 -- each value with the type of its term before it
-abbrev pub each_with_type : List Node → List TermId → List ValueId → List Typed
+abbrev pub each_with_type : List TermNode → List TermId → List ValueId → List Typed
 each_with_type ns [] vs = []
 each_with_type ns (x ∷ xs) [] = []
 each_with_type ns (x ∷ xs) (v ∷ vs) = with_type (type_of (tree_at (trees ns) x)) v ∷ each_with_type ns xs vs
 
 -- the operands of an operation that gives a value of type d, on these terms, which have these values
-abbrev pub operands_of : List Node → Op → List TermId → TypeTree → List ValueId → List Typed
+abbrev pub operands_of : List TermNode → Op → List TermId → TypeTree → List ValueId → List Typed
 operands_of ns op xs d vs =
     if writes_each op then each_with_type ns xs vs else first_with_type (if writes_result op then d else first_of (types_of_all (trees_at ns xs))) vs
 
 -- these are the operands of an operation that gives a value of type d, on the values that these terms have
-pub record IsOperandsOn (vs : Values) (ns : List Node) (op : Op) (xs : List TermId) (d : TypeTree) (args : List Typed) : Type 0 where
+pub record IsOperandsOn (vs : Values) (ns : List TermNode) (op : Op) (xs : List TermId) (d : TypeTree) (args : List Typed) : Type 0 where
   pub given : List ValueId
   pub values : AreValues vs xs given
   pub are : args ≡ operands_of ns op xs d given

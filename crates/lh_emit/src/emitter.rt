@@ -18,9 +18,9 @@ ghost use Rattle.lh_flat.specs.Reads.{flat_text};
 ghost use Rattle.lh_unit.specs.Naming.{Naming};
 ghost use Rattle.lh_unit.specs.Reads.{args_repeat};
 ghost use Rattle.lh_unit_names.specs.declared.name.UnitName.{UnitName};
-ghost use Rattle.lh_term.specs.declared.term.Node.{Node};
+ghost use Rattle.lh_term.specs.declared.term.TermNode.{TermNode};
 
-use crate::making::{Form, form_of, made_of, probed, scalar};
+use crate::making::{TermForm, form_of, made_of, probed, scalar};
 use crate::operands::signal;
 use crate::operations::{operands, value_of, values_of};
 use crate::parts::{PartKey, Parts};
@@ -32,8 +32,9 @@ use lh_emit_source::origin::Origin;
 use lh_term::part::Part;
 use lh_term::term::{TermId, TermList};
 use lh_term::terms::Terms;
+use lh_types::memory::NoMemory;
 use lh_types::op::Op;
-use lh_types::ty::{NoMemory, Ty, TyKind};
+use lh_types::ty::{Ty, TyKind};
 use lh_unit::constant::Constant;
 use lh_unit::inst::{Arg, Inst, OperandList, TypedList, ValueId};
 use lh_unit_names::name::Name;
@@ -52,7 +53,7 @@ pub struct Emitter {
 impl Emitter {
     /// An entity with the arguments of a flat text, and no instruction.
     pub fn new(alloc: Global, origin: &Origin<'_>) -> Result<Emitter, NoMemory>
-        ensures { IfOk result (λ x. (ns : List Node) (name : UnitName) (f : Naming) → IsOrigin f origin.now → args_repeat [] (flat_text f origin.now.flat.now).args ≡ false → IsEmitted ns (source_by name f origin.now.flat.now) x (nothing_emitted (source_by name f origin.now.flat.now))) }
+        ensures { IfOk result (λ x. (ns : List TermNode) (name : UnitName) (f : Naming) → IsOrigin f origin.now → args_repeat [] (flat_text f origin.now.flat.now).args ≡ false → IsEmitted ns (source_by name f origin.now.flat.now) x (nothing_emitted (source_by name f origin.now.flat.now))) }
     {
         Ok(Emitter {
             lines: arguments(alloc, origin.names())?,
@@ -178,9 +179,9 @@ impl Emitter {
         ensures given { GivesInstOr terms.old origin.now self.old t terms.new self.new result }
     {
         match form_of(terms, t) {
-            Form::Scalar => self.scalar_inst(alloc, origin, terms, t),
-            Form::Probe => self.probe_inst(alloc, origin, terms, t),
-            Form::Joined(op) => self.joined_inst(alloc, origin, terms, t, op),
+            TermForm::Scalar => self.scalar_inst(alloc, origin, terms, t),
+            TermForm::Probe => self.probe_inst(alloc, origin, terms, t),
+            TermForm::Joined(op) => self.joined_inst(alloc, origin, terms, t, op),
         }
     }
 
@@ -192,7 +193,7 @@ impl Emitter {
         t: TermId,
     ) -> Result<Inst, EmitFault>
         requires can { CanMake terms.now origin.now self.now t }
-        requires form { making.form_of (tree_at (trees terms.now) t) ≡ Form.Scalar }
+        requires form { making.form_of (tree_at (trees terms.now) t) ≡ TermForm.Scalar }
         ensures { GivesInstOr terms.now origin.now self.now t terms.now self.now result }
     {
         let _ = &self.lines;
@@ -209,7 +210,7 @@ impl Emitter {
         t: TermId,
     ) -> Result<Inst, EmitFault>
         requires can { CanMake terms.now origin.now self.old t }
-        requires form { making.form_of (tree_at (trees terms.now) t) ≡ Form.Probe }
+        requires form { making.form_of (tree_at (trees terms.now) t) ≡ TermForm.Probe }
         ensures { GivesInstOr terms.now origin.now self.old t terms.now self.new result }
     {
         let part = probed(terms, t)?;
@@ -243,7 +244,7 @@ impl Emitter {
         op: Op,
     ) -> Result<Inst, EmitFault>
         requires can { CanMake terms.old origin.now self.now t }
-        requires form { making.form_of (tree_at (trees terms.old) t) ≡ Form.Joined op }
+        requires form { making.form_of (tree_at (trees terms.old) t) ≡ TermForm.Joined op }
         ensures kept { Grows terms.old terms.new }
         ensures given { GivesInstOr terms.old origin.now self.now t terms.new self.now result }
     {

@@ -15,38 +15,39 @@ use lh_emit_body::lines::EmitFault;
 use lh_term::part::Part;
 use lh_term::term::{Term, TermId, TermList};
 use lh_term::terms::Terms;
+use lh_types::memory::NoMemory;
 use lh_types::op::Op;
-use lh_types::ty::{NoMemory, Ty, TyFault};
+use lh_types::ty::{Ty, TyFault};
 use lh_types::val::{Val, ValList};
 use std::alloc::Global;
 
 /// Which instruction gives a term: a constant, a `prb`, or an operation on what the term is made of.
 #[derive(Clone, Copy, Debug, PartialEq, Eq)]
-pub enum Form {
+pub enum TermForm {
     Scalar,
     Probe,
     Joined(Op),
 }
 
 /// Which instruction gives a term.
-pub fn form_of(terms: &Terms, t: TermId) -> Form
+pub fn form_of(terms: &Terms, t: TermId) -> TermForm
     requires { IsIn terms.now t }
     ensures { result ≡ making.form_of (tree_at (trees terms.now) t) }
 {
     match terms.view(t) {
-        Term::Konst(Val::Array(_)) => Form::Joined(Op::Array),
-        Term::Konst(Val::Tuple(_)) => Form::Joined(Op::Tuple),
-        Term::Konst(_) => Form::Scalar,
-        Term::Past(_) | Term::Now(_) => Form::Probe,
-        Term::Op { op, .. } => Form::Joined(*op),
-        Term::Choice { .. } => Form::Joined(Op::Mux),
+        Term::Konst(Val::Array(_)) => TermForm::Joined(Op::Array),
+        Term::Konst(Val::Tuple(_)) => TermForm::Joined(Op::Tuple),
+        Term::Konst(_) => TermForm::Scalar,
+        Term::Past(_) | Term::Now(_) => TermForm::Probe,
+        Term::Op { op, .. } => TermForm::Joined(*op),
+        Term::Choice { .. } => TermForm::Joined(Op::Mux),
     }
 }
 
 /// The part whose value a term is.
 pub fn probed(terms: &Terms, t: TermId) -> Result<Part, NoMemory>
     requires is_in { IsIn terms.now t }
-    requires form { making.form_of (tree_at (trees terms.now) t) ≡ Form.Probe }
+    requires form { making.form_of (tree_at (trees terms.now) t) ≡ TermForm.Probe }
     ensures { IfOk result (λ p. IsProbed (tree_at (trees terms.now) t) p) }
 {
     match terms.view(t) {
@@ -58,7 +59,7 @@ pub fn probed(terms: &Terms, t: TermId) -> Result<Part, NoMemory>
 /// The value of a constant.
 pub fn scalar(terms: &Terms, t: TermId) -> Result<Val, NoMemory>
     requires is_in { IsIn terms.now t }
-    requires form { making.form_of (tree_at (trees terms.now) t) ≡ Form.Scalar }
+    requires form { making.form_of (tree_at (trees terms.now) t) ≡ TermForm.Scalar }
     ensures { IfOk result (λ v. tree_at (trees terms.now) t ≡ constant (datum_of v)) }
 {
     match terms.view(t) {

@@ -3,7 +3,8 @@ ghost use Rattle.std.specs.Prelude.{◌≡◌, ◌++◌, map, None, IfOk, OnOk};
 ghost use Rattle.lh_types.specs.Types.{IsData, signal_type};
 ghost use Rattle.lh_emit.specs.Operands.{with_type, without_type, first_with_type};
 
-use lh_types::ty::{NoMemory, Ty};
+use lh_types::memory::NoMemory;
+use lh_types::ty::Ty;
 use lh_types::written::WrittenTy;
 use lh_unit::inst::{Typed, TypedList, ValueId};
 use std::alloc::Global;

@@ -10,8 +10,9 @@ use crate::operands::{first_typed, typed};
 use crate::values::Values;
 use lh_term::term::TermId;
 use lh_term::terms::Terms;
+use lh_types::memory::NoMemory;
 use lh_types::op::Op;
-use lh_types::ty::{NoMemory, Ty};
+use lh_types::ty::Ty;
 use lh_unit::inst::{TypedList, ValueId, ValueIdList};
 use std::alloc::Global;
 

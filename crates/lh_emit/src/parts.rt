@@ -4,7 +4,7 @@ ghost use Rattle.lh_term.specs.declared.part.Part.{Part as APart};
 ghost use Rattle.lh_emit.specs.Parts.{part_in, KeepsPart};
 
 use lh_term::part::Part;
-use lh_types::ty::NoMemory;
+use lh_types::memory::NoMemory;
 use lh_unit::inst::ValueId;
 use std::alloc::Global;
 use std::collections::HashMap;

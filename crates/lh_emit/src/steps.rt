@@ -9,7 +9,7 @@ ghost use Rattle.lh_emit.specs.Steps.{AllData, Walks, WalksNot};
 use crate::operands::signal;
 use lh_emit_body::lines::{EmitFault, Lines};
 use lh_emit_source::origin::{Route, RouteStep};
-use lh_types::ty::NoMemory;
+use lh_types::memory::NoMemory;
 use lh_unit::inst::{Inst, OperandList, TypedList, ValueId};
 use std::alloc::Global;
 

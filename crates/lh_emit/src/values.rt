@@ -4,7 +4,7 @@ ghost use Rattle.lh_term.specs.declared.term.TermId.{TermId as Id};
 ghost use Rattle.lh_emit.specs.Values.{value_in, Keeps};
 
 use lh_term::term::TermId;
-use lh_types::ty::NoMemory;
+use lh_types::memory::NoMemory;
 use lh_unit::inst::ValueId;
 use std::alloc::Global;
 

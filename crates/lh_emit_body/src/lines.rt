@@ -5,7 +5,7 @@ ghost use Rattle.lh_emit_body.specs.Lines.{most_lines, values_alone, HasRoom, Be
 
 use crate::names::Fresh;
 use lh_types::list::ListOf;
-use lh_types::ty::NoMemory;
+use lh_types::memory::NoMemory;
 use lh_unit::inst::{Inst, NameList, ValueId};
 use lh_unit_names::name::Name;
 use std::alloc::Global;

@@ -5,8 +5,8 @@ ghost use Rattle.lh_unit.specs.Lexemes.{begins};
 ghost use Rattle.lh_emit_def.specs.Names.{value_name, free_from, free_number};
 ghost use Rattle.lh_emit_body.specs.Fresh.{is_among, IsFresh, PassesOver};
 
+use lh_types::memory::NoMemory;
 use lh_types::text::{put, put_number};
-use lh_types::ty::NoMemory;
 use lh_unit_names::name::Name;
 use std::alloc::Global;
 use std::collections::HashSet;

@@ -13,7 +13,7 @@ use Rattle.lh_unit.specs.declared.inst.Inst.{Inst}
 use Rattle.lh_unit.specs.declared.inst.Inst.TheVariants as inst
 use Rattle.lh_term.specs.Arena.{Grows}
 use Rattle.lh_term.specs.declared.part.Part.{Part}
-use Rattle.lh_term.specs.declared.term.Node.{Node}
+use Rattle.lh_term.specs.declared.term.TermNode.{TermNode}
 use Rattle.lh_region_def.specs.Rows.{Drive}
 use Rattle.lh_region.specs.declared.rows.DriveRow.{DriveRow}
 use Rattle.lh_emit_def.specs.Emitted.{Source, Emitted, puts, term_name, signal, need_part}
@@ -37,10 +37,10 @@ use Rattle.lh_emit_shapes.proofs.Testing.{is-given, needed-at, not-needed-at, te
 -- ---- one instruction too many
 
 -- as many instructions as the definition has
-pub as-long : (ns : List Node) (s : Source) (x : Emitter) (e : Emitted) → IsEmitted ns s x e → length x.lines.lines ≡ length e.lines
+pub as-long : (ns : List TermNode) (s : Source) (x : Emitter) (e : Emitted) → IsEmitted ns s x e → length x.lines.lines ≡ length e.lines
 as-long ns s x e h = sym (length-map x.lines.lines _) ∙ ap length h.says.lines
 
-pub one-too-many : (ns : List Node) (s : Source) (x : Emitter) (e : Emitted) (i : InstText) → IsEmitted ns s x e → length x.lines.lines ≡ most_lines → max_lines < length (puts i e).lines
+pub one-too-many : (ns : List TermNode) (s : Source) (x : Emitter) (e : Emitted) (i : InstText) → IsEmitted ns s x e → length x.lines.lines ≡ most_lines → max_lines < length (puts i e).lines
 unfolding most_lines
 one-too-many ns s x e i h q =
     let a = as-long ns s x e h in
@@ -91,7 +91,7 @@ module _ (s : Source) (d : Drive) (e : Emitted) where
 
 -- ---- the calls
 
-module _ (o : Origin) (row : DriveRow) (ns : List Node) (x : Emitter) where
+module _ (o : Origin) (row : DriveRow) (ns : List TermNode) (x : Emitter) where
   pub can-value : CanPutDrive ns o x row → CanNeed ns o x row.value
   can-value c = record {
     name = c.name;
@@ -144,7 +144,7 @@ module _ (o : Origin) (row : DriveRow) (ns : List Node) (x : Emitter) where
       value-large (source_by c.name c.naming o.flat.now) c.drive c.emitted
       (not-needed-at ns o x row.value c.name c.naming c.emitted c.origin c.is c.drive.value c.are.value.tree c.given.value h)
 
-  module _ (m1 : List Node) (x1 : Emitter) (v1 : ValueId) (g1 : Grows ns m1) (n1 : NeedsTerm ns o x row.value m1 x1 v1) where
+  module _ (m1 : List TermNode) (x1 : Emitter) (v1 : ValueId) (g1 : Grows ns m1) (n1 : NeedsTerm ns o x row.value m1 x1 v1) where
     pub value-is : (c : CanPutDrive ns o x row) → IsNeeded m1 (source_by c.name c.naming o.flat.now) c.drive.value c.emitted x1 v1
     value-is c = needed-at ns o x row.value c.name c.naming c.emitted c.origin c.is c.drive.value c.are.value.tree c.given.value m1 x1 v1 n1
 
@@ -167,7 +167,7 @@ module _ (o : Origin) (row : DriveRow) (ns : List Node) (x : Emitter) where
         delay-large (source_by c.name c.naming o.flat.now) c.drive c.emitted
         (not-needed-at m1 o x1 row.delay b.name b.naming b.emitted b.origin b.is b.drive.delay b.are.delay.tree b.given.delay h)
 
-    module _ (m2 : List Node) (x2 : Emitter) (v2 : ValueId) (g2 : Grows m1 m2) (n2 : NeedsTerm m1 o x1 row.delay m2 x2 v2) where
+    module _ (m2 : List TermNode) (x2 : Emitter) (v2 : ValueId) (g2 : Grows m1 m2) (n2 : NeedsTerm m1 o x1 row.delay m2 x2 v2) where
       pub delay-is : (c : CanPutDrive ns o x row) →
           IsNeeded m2 (source_by c.name c.naming o.flat.now) c.drive.delay (need (source_by c.name c.naming o.flat.now) c.drive.value c.emitted) x2 v2
       delay-is c = let b = after-value c in needed-at m1 o x1 row.delay b.name b.naming b.emitted b.origin b.is b.drive.delay b.are.delay.tree b.given.delay m2 x2 v2 n2
@@ -191,7 +191,7 @@ module _ (o : Origin) (row : DriveRow) (ns : List Node) (x : Emitter) where
           cond-large (source_by c.name c.naming o.flat.now) c.drive c.emitted
           (not-tested-at m2 o x2 row.cond b.name b.naming b.emitted b.origin b.is b.drive.cond b.are.cond.tree b.given.cond h)
 
-      module _ (m3 : List Node) (x3 : Emitter) (v3 : Option ValueId) (g3 : Grows m2 m3) (n3 : TestsTerm m2 o x2 row.cond m3 x3 v3) where
+      module _ (m3 : List TermNode) (x3 : Emitter) (v3 : Option ValueId) (g3 : Grows m2 m3) (n3 : TestsTerm m2 o x2 row.cond m3 x3 v3) where
         pub cond-is : (c : CanPutDrive ns o x row) →
             IsTested m3 (source_by c.name c.naming o.flat.now) c.drive.cond (two (source_by c.name c.naming o.flat.now) c.drive c.emitted) x3 v3
         cond-is c = let b = after-delay c in tested-at m2 o x2 row.cond b.name b.naming b.emitted b.origin b.is b.drive.cond b.are.cond.tree b.given.cond m3 x3 v3 n3

@@ -1,7 +1,7 @@
 -- Drives and rows of registers by ids, as an arena grows.
 use Rattle.std.proofs.Common.{List, [], ◌∷◌, sym, append-nil}
 use Rattle.lh_term.specs.Arena.{Grows}
-use Rattle.lh_term.specs.declared.term.Node.{Node}
+use Rattle.lh_term.specs.declared.term.TermNode.{TermNode}
 use Rattle.lh_term.proofs.Swaps.{stands_grown}
 use Rattle.lh_edge.specs.Triggers.{TriggerTree, EdgeRowTree}
 use Rattle.lh_edge.specs.Answers.{IsTrigger, AreTriggers}
@@ -12,7 +12,7 @@ use Rattle.lh_region.specs.Stands.{IsDrive, AreDrives}
 use Rattle.lh_region.specs.declared.rows.DriveRow.{DriveRow}
 use Rattle.lh_shape.specs.Answers.{IsEdgeRow, AreEdgeRows}
 
-module _ (old new : List Node) (g : Grows old new) where
+module _ (old new : List TermNode) (g : Grows old new) where
   pub drive-grown : (d : DriveRow) (x : Drive) → IsDrive old d x → IsDrive new d x
   drive-grown d x h = record {
     cond = stands_grown old new g d.cond x.cond h.cond;
@@ -50,5 +50,5 @@ module _ (old new : List Node) (g : Grows old new) where
   rows-grown (r ∷ rs) [] h = absurd h
   rows-grown (r ∷ rs) (x ∷ xs) h = (row-grown r x h.0, rows-grown rs xs h.1)
 
-pub grows-same : (ns : List Node) → Grows ns ns
+pub grows-same : (ns : List TermNode) → Grows ns ns
 grows-same ns = ([], sym (append-nil ns))

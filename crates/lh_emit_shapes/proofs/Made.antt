@@ -12,7 +12,7 @@ use Rattle.lh_unit.specs.Hierarchy.{lines_of}
 use Rattle.lh_text_laws.specs.Printable.{results_repeat}
 use Rattle.lh_term.specs.Arena.{Grows}
 use Rattle.lh_term.specs.declared.part.Part.{Part}
-use Rattle.lh_term.specs.declared.term.Node.{Node}
+use Rattle.lh_term.specs.declared.term.TermNode.{TermNode}
 use Rattle.lh_edge.specs.declared.triggers.EdgeRow.{EdgeRow}
 use Rattle.lh_flat.specs.Reads.{flat_text}
 use Rattle.lh_region_def.specs.Rows.{Drive}
@@ -62,7 +62,7 @@ module _ (u : UnitText) (f : Naming) (o : Origin) (flat : IsFlatOf u f o) where
   pub once-named : args_repeat [] (flat_text f o.flat.now).args ≡ false
   once-named = ap (args_repeat []) (sym flat.arguments) ∙ flat.once
 
-  module _ (ns : List Node) (y : Emitter) (e : Emitted) (is : IsEmitted ns (source_by u.name f o.flat.now) y e) where
+  module _ (ns : List TermNode) (y : Emitter) (e : Emitted) (is : IsEmitted ns (source_by u.name f o.flat.now) y e) where
     pub short : length e.lines ≤ 65536
     unfolding most_lines
     short = let a = as-long ns (source_by u.name f o.flat.now) y e is in let b = is.room.short in omega (arith, a, b)
@@ -90,7 +90,7 @@ module _ (u : UnitText) (f : Naming) (o : Origin) (flat : IsFlatOf u f o) where
 -- what `Emitter::new` answers
 abbrev pub IsNew : Origin → Emitter → Type 0
 IsNew o x =
-    (ns : List Node) (name : UnitName) (f : Naming) → IsOrigin f o → args_repeat [] (flat_text f o.flat.now).args ≡ false →
+    (ns : List TermNode) (name : UnitName) (f : Naming) → IsOrigin f o → args_repeat [] (flat_text f o.flat.now).args ≡ false →
     IsEmitted ns (source_by name f o.flat.now) x (nothing_emitted (source_by name f o.flat.now))
 
 answers-err : (u : UnitText) (x : Emission) (r : Result Body EmitFault) (g : EmitFault) → IsErrAnd r (λ e. e ≡ g) → BodyOrTooLarge u x (Err g) → BodyOrTooLarge u x r
@@ -99,7 +99,7 @@ answers-err u x (Err e) g h a = subst (λ (z : EmitFault). BodyOrTooLarge u x (E
 
 -- ---- combinational
 
-module _ (o : Origin) (waited : List Part) (drives : List DriveRow) (ns : List Node) where
+module _ (o : Origin) (waited : List Part) (drives : List DriveRow) (ns : List TermNode) where
   pub comb-memory : (r : Result Body EmitFault) → IsErrAnd r (λ e. e ≡ fault.OutOfMemory) → IsComb ns o waited drives r
   comb-memory r h u f ds flat d w = answers-err u _ r fault.OutOfMemory h tt
 
@@ -129,7 +129,7 @@ module _ (o : Origin) (waited : List Part) (drives : List DriveRow) (ns : List N
             beyond-limits u (list_all drive_fits ds) (comb (source_of u (steps_of u f o)) waited ds).lines
             (inr (subst (λ (q : Source). max_lines < length (comb q waited ds).lines) (source-is u f o flat) z))
 
-    module _ (m1 : List Node) (x1 : Emitter) (g1 : Grows ns m1) (p1 : PutsProbes ns o x waited m1 x1) where
+    module _ (m1 : List TermNode) (x1 : Emitter) (g1 : Grows ns m1) (p1 : PutsProbes ns o x waited m1 x1) where
       drives-put : (u : UnitText) (f : Naming) (ds : List Drive) → IsFlatOf u f o → DrivesGiven ns u f o drives ds → Each (WaitIsGiven (source_by u.name f o.flat.now)) waited
           → CanPutDrives m1 o x1 drives
       drives-put u f ds flat d w =
@@ -172,7 +172,7 @@ module _ (o : Origin) (waited : List Part) (drives : List DriveRow) (ns : List N
                 given = d.given;
               })))
 
-      pub comb-made : CombIsRight → (m2 : List Node) (x2 : Emitter) → PutsDrives m1 o x1 drives m2 x2 → (b : Body) → b.names ≡ x2.lines.names → b.lines ≡ x2.lines.lines
+      pub comb-made : CombIsRight → (m2 : List TermNode) (x2 : Emitter) → PutsDrives m1 o x1 drives m2 x2 → (b : Body) → b.names ≡ x2.lines.names → b.lines ≡ x2.lines.lines
           → IsComb ns o waited drives (Ok b)
       comb-made right m2 x2 p b bn bl u f ds flat d w =
           let s = source_by u.name f o.flat.now in
@@ -197,7 +197,7 @@ module _ (o : Origin) (waited : List Part) (drives : List DriveRow) (ns : List N
 
 -- ---- once
 
-module _ (o : Origin) (drives : List DriveRow) (ns : List Node) where
+module _ (o : Origin) (drives : List DriveRow) (ns : List TermNode) where
   pub once-memory : (r : Result Body EmitFault) → IsErrAnd r (λ e. e ≡ fault.OutOfMemory) → IsOnce ns o drives r
   once-memory r h u f ds flat d = answers-err u _ r fault.OutOfMemory h tt
 
@@ -238,7 +238,7 @@ module _ (o : Origin) (drives : List DriveRow) (ns : List Node) where
               given = d.given;
             })))
 
-    pub once-made : OnceIsRight → (m2 : List Node) (x2 : Emitter) → PutsDrives ns o x drives m2 x2 → (b : Body) → b.names ≡ x2.lines.names → b.lines ≡ x2.lines.lines → IsOnce ns o drives (Ok b)
+    pub once-made : OnceIsRight → (m2 : List TermNode) (x2 : Emitter) → PutsDrives ns o x drives m2 x2 → (b : Body) → b.names ≡ x2.lines.names → b.lines ≡ x2.lines.lines → IsOnce ns o drives (Ok b)
     once-made right m2 x2 p b bn bl u f ds flat d =
         let s = source_by u.name f o.flat.now in
         let same = source-is u f o flat in
@@ -261,7 +261,7 @@ module _ (o : Origin) (drives : List DriveRow) (ns : List Node) where
 
 -- ---- registers
 
-module _ (o : Origin) (rows : List EdgeRow) (ns : List Node) where
+module _ (o : Origin) (rows : List EdgeRow) (ns : List TermNode) where
   pub edge-memory : (r : Result Body EmitFault) → IsErrAnd r (λ e. e ≡ fault.OutOfMemory) → IsEdge ns o rows r
   edge-memory r h u f rs flat d = answers-err u _ r fault.OutOfMemory h tt
 
@@ -302,7 +302,7 @@ module _ (o : Origin) (rows : List EdgeRow) (ns : List Node) where
               given = d.given;
             })))
 
-    pub edge-made : EdgeIsRight → (m2 : List Node) (x2 : Emitter) → PutsRegisters ns o x rows m2 x2 → (b : Body) → b.names ≡ x2.lines.names → b.lines ≡ x2.lines.lines → IsEdge ns o rows (Ok b)
+    pub edge-made : EdgeIsRight → (m2 : List TermNode) (x2 : Emitter) → PutsRegisters ns o x rows m2 x2 → (b : Body) → b.names ≡ x2.lines.names → b.lines ≡ x2.lines.lines → IsEdge ns o rows (Ok b)
     edge-made right m2 x2 p b bn bl u f rs flat d =
         let s = source_by u.name f o.flat.now in
         let same = source-is u f o flat in

@@ -15,7 +15,7 @@ use Rattle.lh_unit.specs.declared.inst.Inst.TheVariants as inst
 use Rattle.lh_unit.proofs.Lists.{Each-append}
 use Rattle.lh_term.specs.Arena.{Grows}
 use Rattle.lh_term.specs.declared.part.Part.{Part}
-use Rattle.lh_term.specs.declared.term.Node.{Node}
+use Rattle.lh_term.specs.declared.term.TermNode.{TermNode}
 use Rattle.lh_term.proofs.Swaps.{grows_on}
 use Rattle.lh_edge.specs.Triggers.{TriggerTree, EdgeRowTree}
 use Rattle.lh_edge.specs.Answers.{AreTriggers}
@@ -75,7 +75,7 @@ row-no r done g rest h = ap (λ b. b || (choices_fit r.value && (choices_fit r.d
 -- ---- the triggers of a row
 
 -- what is left of the triggers, and the entity so far
-pub record TriggersLeft (s : Source) (ms : List Node) (y : Emitter) (left : List Trigger) (ts : List RegTrigger) (row : EdgeRow) (r : EdgeRowTree) (e : Emitted) : Type 0 where
+pub record TriggersLeft (s : Source) (ms : List TermNode) (y : Emitter) (left : List Trigger) (ts : List RegTrigger) (row : EdgeRow) (r : EdgeRowTree) (e : Emitted) : Type 0 where
   pub now : Emitted
   pub done : List TriggerTree
   pub rest : List TriggerTree
@@ -88,12 +88,12 @@ pub record TriggersLeft (s : Source) (ms : List Node) (y : Emitter) (left : List
   pub tells : TellsTriggers y.lines.names now r done ts
   pub fits : Each (RegisterFits r) done
 
-pub record TriggersSoFar (o : Origin) (row : EdgeRow) (ns : List Node) (x : Emitter) (ms : List Node) (y : Emitter) (ts : List RegTrigger) (left : List Trigger) : Type 0 where
+pub record TriggersSoFar (o : Origin) (row : EdgeRow) (ns : List TermNode) (x : Emitter) (ms : List TermNode) (y : Emitter) (ts : List RegTrigger) (left : List Trigger) : Type 0 where
   pub grows : Grows ns ms
   pub some : CanPutRegister ns o x row
   pub each : (c : CanPutRegister ns o x row) → TriggersLeft (source_by c.name c.naming o.flat.now) ms y left ts row c.register c.emitted
 
-record FirstTrigger (s : Source) (ms : List Node) (y : Emitter) (g : Trigger) (left : List Trigger) (ts : List RegTrigger) (row : EdgeRow) (r : EdgeRowTree) (e : Emitted) : Type 0 where
+record FirstTrigger (s : Source) (ms : List TermNode) (y : Emitter) (g : Trigger) (left : List Trigger) (ts : List RegTrigger) (row : EdgeRow) (r : EdgeRowTree) (e : Emitted) : Type 0 where
   now : Emitted
   done : List TriggerTree
   first : TriggerTree
@@ -107,7 +107,7 @@ record FirstTrigger (s : Source) (ms : List Node) (y : Emitter) (g : Trigger) (l
   tells : TellsTriggers y.lines.names now r done ts
   fits : Each (RegisterFits r) done
 
-first-trigger : (s : Source) (ms : List Node) (y : Emitter) (g : Trigger) (left : List Trigger) (ts : List RegTrigger) (row : EdgeRow) (r : EdgeRowTree) (e : Emitted) →
+first-trigger : (s : Source) (ms : List TermNode) (y : Emitter) (g : Trigger) (left : List Trigger) (ts : List RegTrigger) (row : EdgeRow) (r : EdgeRowTree) (e : Emitted) →
     TriggersLeft s ms y (g ∷ left) ts row r e → FirstTrigger s ms y g left ts row r e
 first-trigger s ms y g left ts row r e l = by l.rest l.are l.given l.parts l.same
   where
@@ -116,7 +116,7 @@ first-trigger s ms y g left ts row r e l = by l.rest l.are l.given l.parts l.sam
     by [] a v p q = absurd a
     by (t ∷ more) a v p q = record { now = l.now; done = l.done; first = t; others = more; is = l.is; row_is = l.row_is; are = a; given = v; parts = p; same = q; tells = l.tells; fits = l.fits }
 
-triggers-done : (s : Source) (ms : List Node) (y : Emitter) (ts : List RegTrigger) (row : EdgeRow) (r : EdgeRowTree) (e : Emitted) → TriggersLeft s ms y [] ts row r e → AreTriggered ms s r e y ts
+triggers-done : (s : Source) (ms : List TermNode) (y : Emitter) (ts : List RegTrigger) (row : EdgeRow) (r : EdgeRowTree) (e : Emitted) → TriggersLeft s ms y [] ts row r e → AreTriggered ms s r e y ts
 triggers-done s ms y ts row r e l = by l.rest l.are l.parts l.same
   where
     by : (rest : List TriggerTree) → AreTriggers ms [] rest → l.done ++ rest ≡ r.triggers → fold (need_trigger s r) l.now rest ≡ fold (need_trigger s r) e r.triggers → AreTriggered ms s r e y ts
@@ -129,7 +129,7 @@ triggers-done s ms y ts row r e l = by l.rest l.are l.parts l.same
         }
     by (t ∷ more) a p q = absurd a
 
-module _ (o : Origin) (row : EdgeRow) (ns : List Node) (x : Emitter) where
+module _ (o : Origin) (row : EdgeRow) (ns : List TermNode) (x : Emitter) where
   pub triggers-begin : (ts : List RegTrigger) → ts ≡ [] → Grows ns ns → CanPutRegister ns o x row → TriggersSoFar o row ns x ns x ts row.triggers
   triggers-begin ts none g can = record {
     grows = g;
@@ -149,7 +149,7 @@ module _ (o : Origin) (row : EdgeRow) (ns : List Node) (x : Emitter) where
     };
   }
 
-  module _ (ms : List Node) (y : Emitter) (ts : List RegTrigger) (g : Trigger) (left all : List Trigger) (cut : all ≡ g ∷ left) (so : TriggersSoFar o row ns x ms y ts all) where
+  module _ (ms : List TermNode) (y : Emitter) (ts : List RegTrigger) (g : Trigger) (left all : List Trigger) (cut : all ≡ g ∷ left) (so : TriggersSoFar o row ns x ms y ts all) where
     first-of-all : (c : CanPutRegister ns o x row) → FirstTrigger (source_by c.name c.naming o.flat.now) ms y g left ts row c.register c.emitted
     first-of-all c =
         let s = source_by c.name c.naming o.flat.now in
@@ -175,7 +175,7 @@ module _ (o : Origin) (row : EdgeRow) (ns : List Node) (x : Emitter) where
     pub triggers-can : CanTrigger ms o y row g
     triggers-can = can-first so.some
 
-    pub triggers-next : (m2 : List Node) (y2 : Emitter) (t : RegTrigger) (us : List RegTrigger) → us ≡ ts ++ t ∷ [] → Grows ms m2 → NamesGrow y.lines.names y2.lines.names
+    pub triggers-next : (m2 : List TermNode) (y2 : Emitter) (t : RegTrigger) (us : List RegTrigger) → us ≡ ts ++ t ∷ [] → Grows ms m2 → NamesGrow y.lines.names y2.lines.names
         → NeedsTrigger ms o y row g m2 y2 t →
         TriggersSoFar o row ns x m2 y2 us left
     triggers-next m2 y2 t us added h k n = record {
@@ -244,19 +244,19 @@ module _ (o : Origin) (row : EdgeRow) (ns : List Node) (x : Emitter) where
             ap (λ (e : Emitted). length e.lines) l.same in
             inr (omega (arith, k, w, z))
 
-  pub triggers-end : (ms : List Node) (y : Emitter) (ts : List RegTrigger) (all : List Trigger) → all ≡ [] → TriggersSoFar o row ns x ms y ts all → NeedsTriggers ns o x row ms y ts
+  pub triggers-end : (ms : List TermNode) (y : Emitter) (ts : List RegTrigger) (all : List Trigger) → all ≡ [] → TriggersSoFar o row ns x ms y ts all → NeedsTriggers ns o x row ms y ts
   triggers-end ms y ts all cut so c =
       let s = source_by c.name c.naming o.flat.now in
       triggers-done s ms y ts row c.register c.emitted (subst (λ (l : List Trigger). TriggersLeft s ms y l ts row c.register c.emitted) cut (so.each c))
 
 -- ---- the register of a row
 
-no-triggers : (ns : List Node) (ts : List Trigger) (gs : List TriggerTree) → length ts ≡ 0 → AreTriggers ns ts gs → gs ≡ []
+no-triggers : (ns : List TermNode) (ts : List Trigger) (gs : List TriggerTree) → length ts ≡ 0 → AreTriggers ns ts gs → gs ≡ []
 no-triggers ns [] [] q h = refl
 no-triggers ns [] (g ∷ gs) q h = absurd h
 no-triggers ns (t ∷ ts) gs q h = absurd (omega (arith, q))
 
-with-register : (ns : List Node) (s : Source) (r : EdgeRowTree) (e : Emitted) (ts : List Trigger) → (length ts ≡ 0 → ⊥) → AreTriggers ns ts r.triggers
+with-register : (ns : List TermNode) (s : Source) (r : EdgeRowTree) (e : Emitted) (ts : List Trigger) → (length ts ≡ 0 → ⊥) → AreTriggers ns ts r.triggers
     → put_register r (need_register s r e) ≡ emit_register s e r
 with-register ns s r e ts some h = by r.triggers refl ts some h
   where
@@ -265,7 +265,7 @@ with-register ns s r e ts some h = by r.triggers refl ts some h
     by [] q (t ∷ ts) some h = absurd h
     by (g ∷ gs) q ts some h = sym (ap (λ (l : List TriggerTree). emit_register_by s r l e) q)
 
-module _ (o : Origin) (row : EdgeRow) (ns : List Node) (x : Emitter) where
+module _ (o : Origin) (row : EdgeRow) (ns : List TermNode) (x : Emitter) where
   pub none-registered : length row.triggers ≡ 0 → PutsRegister ns o x row ns x
   none-registered q c =
       let s = source_by c.name c.naming o.flat.now in
@@ -302,7 +302,7 @@ module _ (o : Origin) (row : EdgeRow) (ns : List Node) (x : Emitter) where
             let z = fold (need_trigger s c.register) c.emitted c.register.triggers in
             inr (reg-longer s c.register c.emitted z (registers c s) (part-extends s c.register.part z).longer w)
 
-    module _ (m1 : List Node) (x1 : Emitter) (ts : List RegTrigger) (g1 : Grows ns m1) (n1 : NeedsTriggers ns o x row m1 x1 ts) where
+    module _ (m1 : List TermNode) (x1 : Emitter) (ts : List RegTrigger) (g1 : Grows ns m1) (n1 : NeedsTriggers ns o x row m1 x1 ts) where
       pub reg-can-part : CanPutRegister ns o x row → CanReach m1 o x1 row.part
       reg-can-part c =
           let s = source_by c.name c.naming o.flat.now in
@@ -382,7 +382,7 @@ module _ (o : Origin) (row : EdgeRow) (ns : List Node) (x : Emitter) where
 
 -- ---- rows of registers
 
-pub record RegistersLeft (s : Source) (ms : List Node) (y : Emitter) (left : List EdgeRow) (rs : List EdgeRowTree) (e : Emitted) : Type 0 where
+pub record RegistersLeft (s : Source) (ms : List TermNode) (y : Emitter) (left : List EdgeRow) (rs : List EdgeRowTree) (e : Emitted) : Type 0 where
   pub now : Emitted
   pub rest : List EdgeRowTree
   pub is : IsEmitted ms s y now
@@ -391,12 +391,12 @@ pub record RegistersLeft (s : Source) (ms : List Node) (y : Emitter) (left : Lis
   pub same : fold (emit_register s) now rest ≡ fold (emit_register s) e rs
   pub fits : list_all row_fits rest ≡ list_all row_fits rs
 
-pub record RegistersSoFar (o : Origin) (rows : List EdgeRow) (ns : List Node) (x : Emitter) (ms : List Node) (y : Emitter) (left : List EdgeRow) : Type 0 where
+pub record RegistersSoFar (o : Origin) (rows : List EdgeRow) (ns : List TermNode) (x : Emitter) (ms : List TermNode) (y : Emitter) (left : List EdgeRow) : Type 0 where
   pub grows : Grows ns ms
   pub some : CanPutRegisters ns o x rows
   pub each : (c : CanPutRegisters ns o x rows) → RegistersLeft (source_by c.name c.naming o.flat.now) ms y left c.registers c.emitted
 
-record FirstRegister (s : Source) (ms : List Node) (y : Emitter) (row : EdgeRow) (left : List EdgeRow) (rs : List EdgeRowTree) (e : Emitted) : Type 0 where
+record FirstRegister (s : Source) (ms : List TermNode) (y : Emitter) (row : EdgeRow) (left : List EdgeRow) (rs : List EdgeRowTree) (e : Emitted) : Type 0 where
   now : Emitted
   first : EdgeRowTree
   others : List EdgeRowTree
@@ -406,7 +406,7 @@ record FirstRegister (s : Source) (ms : List Node) (y : Emitter) (row : EdgeRow)
   same : fold (emit_register s) (emit_register s now first) others ≡ fold (emit_register s) e rs
   fits : (row_fits first && list_all row_fits others) ≡ list_all row_fits rs
 
-first-register : (s : Source) (ms : List Node) (y : Emitter) (row : EdgeRow) (left : List EdgeRow) (rs : List EdgeRowTree) (e : Emitted) → RegistersLeft s ms y (row ∷ left) rs e
+first-register : (s : Source) (ms : List TermNode) (y : Emitter) (row : EdgeRow) (left : List EdgeRow) (rs : List EdgeRowTree) (e : Emitted) → RegistersLeft s ms y (row ∷ left) rs e
     → FirstRegister s ms y row left rs e
 first-register s ms y row left rs e l = by l.rest l.are l.given l.same l.fits
   where
@@ -415,7 +415,7 @@ first-register s ms y row left rs e l = by l.rest l.are l.given l.same l.fits
     by [] a g q f = absurd a
     by (d ∷ more) a g q f = record { now = l.now; first = d; others = more; is = l.is; are = a; given = g; same = q; fits = f }
 
-registers-done : (s : Source) (ms : List Node) (y : Emitter) (rs : List EdgeRowTree) (e : Emitted) → RegistersLeft s ms y [] rs e → AreRegistered ms s rs e y
+registers-done : (s : Source) (ms : List TermNode) (y : Emitter) (rs : List EdgeRowTree) (e : Emitted) → RegistersLeft s ms y [] rs e → AreRegistered ms s rs e y
 registers-done s ms y rs e l = by l.rest l.are l.same l.fits
   where
     by : (rest : List EdgeRowTree) → AreEdgeRows ms [] rest → fold (emit_register s) l.now rest ≡ fold (emit_register s) e rs → list_all row_fits rest ≡ list_all row_fits rs
@@ -423,7 +423,7 @@ registers-done s ms y rs e l = by l.rest l.are l.same l.fits
     by [] a q f = record { is = subst (IsEmitted ms s y) q l.is; fits = sym f }
     by (d ∷ more) a q f = absurd a
 
-module _ (o : Origin) (rows : List EdgeRow) (ns : List Node) (x : Emitter) where
+module _ (o : Origin) (rows : List EdgeRow) (ns : List TermNode) (x : Emitter) where
   pub registers-begin : Grows ns ns → CanPutRegisters ns o x rows → RegistersSoFar o rows ns x ns x rows
   registers-begin g can = record {
     grows = g;
@@ -431,7 +431,7 @@ module _ (o : Origin) (rows : List EdgeRow) (ns : List Node) (x : Emitter) where
     each = λ c. record { now = c.emitted; rest = c.registers; is = c.is; are = c.are; given = c.given; same = refl; fits = refl };
   }
 
-  module _ (ms : List Node) (y : Emitter) (row : EdgeRow) (left all : List EdgeRow) (cut : all ≡ row ∷ left) (so : RegistersSoFar o rows ns x ms y all) where
+  module _ (ms : List TermNode) (y : Emitter) (row : EdgeRow) (left all : List EdgeRow) (cut : all ≡ row ∷ left) (so : RegistersSoFar o rows ns x ms y all) where
     first-of-rows : (c : CanPutRegisters ns o x rows) → FirstRegister (source_by c.name c.naming o.flat.now) ms y row left c.registers c.emitted
     first-of-rows c =
         let s = source_by c.name c.naming o.flat.now in
@@ -445,7 +445,7 @@ module _ (o : Origin) (rows : List EdgeRow) (ns : List Node) (x : Emitter) where
     pub registers-can : CanPutRegister ms o y row
     registers-can = can-first-row so.some
 
-    pub registers-next : (m2 : List Node) (y2 : Emitter) → Grows ms m2 → PutsRegister ms o y row m2 y2 → RegistersSoFar o rows ns x m2 y2 left
+    pub registers-next : (m2 : List TermNode) (y2 : Emitter) → Grows ms m2 → PutsRegister ms o y row m2 y2 → RegistersSoFar o rows ns x m2 y2 left
     registers-next m2 y2 g p = record {
       grows = grows_on ns ms m2 so.grows g;
       some = so.some;
@@ -480,7 +480,7 @@ module _ (o : Origin) (rows : List EdgeRow) (ns : List Node) (x : Emitter) where
             ap (λ (e : Emitted). length e.lines) l.same in
             inr (omega (arith, k, w, z))
 
-  pub registers-end : (ms : List Node) (y : Emitter) (all : List EdgeRow) → all ≡ [] → RegistersSoFar o rows ns x ms y all → PutsRegisters ns o x rows ms y
+  pub registers-end : (ms : List TermNode) (y : Emitter) (all : List EdgeRow) → all ≡ [] → RegistersSoFar o rows ns x ms y all → PutsRegisters ns o x rows ms y
   registers-end ms y all cut so c =
       let s = source_by c.name c.naming o.flat.now in
       registers-done s ms y c.registers c.emitted (subst (λ (l : List EdgeRow). RegistersLeft s ms y l c.registers c.emitted) cut (so.each c))

@@ -9,7 +9,7 @@ use Rattle.lh_unit.specs.declared.inst.ValueId.{ValueId}
 use Rattle.lh_unit.specs.declared.inst.RegTrigger.{RegTrigger}
 use Rattle.lh_term.specs.Tree.{Tree, now_of}
 use Rattle.lh_term.specs.Make.{is_bit}
-use Rattle.lh_term.specs.declared.term.Node.{Node}
+use Rattle.lh_term.specs.declared.term.TermNode.{TermNode}
 use Rattle.lh_edge.specs.Triggers.{TriggerTree, EdgeRowTree}
 use Rattle.lh_emit_def.specs.Emitted.{Source, Emitted, term_name}
 use Rattle.lh_emit_def.specs.Needs.{need}
@@ -36,7 +36,7 @@ names-same a = ([], sym (by a))
 
 -- ---- one term
 
-pub tells-needed : (ms : List Node) (s : Source) (t : Tree) (e : Emitted) (y : Emitter) (v : ValueId) → IsNeeded ms s t e y v → IsIdOfTerm y.lines.names (need s t e) t v
+pub tells-needed : (ms : List TermNode) (s : Source) (t : Tree) (e : Emitted) (y : Emitter) (v : ValueId) → IsNeeded ms s t e y v → IsIdOfTerm y.lines.names (need s t e) t v
 tells-needed ms s t e y v n = let k = need-named s t e in record { name = n.name; within = n.within; named = (k.name, k.is) }
 
 module _ (old new : List (List ℕ)) (e x : Emitted) (g : NamesGrow old new) (k : Extends e x) where
@@ -76,7 +76,7 @@ module _ (old new : List (List ℕ)) (e x : Emitted) (g : NamesGrow old new) (k 
 
 -- ---- a condition
 
-pub tells-tested : (ms : List Node) (s : Source) (c : Tree) (e : Emitted) (y : Emitter) (v : Option ValueId) → IsTested ms s c e y v → TellsCond y.lines.names (need_cond s c e) c v
+pub tells-tested : (ms : List TermNode) (s : Source) (c : Tree) (e : Emitted) (y : Emitter) (v : Option ValueId) → IsTested ms s c e y v → TellsCond y.lines.names (need_cond s c e) c v
 tells-tested ms s c e y v n = by (is_bit 1 c) refl v n.name n.within
   where
     by : (b : Bool) → is_bit 1 c ≡ b → (v : Option ValueId) → maybe_text (naming y.lines.names) v ≡ cond_name (need_cond s c e) c → MaybeWithin (values_alone (length y.lines.names)) v →

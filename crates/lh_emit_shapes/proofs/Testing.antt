@@ -9,7 +9,7 @@ use Rattle.lh_term.specs.Tree.{Tree, constant, past_of, now_of, operation, choic
 use Rattle.lh_term.specs.Make.{is_bit}
 use Rattle.lh_term.specs.Arena.{trees, tree_at}
 use Rattle.lh_term.specs.declared.term.TermId.{TermId}
-use Rattle.lh_term.specs.declared.term.Node.{Node}
+use Rattle.lh_term.specs.declared.term.TermNode.{TermNode}
 use Rattle.lh_emit_def.specs.Emitted.{Emitted}
 use Rattle.lh_emit_def.specs.Needs.{need}
 use Rattle.lh_emit_def.specs.Entities.{max_lines, need_cond, choices_fit}
@@ -38,7 +38,7 @@ one-fits (now_of p) h = refl
 one-fits (operation op ts) h = absurd cc
 one-fits (choice_of c f t) h = absurd cc
 
-module _ (ns : List Node) (o : Origin) (x : Emitter) (t : TermId) where
+module _ (ns : List TermNode) (o : Origin) (x : Emitter) (t : TermId) where
   abbrev tree : Tree
   tree = tree_at (trees ns) t
 
@@ -50,7 +50,7 @@ module _ (ns : List Node) (o : Origin) (x : Emitter) (t : TermId) where
     fits = one-fits tree q;
   }
 
-  pub tests-term : (ms : List Node) (y : Emitter) (v : ValueId) → is_bit 1 (tree_at (trees ns) t) ≡ false → NeedsTerm ns o x t ms y v → TestsTerm ns o x t ms y (Some v)
+  pub tests-term : (ms : List TermNode) (y : Emitter) (v : ValueId) → is_bit 1 (tree_at (trees ns) t) ≡ false → NeedsTerm ns o x t ms y v → TestsTerm ns o x t ms y (Some v)
   tests-term ms y v q n name f e origin is given =
       let k = n name f e origin is given in
       record {
@@ -72,13 +72,13 @@ module _ (ns : List Node) (o : Origin) (x : Emitter) (t : TermId) where
     pub is-given : IsGiven (source_by name f o.flat.now) (tree_at (trees ns) t)
     is-given = subst (IsGiven (source_by name f o.flat.now)) (sym stands) given
 
-    pub needed-at : (ms : List Node) (y : Emitter) (v : ValueId) → NeedsTerm ns o x t ms y v → IsNeeded ms (source_by name f o.flat.now) a e y v
+    pub needed-at : (ms : List TermNode) (y : Emitter) (v : ValueId) → NeedsTerm ns o x t ms y v → IsNeeded ms (source_by name f o.flat.now) a e y v
     needed-at ms y v n = subst (λ (z : Tree). IsNeeded ms (source_by name f o.flat.now) z e y v) stands (n name f e origin is is-given)
 
     pub not-needed-at : NeedsNot ns o x t fault.EntityTooLarge → IsTooLarge (source_by name f o.flat.now) a e
     not-needed-at n = subst (λ (z : Tree). IsTooLarge (source_by name f o.flat.now) z e) stands (n name f e origin is is-given)
 
-    pub tested-at : (ms : List Node) (y : Emitter) (v : Option ValueId) → TestsTerm ns o x t ms y v → IsTested ms (source_by name f o.flat.now) a e y v
+    pub tested-at : (ms : List TermNode) (y : Emitter) (v : Option ValueId) → TestsTerm ns o x t ms y v → IsTested ms (source_by name f o.flat.now) a e y v
     tested-at ms y v n = subst (λ (z : Tree). IsTested ms (source_by name f o.flat.now) z e y v) stands (n name f e origin is is-given)
 
     pub not-tested-at : TestsTermNot ns o x t fault.EntityTooLarge → (choices_fit a ≡ false) ⊎ (max_lines < length (need_cond (source_by name f o.flat.now) a e).lines)

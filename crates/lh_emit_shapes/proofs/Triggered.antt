@@ -5,7 +5,7 @@ use Rattle.lh_unit.specs.declared.inst.Mode.{Mode}
 use Rattle.lh_term.specs.Tree.{now_of}
 use Rattle.lh_term.specs.Arena.{Grows}
 use Rattle.lh_term.specs.declared.part.Part.{Part}
-use Rattle.lh_term.specs.declared.term.Node.{Node}
+use Rattle.lh_term.specs.declared.term.TermNode.{TermNode}
 use Rattle.lh_edge.specs.Triggers.{TriggerTree, EdgeRowTree}
 use Rattle.lh_edge.specs.declared.triggers.Trigger.{Trigger}
 use Rattle.lh_edge.specs.declared.triggers.EdgeRow.{EdgeRow}
@@ -70,7 +70,7 @@ module _ (s : Source) (r : EdgeRowTree) (g : TriggerTree) (e : Emitted) where
 
 -- ---- the calls
 
-module _ (o : Origin) (row : EdgeRow) (g : Trigger) (ns : List Node) (x : Emitter) where
+module _ (o : Origin) (row : EdgeRow) (g : Trigger) (ns : List TermNode) (x : Emitter) where
   pub can-value : CanTrigger ns o x row g → CanNeed ns o x row.value
   can-value c = record {
     name = c.name;
@@ -120,7 +120,7 @@ module _ (o : Origin) (row : EdgeRow) (g : Trigger) (ns : List Node) (x : Emitte
       value-large (source_by c.name c.naming o.flat.now) c.register c.trigger c.emitted
       (not-needed-at ns o x row.value c.name c.naming c.emitted c.origin c.is c.register.value c.are.value.tree c.given.value h)
 
-  module _ (m1 : List Node) (x1 : Emitter) (v1 : ValueId) (g1 : Grows ns m1) (n1 : NeedsTerm ns o x row.value m1 x1 v1) where
+  module _ (m1 : List TermNode) (x1 : Emitter) (v1 : ValueId) (g1 : Grows ns m1) (n1 : NeedsTerm ns o x row.value m1 x1 v1) where
     pub value-is : (c : CanTrigger ns o x row g) → IsNeeded m1 (source_by c.name c.naming o.flat.now) c.register.value c.emitted x1 v1
     value-is c = needed-at ns o x row.value c.name c.naming c.emitted c.origin c.is c.register.value c.are.value.tree c.given.value m1 x1 v1 n1
 
@@ -151,7 +151,7 @@ module _ (o : Origin) (row : EdgeRow) (g : Trigger) (ns : List Node) (x : Emitte
         can-now-given : (c : CanTrigger ns o x row g) → WaitIsGiven (source_by c.name c.naming o.flat.now) g.part
         can-now-given c = subst (WaitIsGiven (source_by c.name c.naming o.flat.now)) (sym c.trigger_is.part) (record { is_data = c.trigger_given.is_data; part = c.trigger_given.part })
 
-    module _ (m2 : List Node) (x2 : Emitter) (v2 : ValueId) (g2 : Grows m1 m2) (n2 : NeedsNow m1 o x1 g.part m2 x2 v2) where
+    module _ (m2 : List TermNode) (x2 : Emitter) (v2 : ValueId) (g2 : Grows m1 m2) (n2 : NeedsNow m1 o x1 g.part m2 x2 v2) where
       pub now-is : (c : CanTrigger ns o x row g) →
           IsNeeded m2 (source_by c.name c.naming o.flat.now) (now_of c.trigger.part) (need (source_by c.name c.naming o.flat.now) c.register.value c.emitted) x2 v2
       now-is c =
@@ -182,7 +182,7 @@ module _ (o : Origin) (row : EdgeRow) (g : Trigger) (ns : List Node) (x : Emitte
           gate-large (source_by c.name c.naming o.flat.now) c.register c.trigger c.emitted
           (not-tested-at m2 o x2 g.gate b.name b.naming b.emitted b.origin b.is b.trigger.gate b.trigger_is.gate.tree b.trigger_given.gate h)
 
-      module _ (m3 : List Node) (x3 : Emitter) (v3 : Option ValueId) (g3 : Grows m2 m3) (n3 : TestsTerm m2 o x2 g.gate m3 x3 v3) where
+      module _ (m3 : List TermNode) (x3 : Emitter) (v3 : Option ValueId) (g3 : Grows m2 m3) (n3 : TestsTerm m2 o x2 g.gate m3 x3 v3) where
         pub gate-is : (c : CanTrigger ns o x row g) →
             IsTested m3 (source_by c.name c.naming o.flat.now) c.trigger.gate (two (source_by c.name c.naming o.flat.now) c.register c.trigger c.emitted) x3 v3
         gate-is c = let b = after-now c in tested-at m2 o x2 g.gate b.name b.naming b.emitted b.origin b.is b.trigger.gate b.trigger_is.gate.tree b.trigger_given.gate m3 x3 v3 n3
@@ -209,7 +209,7 @@ module _ (o : Origin) (row : EdgeRow) (g : Trigger) (ns : List Node) (x : Emitte
             delay-large (source_by c.name c.naming o.flat.now) c.register c.trigger c.emitted
             (not-needed-at m3 o x3 row.delay b.name b.naming b.emitted b.origin b.is b.register.delay b.are.delay.tree b.given.delay h)
 
-        module _ (m4 : List Node) (x4 : Emitter) (v4 : ValueId) (n4 : NeedsTerm m3 o x3 row.delay m4 x4 v4)
+        module _ (m4 : List TermNode) (x4 : Emitter) (v4 : ValueId) (n4 : NeedsTerm m3 o x3 row.delay m4 x4 v4)
             (l2 : NamesGrow x1.lines.names x2.lines.names) (l3 : NamesGrow x2.lines.names x3.lines.names) (l4 : NamesGrow x3.lines.names x4.lines.names) where
           pub needs-trigger : (mode : Mode) → mode ≡ mode_of g.rise → NeedsTrigger ns o x row g m4 x4 (record { value = v1; mode = mode; trigger = v2; gate = v3; after = Some v4 })
           needs-trigger mode is_mode c =

@@ -7,7 +7,7 @@ use Rattle.lh_unit.specs.Within.{Each}
 use Rattle.lh_flat.specs.Flat.{flat_unit}
 use Rattle.lh_flat.specs.Reads.{flat_text}
 use Rattle.lh_term.specs.declared.part.Part.{Part}
-use Rattle.lh_term.specs.declared.term.Node.{Node}
+use Rattle.lh_term.specs.declared.term.TermNode.{TermNode}
 use Rattle.lh_edge.specs.Triggers.{EdgeRowTree}
 use Rattle.lh_edge.specs.declared.triggers.EdgeRow.{EdgeRow}
 use Rattle.lh_region_def.specs.Rows.{Drive}
@@ -43,11 +43,11 @@ steps_of u f o = steps_in (flat_unit u.name (flat_text f o.flat.now))
 -- ---- drives
 
 -- drives by ids are these, whose parts are reached and whose terms are typed
-pub record DrivesGiven (ns : List Node) (u : UnitText) (f : Naming) (o : Origin) (drives : List DriveRow) (ds : List Drive) : Type 0 where
+pub record DrivesGiven (ns : List TermNode) (u : UnitText) (f : Naming) (o : Origin) (drives : List DriveRow) (ds : List Drive) : Type 0 where
   pub are : AreDrives ns drives ds
   pub given : Each (DriveIsGiven (source_by u.name f o.flat.now)) ds
 
-pub record CanDrive (ns : List Node) (o : Origin) (waited : List Part) (drives : List DriveRow) : Type 0 where
+pub record CanDrive (ns : List TermNode) (o : Origin) (waited : List Part) (drives : List DriveRow) : Type 0 where
   pub unit : UnitText
   pub naming : Naming
   pub flat : IsFlatOf unit naming o
@@ -56,23 +56,23 @@ pub record CanDrive (ns : List Node) (o : Origin) (waited : List Part) (drives :
   pub waits_given : Each (WaitIsGiven (source_by unit.name naming o.flat.now)) waited
 
 -- The body is that of the combinational entity.
-abbrev pub IsComb : List Node → Origin → List Part → List DriveRow → Result Body EmitFault → Type 0
+abbrev pub IsComb : List TermNode → Origin → List Part → List DriveRow → Result Body EmitFault → Type 0
 IsComb ns o waited drives answer =
     (u : UnitText) (f : Naming) (ds : List Drive) → IsFlatOf u f o → DrivesGiven ns u f o drives ds → Each (WaitIsGiven (source_by u.name f o.flat.now)) waited
     → BodyOrTooLarge u (comb_emission u (steps_of u f o) waited ds) answer
 
 -- The body is that of the entity that runs once.
-abbrev pub IsOnce : List Node → Origin → List DriveRow → Result Body EmitFault → Type 0
+abbrev pub IsOnce : List TermNode → Origin → List DriveRow → Result Body EmitFault → Type 0
 IsOnce ns o drives answer = (u : UnitText) (f : Naming) (ds : List Drive) → IsFlatOf u f o → DrivesGiven ns u f o drives ds → BodyOrTooLarge u (once_emission u (steps_of u f o) ds) answer
 
 -- ---- registers
 
 -- rows of registers by ids are these, whose parts are reached and whose terms are typed
-pub record RowsGiven (ns : List Node) (u : UnitText) (f : Naming) (o : Origin) (rows : List EdgeRow) (rs : List EdgeRowTree) : Type 0 where
+pub record RowsGiven (ns : List TermNode) (u : UnitText) (f : Naming) (o : Origin) (rows : List EdgeRow) (rs : List EdgeRowTree) : Type 0 where
   pub are : AreEdgeRows ns rows rs
   pub given : Each (RowIsGiven (source_by u.name f o.flat.now)) rs
 
-pub record CanRegister (ns : List Node) (o : Origin) (rows : List EdgeRow) : Type 0 where
+pub record CanRegister (ns : List TermNode) (o : Origin) (rows : List EdgeRow) : Type 0 where
   pub unit : UnitText
   pub naming : Naming
   pub flat : IsFlatOf unit naming o
@@ -80,5 +80,5 @@ pub record CanRegister (ns : List Node) (o : Origin) (rows : List EdgeRow) : Typ
   pub rows_given : RowsGiven ns unit naming o rows texts
 
 -- The body is that of the entity of registers.
-abbrev pub IsEdge : List Node → Origin → List EdgeRow → Result Body EmitFault → Type 0
+abbrev pub IsEdge : List TermNode → Origin → List EdgeRow → Result Body EmitFault → Type 0
 IsEdge ns o rows answer = (u : UnitText) (f : Naming) (rs : List EdgeRowTree) → IsFlatOf u f o → RowsGiven ns u f o rows rs → BodyOrTooLarge u (edge_emission u (steps_of u f o) rs) answer

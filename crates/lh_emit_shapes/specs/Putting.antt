@@ -12,7 +12,7 @@ use Rattle.lh_term.specs.Make.{is_bit}
 use Rattle.lh_term.specs.Arena.{trees, tree_at}
 use Rattle.lh_term.specs.declared.part.Part.{Part}
 use Rattle.lh_term.specs.declared.term.TermId.{TermId}
-use Rattle.lh_term.specs.declared.term.Node.{Node}
+use Rattle.lh_term.specs.declared.term.TermNode.{TermNode}
 use Rattle.lh_edge.specs.Triggers.{TriggerTree, EdgeRowTree}
 use Rattle.lh_edge.specs.Answers.{IsTrigger}
 use Rattle.lh_edge.specs.declared.triggers.Trigger.{Trigger}
@@ -36,18 +36,18 @@ use Rattle.lh_emit_body.specs.declared.lines.EmitFault.TheVariants as fault
 -- ---- conditions
 
 -- the entity after need of a condition, whose value is this; none where it is the constant 1
-pub record IsTested (ms : List Node) (s : Source) (c : Tree) (e : Emitted) (y : Emitter) (v : Option ValueId) : Type 0 where
+pub record IsTested (ms : List TermNode) (s : Source) (c : Tree) (e : Emitted) (y : Emitter) (v : Option ValueId) : Type 0 where
   pub is : IsEmitted ms s y (need_cond s c e)
   pub name : maybe_text (naming y.lines.names) v ≡ cond_name (need_cond s c e) c
   pub within : MaybeWithin (values_alone (length y.lines.names)) v
   pub fits : choices_fit c ≡ true
 
-abbrev pub TestsTerm : List Node → Origin → Emitter → TermId → List Node → Emitter → Option ValueId → Type 0
+abbrev pub TestsTerm : List TermNode → Origin → Emitter → TermId → List TermNode → Emitter → Option ValueId → Type 0
 TestsTerm ns o x t ms y v =
     (name : UnitName) (f : Naming) (e : Emitted) → IsOrigin f o → IsEmitted ns (source_by name f o.flat.now) x e → IsGiven (source_by name f o.flat.now) (tree_at (trees ns) t) →
     IsTested ms (source_by name f o.flat.now) (tree_at (trees ns) t) e y v
 
-abbrev pub TestsTermNot : List Node → Origin → Emitter → TermId → EmitFault → Type 0
+abbrev pub TestsTermNot : List TermNode → Origin → Emitter → TermId → EmitFault → Type 0
 TestsTermNot ns o x t fault.OutOfMemory = Unit {0}
 TestsTermNot ns o x t fault.EntityTooLarge =
     (name : UnitName) (f : Naming) (e : Emitted) → IsOrigin f o → IsEmitted ns (source_by name f o.flat.now) x e → IsGiven (source_by name f o.flat.now) (tree_at (trees ns) t) →
@@ -56,7 +56,7 @@ TestsTermNot ns o x t fault.EntityTooLarge =
 -- ---- drives
 
 -- some entity underway, to which a drive is put
-pub record CanPutDrive (ns : List Node) (o : Origin) (x : Emitter) (row : DriveRow) : Type 0 where
+pub record CanPutDrive (ns : List TermNode) (o : Origin) (x : Emitter) (row : DriveRow) : Type 0 where
   pub name : UnitName
   pub naming : Naming
   pub emitted : Emitted
@@ -67,23 +67,23 @@ pub record CanPutDrive (ns : List Node) (o : Origin) (x : Emitter) (row : DriveR
   pub given : DriveIsGiven (source_by name naming o.flat.now) drive
 
 -- the entity with the drive
-pub record IsDriven (ms : List Node) (s : Source) (d : Drive) (e : Emitted) (y : Emitter) : Type 0 where
+pub record IsDriven (ms : List TermNode) (s : Source) (d : Drive) (e : Emitted) (y : Emitter) : Type 0 where
   pub is : IsEmitted ms s y (emit_drive s e d)
   pub fits : drive_fits d ≡ true
 
-abbrev pub PutsDrive : List Node → Origin → Emitter → DriveRow → List Node → Emitter → Type 0
+abbrev pub PutsDrive : List TermNode → Origin → Emitter → DriveRow → List TermNode → Emitter → Type 0
 PutsDrive ns o x row ms y = (c : CanPutDrive ns o x row) → IsDriven ms (source_by c.name c.naming o.flat.now) c.drive c.emitted y
 
 -- a choice of the drive has an array that is no type, or the entity would be too long
 abbrev pub DriveTooLarge : Source → Drive → Emitted → Type 0
 DriveTooLarge s d e = (drive_fits d ≡ false) ⊎ (max_lines < length (emit_drive s e d).lines)
 
-abbrev pub PutsDriveNot : List Node → Origin → Emitter → DriveRow → EmitFault → Type 0
+abbrev pub PutsDriveNot : List TermNode → Origin → Emitter → DriveRow → EmitFault → Type 0
 PutsDriveNot ns o x row fault.OutOfMemory = Unit {0}
 PutsDriveNot ns o x row fault.EntityTooLarge = (c : CanPutDrive ns o x row) → DriveTooLarge (source_by c.name c.naming o.flat.now) c.drive c.emitted
 
 -- so for drives one after the other
-pub record CanPutDrives (ns : List Node) (o : Origin) (x : Emitter) (rows : List DriveRow) : Type 0 where
+pub record CanPutDrives (ns : List TermNode) (o : Origin) (x : Emitter) (rows : List DriveRow) : Type 0 where
   pub name : UnitName
   pub naming : Naming
   pub emitted : Emitted
@@ -93,21 +93,21 @@ pub record CanPutDrives (ns : List Node) (o : Origin) (x : Emitter) (rows : List
   pub are : AreDrives ns rows drives
   pub given : Each (DriveIsGiven (source_by name naming o.flat.now)) drives
 
-pub record AreDriven (ms : List Node) (s : Source) (ds : List Drive) (e : Emitted) (y : Emitter) : Type 0 where
+pub record AreDriven (ms : List TermNode) (s : Source) (ds : List Drive) (e : Emitted) (y : Emitter) : Type 0 where
   pub is : IsEmitted ms s y (emit_drives s ds e)
   pub fits : list_all drive_fits ds ≡ true
 
-abbrev pub PutsDrives : List Node → Origin → Emitter → List DriveRow → List Node → Emitter → Type 0
+abbrev pub PutsDrives : List TermNode → Origin → Emitter → List DriveRow → List TermNode → Emitter → Type 0
 PutsDrives ns o x rows ms y = (c : CanPutDrives ns o x rows) → AreDriven ms (source_by c.name c.naming o.flat.now) c.drives c.emitted y
 
-abbrev pub PutsDrivesNot : List Node → Origin → Emitter → List DriveRow → EmitFault → Type 0
+abbrev pub PutsDrivesNot : List TermNode → Origin → Emitter → List DriveRow → EmitFault → Type 0
 PutsDrivesNot ns o x rows fault.OutOfMemory = Unit {0}
 PutsDrivesNot ns o x rows fault.EntityTooLarge =
     (c : CanPutDrives ns o x rows) → (list_all drive_fits c.drives ≡ false) ⊎ (max_lines < length (emit_drives (source_by c.name c.naming o.flat.now) c.drives c.emitted).lines)
 
 -- ---- the present values of parts
 
-pub record CanPutProbes (ns : List Node) (o : Origin) (x : Emitter) (ps : List Part) : Type 0 where
+pub record CanPutProbes (ns : List TermNode) (o : Origin) (x : Emitter) (ps : List Part) : Type 0 where
   pub name : UnitName
   pub naming : Naming
   pub emitted : Emitted
@@ -115,11 +115,11 @@ pub record CanPutProbes (ns : List Node) (o : Origin) (x : Emitter) (ps : List P
   pub is : IsEmitted ns (source_by name naming o.flat.now) x emitted
   pub given : Each (WaitIsGiven (source_by name naming o.flat.now)) ps
 
-abbrev pub PutsProbes : List Node → Origin → Emitter → List Part → List Node → Emitter → Type 0
+abbrev pub PutsProbes : List TermNode → Origin → Emitter → List Part → List TermNode → Emitter → Type 0
 PutsProbes ns o x ps ms y =
     (c : CanPutProbes ns o x ps) → IsEmitted ms (source_by c.name c.naming o.flat.now) y (emit_probes (source_by c.name c.naming o.flat.now) ps c.emitted)
 
-abbrev pub PutsProbesNot : List Node → Origin → Emitter → List Part → EmitFault → Type 0
+abbrev pub PutsProbesNot : List TermNode → Origin → Emitter → List Part → EmitFault → Type 0
 PutsProbesNot ns o x ps fault.OutOfMemory = Unit {0}
 PutsProbesNot ns o x ps fault.EntityTooLarge =
     (c : CanPutProbes ns o x ps) → max_lines < length (emit_probes (source_by c.name c.naming o.flat.now) ps c.emitted).lines
@@ -127,7 +127,7 @@ PutsProbesNot ns o x ps fault.EntityTooLarge =
 -- ---- triggers of registers
 
 -- some entity underway, for which a trigger of a row of registers is needed
-pub record CanTrigger (ns : List Node) (o : Origin) (x : Emitter) (row : EdgeRow) (g : Trigger) : Type 0 where
+pub record CanTrigger (ns : List TermNode) (o : Origin) (x : Emitter) (row : EdgeRow) (g : Trigger) : Type 0 where
   pub name : UnitName
   pub naming : Naming
   pub emitted : Emitted
@@ -177,22 +177,22 @@ TellsTriggers names e r (g ∷ gs) (t ∷ ts) = TellsTrigger names e r g t × Te
 TellsTriggers names e r _ _ = ⊥
 
 -- the entity after need of a trigger, which is this by ids
-pub record IsTriggered (ms : List Node) (s : Source) (r : EdgeRowTree) (g : TriggerTree) (e : Emitted) (y : Emitter) (t : RegTrigger) : Type 0 where
+pub record IsTriggered (ms : List TermNode) (s : Source) (r : EdgeRowTree) (g : TriggerTree) (e : Emitted) (y : Emitter) (t : RegTrigger) : Type 0 where
   pub is : IsEmitted ms s y (need_trigger s r e g)
   pub tells : TellsTrigger y.lines.names (need_trigger s r e g) r g t
   pub fits : RegisterFits r g
 
-abbrev pub NeedsTrigger : List Node → Origin → Emitter → EdgeRow → Trigger → List Node → Emitter → RegTrigger → Type 0
+abbrev pub NeedsTrigger : List TermNode → Origin → Emitter → EdgeRow → Trigger → List TermNode → Emitter → RegTrigger → Type 0
 NeedsTrigger ns o x row g ms y t = (c : CanTrigger ns o x row g) → IsTriggered ms (source_by c.name c.naming o.flat.now) c.register c.trigger c.emitted y t
 
-abbrev pub NeedsTriggerNot : List Node → Origin → Emitter → EdgeRow → Trigger → EmitFault → Type 0
+abbrev pub NeedsTriggerNot : List TermNode → Origin → Emitter → EdgeRow → Trigger → EmitFault → Type 0
 NeedsTriggerNot ns o x row g fault.OutOfMemory = Unit {0}
 NeedsTriggerNot ns o x row g fault.EntityTooLarge =
     (c : CanTrigger ns o x row g) → RegisterFitsNot c.register c.trigger ⊎ (max_lines < length (need_trigger (source_by c.name c.naming o.flat.now) c.register c.emitted c.trigger).lines)
 
 -- ---- rows of registers
 
-pub record CanPutRegister (ns : List Node) (o : Origin) (x : Emitter) (row : EdgeRow) : Type 0 where
+pub record CanPutRegister (ns : List TermNode) (o : Origin) (x : Emitter) (row : EdgeRow) : Type 0 where
   pub name : UnitName
   pub naming : Naming
   pub emitted : Emitted
@@ -203,35 +203,35 @@ pub record CanPutRegister (ns : List Node) (o : Origin) (x : Emitter) (row : Edg
   pub given : RowIsGiven (source_by name naming o.flat.now) register
 
 -- the entity after need of the triggers of a row, which are these by ids
-pub record AreTriggered (ms : List Node) (s : Source) (r : EdgeRowTree) (e : Emitted) (y : Emitter) (ts : List RegTrigger) : Type 0 where
+pub record AreTriggered (ms : List TermNode) (s : Source) (r : EdgeRowTree) (e : Emitted) (y : Emitter) (ts : List RegTrigger) : Type 0 where
   pub is : IsEmitted ms s y (fold (need_trigger s r) e r.triggers)
   pub tells : TellsTriggers y.lines.names (fold (need_trigger s r) e r.triggers) r r.triggers ts
   pub fits : Each (RegisterFits r) r.triggers
 
-abbrev pub NeedsTriggers : List Node → Origin → Emitter → EdgeRow → List Node → Emitter → List RegTrigger → Type 0
+abbrev pub NeedsTriggers : List TermNode → Origin → Emitter → EdgeRow → List TermNode → Emitter → List RegTrigger → Type 0
 NeedsTriggers ns o x row ms y ts = (c : CanPutRegister ns o x row) → AreTriggered ms (source_by c.name c.naming o.flat.now) c.register c.emitted y ts
 
 -- a choice does not fit, or the entity would be too long
-abbrev pub NeedsTriggersNot : List Node → Origin → Emitter → EdgeRow → EmitFault → Type 0
+abbrev pub NeedsTriggersNot : List TermNode → Origin → Emitter → EdgeRow → EmitFault → Type 0
 NeedsTriggersNot ns o x row fault.OutOfMemory = Unit {0}
 NeedsTriggersNot ns o x row fault.EntityTooLarge =
     (c : CanPutRegister ns o x row) → (row_fits c.register ≡ false) ⊎ (max_lines < length (fold (need_trigger (source_by c.name c.naming o.flat.now) c.register) c.emitted c.register.triggers).lines)
 
 -- the entity with the register of a row
-pub record IsRegistered (ms : List Node) (s : Source) (r : EdgeRowTree) (e : Emitted) (y : Emitter) : Type 0 where
+pub record IsRegistered (ms : List TermNode) (s : Source) (r : EdgeRowTree) (e : Emitted) (y : Emitter) : Type 0 where
   pub is : IsEmitted ms s y (emit_register s e r)
   pub fits : row_fits r ≡ true
 
-abbrev pub PutsRegister : List Node → Origin → Emitter → EdgeRow → List Node → Emitter → Type 0
+abbrev pub PutsRegister : List TermNode → Origin → Emitter → EdgeRow → List TermNode → Emitter → Type 0
 PutsRegister ns o x row ms y = (c : CanPutRegister ns o x row) → IsRegistered ms (source_by c.name c.naming o.flat.now) c.register c.emitted y
 
-abbrev pub PutsRegisterNot : List Node → Origin → Emitter → EdgeRow → EmitFault → Type 0
+abbrev pub PutsRegisterNot : List TermNode → Origin → Emitter → EdgeRow → EmitFault → Type 0
 PutsRegisterNot ns o x row fault.OutOfMemory = Unit {0}
 PutsRegisterNot ns o x row fault.EntityTooLarge =
     (c : CanPutRegister ns o x row) → (row_fits c.register ≡ false) ⊎ (max_lines < length (emit_register (source_by c.name c.naming o.flat.now) c.emitted c.register).lines)
 
 -- so for rows one after the other
-pub record CanPutRegisters (ns : List Node) (o : Origin) (x : Emitter) (rows : List EdgeRow) : Type 0 where
+pub record CanPutRegisters (ns : List TermNode) (o : Origin) (x : Emitter) (rows : List EdgeRow) : Type 0 where
   pub name : UnitName
   pub naming : Naming
   pub emitted : Emitted
@@ -241,14 +241,14 @@ pub record CanPutRegisters (ns : List Node) (o : Origin) (x : Emitter) (rows : L
   pub are : AreEdgeRows ns rows registers
   pub given : Each (RowIsGiven (source_by name naming o.flat.now)) registers
 
-pub record AreRegistered (ms : List Node) (s : Source) (rs : List EdgeRowTree) (e : Emitted) (y : Emitter) : Type 0 where
+pub record AreRegistered (ms : List TermNode) (s : Source) (rs : List EdgeRowTree) (e : Emitted) (y : Emitter) : Type 0 where
   pub is : IsEmitted ms s y (fold (emit_register s) e rs)
   pub fits : list_all row_fits rs ≡ true
 
-abbrev pub PutsRegisters : List Node → Origin → Emitter → List EdgeRow → List Node → Emitter → Type 0
+abbrev pub PutsRegisters : List TermNode → Origin → Emitter → List EdgeRow → List TermNode → Emitter → Type 0
 PutsRegisters ns o x rows ms y = (c : CanPutRegisters ns o x rows) → AreRegistered ms (source_by c.name c.naming o.flat.now) c.registers c.emitted y
 
-abbrev pub PutsRegistersNot : List Node → Origin → Emitter → List EdgeRow → EmitFault → Type 0
+abbrev pub PutsRegistersNot : List TermNode → Origin → Emitter → List EdgeRow → EmitFault → Type 0
 PutsRegistersNot ns o x rows fault.OutOfMemory = Unit {0}
 PutsRegistersNot ns o x rows fault.EntityTooLarge =
     (c : CanPutRegisters ns o x rows) → (list_all row_fits c.registers ≡ false) ⊎ (max_lines < length (fold (emit_register (source_by c.name c.naming o.flat.now)) c.emitted c.registers).lines)

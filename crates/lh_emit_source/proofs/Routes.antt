@@ -5,7 +5,7 @@ use Rattle.std.proofs.lemmas.Bool.{or_parts}
 use Rattle.std.proofs.lemmas.Option.{same_Some, none-some}
 use Rattle.lh_types.specs.Types.{TypeTree}
 use Rattle.lh_types.specs.declared.op.Op.{Op}
-use Rattle.lh_types.specs.declared.ty.NoMemory.{NoMemory}
+use Rattle.lh_types.specs.declared.memory.NoMemory.{NoMemory}
 use Rattle.lh_unit.specs.ById.{maybe_id}
 use Rattle.lh_unit.specs.Contents.{InstText, phi_text, LineText, ArgText, UnitText, args_define}
 use Rattle.lh_unit_names.specs.Names.{same_name}

@@ -14,8 +14,9 @@ use lh_flat::Flat;
 use lh_flat_parts::PartTable;
 use lh_term::part::Part;
 use lh_types::list::ListOf;
+use lh_types::memory::NoMemory;
 use lh_types::op::Op;
-use lh_types::ty::{NoMemory, Ty};
+use lh_types::ty::Ty;
 use lh_unit::inst::{Arg, NameList, ValueId, ValueIdList};
 use lh_unit_names::name::Name;
 use std::alloc::Global;
@@ -32,10 +33,10 @@ pub struct RouteStep {
 pub type Route = ListOf<RouteStep>;
 
 /// The first results of steps to each part, by argument, lowest bit and extent: few parts have one key.
-type Firsts = HashMap<Key, ValueIdList>;
+type Firsts = HashMap<RangeKey, ValueIdList>;
 
 /// An argument, a lowest bit and an extent.
-type Key = (u32, u32, u32);
+type RangeKey = (u32, u32, u32);
 
 /// A flat text with its parts.
 #[derive(Drop)]
@@ -187,7 +188,7 @@ fn take(
 }
 
 /// Adds a value to those that are kept at a key.
-fn add(alloc: Global, firsts: &mut Firsts, key: Key, value: ValueId) -> Result<(), NoMemory>
+fn add(alloc: Global, firsts: &mut Firsts, key: RangeKey, value: ValueId) -> Result<(), NoMemory>
     ensures { OnOk result (spec.AddsAt key value firsts.old firsts.new) }
 {
     let mut values = take_out(alloc, firsts, key);
@@ -197,7 +198,7 @@ fn add(alloc: Global, firsts: &mut Firsts, key: Key, value: ValueId) -> Result<(
 }
 
 /// Takes out what is kept at a key.
-fn take_out(alloc: Global, firsts: &mut Firsts, key: Key) -> ValueIdList
+fn take_out(alloc: Global, firsts: &mut Firsts, key: RangeKey) -> ValueIdList
     ensures values { result ≡ spec.kept_at firsts.old key }
     ensures others { (k : ℕ × ℕ × ℕ) → spec.same_key key k ≡ false → spec.kept_at firsts.new k ≡ spec.kept_at firsts.old k }
 {
@@ -208,7 +209,7 @@ fn take_out(alloc: Global, firsts: &mut Firsts, key: Key) -> ValueIdList
 }
 
 /// The key of a part.
-fn key_of(part: &Part) -> Key
+fn key_of(part: &Part) -> RangeKey
     ensures { result ≡ spec.key_of part.now }
 {
     (part.arg, part.lo, part.extent())

@@ -7,7 +7,7 @@ use Rattle.lh_unit.specs.ById.{is_sig}
 use Rattle.lh_unit.specs.declared.inst.InstId.{InstId}
 use Rattle.lh_unit.specs.declared.inst.ValueId.{ValueId}
 use Rattle.lh_unit.specs.declared.inst.Arg.{Arg}
-use Rattle.lh_unit.specs.declared.table.Line.{Line}
+use Rattle.lh_unit.specs.declared.table.TableLine.{TableLine}
 use Rattle.lh_eval.specs.Holding.{given}
 
 -- what is held by ids
@@ -26,7 +26,7 @@ next_given n [] slots others = slots
 next_given n (r ∷ rs) slots others = others rs (given slots n (Some (part_held r)))
 
 -- the same where the instruction is a `sig`
-abbrev pub given_if_sig : Line → List Range → Slots → (List Range → Slots → Slots) → Slots
+abbrev pub given_if_sig : TableLine → List Range → Slots → (List Range → Slots → Slots) → Slots
 given_if_sig l rs slots others = if is_sig l.inst then next_given l.result rs slots others else others rs slots
 
 -- the parts of the signals of these instructions

@@ -8,7 +8,7 @@ use Rattle.lh_types.specs.Bits.{value_bits}
 use Rattle.lh_types.specs.ApplyTypes.{FitsOp}
 use Rattle.lh_types.specs.declared.op.Op.{Op}
 use Rattle.lh_types.specs.declared.part.Range.{Range}
-use Rattle.lh_types.specs.declared.ty.NoMemory.{NoMemory}
+use Rattle.lh_types.specs.declared.memory.NoMemory.{NoMemory}
 use Rattle.lh_types.specs.Wish.{Wish}
 use Rattle.lh_unit.specs.Contents.{UnitText}
 use Rattle.lh_unit.specs.Typing.{value_type, carried}

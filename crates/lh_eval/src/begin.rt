@@ -9,8 +9,8 @@ ghost use Rattle.lh_eval.specs.Holding.{Holds};
 ghost use Rattle.lh_eval.specs.Beginning.{args_given, signals_given};
 
 use crate::held::{Held, Slots};
+use lh_types::memory::NoMemory;
 use lh_types::part::Range;
-use lh_types::ty::NoMemory;
 use lh_unit::inst::{Arg, InstId, UnitId, UnitKind};
 use lh_unit::module::Module;
 use std::alloc::Global;

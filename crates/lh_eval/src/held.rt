@@ -4,8 +4,8 @@ ghost use Rattle.std.specs.Option.{option_copied};
 ghost use Rattle.lh_eval.specs.HeldOf.{held_of, maybe_held};
 ghost use Rattle.lh_eval.specs.Holding.{slot_at, given, MaybeIn};
 
+use lh_types::memory::NoMemory;
 use lh_types::part::Range;
-use lh_types::ty::NoMemory;
 use lh_types::val::Val;
 use lh_unit::inst::ValueId;
 use std::alloc::Global;

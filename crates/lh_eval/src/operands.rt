@@ -10,8 +10,8 @@ ghost use Rattle.lh_eval.specs.Holding.{MaybeIn};
 
 use crate::held::{Held, Slots};
 use lh_time::Delay;
+use lh_types::memory::NoMemory;
 use lh_types::part::Range;
-use lh_types::ty::NoMemory;
 use lh_types::val::Val;
 use lh_unit::inst::{Typed, ValueId};
 use std::alloc::Global;

@@ -4,8 +4,8 @@ ghost use Rattle.lh_types.specs.ValueOf.{datum_of};
 ghost use Rattle.lh_types.specs.Apply as rows;
 ghost use Rattle.lh_types.specs.ApplyTypes.{FitsOp};
 
+use lh_types::memory::NoMemory;
 use lh_types::op::Op;
-use lh_types::ty::NoMemory;
 use lh_types::val::{Val, ValList};
 
 /// A copy of an array or a struct with a new element or field `k`.

@@ -2,7 +2,7 @@
 ghost use Rattle.std.specs.Prelude.{◌≡◌, take, drop, IfOk};
 
 use lh_bits::bits::Bits;
-use lh_types::ty::NoMemory;
+use lh_types::memory::NoMemory;
 
 /// The first bits, or all where there are not so many.
 pub(crate) fn first_bits(bits: &Bits, n: u32) -> Result<Bits, NoMemory>

@@ -10,7 +10,7 @@ use crate::run::WishRun;
 use lh_bits::mostly_one::{Items, MostlyOne};
 use lh_bits::writes::{BitWrites, DueWrites};
 use lh_time::Instant;
-use lh_types::ty::NoMemory;
+use lh_types::memory::NoMemory;
 use std::alloc::Global;
 
 /// Runs by their instants.

@@ -4,7 +4,7 @@ ghost use Rattle.std.specs.Prelude.{ℕ, ◌+◌, ◌≤◌, ◌^◌, length};
 use crate::cuts::{first_bits, other_bits};
 use lh_bits::bits::Bits;
 use lh_time::Instant;
-use lh_types::ty::NoMemory;
+use lh_types::memory::NoMemory;
 use std::cmp::Ordering;
 
 /// Bits in a row that are due at one instant, from bit `lo` of the signals on.

@@ -8,7 +8,7 @@ ghost use Rattle.lh_eval_wishes.specs.Runs.{run_wish, runs_wish, below, above, A
 use crate::run::WishRun;
 use lh_bits::mostly_one::Items;
 use lh_time::Instant;
-use lh_types::ty::NoMemory;
+use lh_types::memory::NoMemory;
 use std::alloc::Global;
 
 /// The list with one run more; it replaces what the runs have for its bits at its instant.

@@ -10,7 +10,7 @@ use lh_bits::bits::Bits;
 use lh_bits::mostly_one::Items;
 use lh_bits::writes::DueWrites;
 use lh_time::Instant;
-use lh_types::ty::NoMemory;
+use lh_types::memory::NoMemory;
 use std::alloc::Global;
 use std::marker::Model;
 use std::mem;

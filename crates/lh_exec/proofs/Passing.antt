@@ -1,7 +1,7 @@
 -- Past the instruction that comes next.
 use Rattle.std.proofs.Common.{◌≡◌, ℕ, ◌+◌, ◌<◌, ◌≤◌, List, ◌∷◌, length, map, drop, get_or, Option, Result, IfOk, refl, ap, sym, ◌∙◌, subst}
 use Rattle.std.proofs.lemmas.List.{drop_all, drop_more}
-use Rattle.lh_types.specs.declared.ty.NoMemory.{NoMemory}
+use Rattle.lh_types.specs.declared.memory.NoMemory.{NoMemory}
 use Rattle.lh_unit.specs.Contents.{LineText, UnitText}
 use Rattle.lh_unit.specs.Activation.{Scene, Point, executes, steps_by, step}
 use Rattle.lh_unit.specs.Arena.{Arena, IsArena, contents, naming, table_at, block_insts_at, unit_text_at, inst_count, value_count, result_at, inst_at, unit_count}

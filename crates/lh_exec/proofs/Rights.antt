@@ -26,7 +26,7 @@ use Rattle.lh_unit.specs.declared.inst.UnitKind.{UnitKind}
 use Rattle.lh_unit.specs.declared.inst.UnitKind.TheVariants as kind
 use Rattle.lh_unit.specs.declared.inst.Item.{Item}
 use Rattle.lh_unit.specs.declared.inst.Item.TheVariants as item
-use Rattle.lh_unit.specs.declared.table.Line.{Line}
+use Rattle.lh_unit.specs.declared.table.TableLine.{TableLine}
 use Rattle.lh_unit_names.proofs.NameLists.{same_name-is}
 use Rattle.lh_unit.proofs.Defined.{label_text-named, flat_lines}
 use Rattle.lh_unit.proofs.ById.{block_of-by_id, unit_named-by_id, line_giving-append}
@@ -150,7 +150,7 @@ module _ (a : Arena) (o : IsArena a) (g : IsWellFormed (contents a)) where
       by false q = absurd (none-some x.0 q)
 
   -- a name that has a type is that of a value by its id
-  named-line : (n : List ℕ) (u : ℕ) (ls : List Line) (i : InstText) → ResultsWithin (value_count a u) ls → line_giving n (map (line_text (naming a u)) ls) ≡ Some i → (v : ValueId)
+  named-line : (n : List ℕ) (u : ℕ) (ls : List TableLine) (i : InstText) → ResultsWithin (value_count a u) ls → line_giving n (map (line_text (naming a u)) ls) ≡ Some i → (v : ValueId)
       × (v.0 < value_count a u) × (value_name_at a u v.0 ≡ n)
   named-line n u [] i w e = absurd (none-some i e)
   named-line n u (l ∷ ls) i w e = by l.result w.0 (named-line n u ls i w.1) e

@@ -20,7 +20,7 @@ ghost use Rattle.lh_exec.specs.Taking.{operands_given, GivesValues};
 use crate::machine::{Call, Flow, Machine, UnitFrame};
 use lh_eval::held::{Held, Slots};
 use lh_eval::operands::{datum_in, test_in};
-use lh_types::ty::NoMemory;
+use lh_types::memory::NoMemory;
 use lh_unit::inst::{Arg, Typed, UnitId, ValueId};
 use lh_unit::module::Module;
 use std::alloc::Global;

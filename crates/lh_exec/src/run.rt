@@ -12,7 +12,7 @@ ghost use Rattle.lh_exec.specs.Sound.{LineRight, MachineFits, PointFits, Finishe
 use crate::machine::{Flow, Machine};
 use lh_bits::bits::Bits;
 use lh_time::Instant;
-use lh_types::ty::NoMemory;
+use lh_types::memory::NoMemory;
 use lh_unit::inst::{Inst, ValueId};
 use lh_unit::module::Module;
 use std::alloc::Global;

@@ -10,12 +10,12 @@ use Rattle.lh_unit.specs.declared.inst.UnitId.{UnitId}
 use Rattle.lh_unit.specs.declared.inst.BlockId.{BlockId}
 use Rattle.lh_unit.specs.declared.inst.ValueId.{ValueId}
 use Rattle.lh_unit.specs.declared.inst.Arg.{Arg}
-use Rattle.lh_unit.specs.declared.table.Line.{Line}
+use Rattle.lh_unit.specs.declared.table.TableLine.{TableLine}
 use Rattle.lh_unit.proofs.ById.{result-within}
 use Rattle.lh_flat.specs.declared.flat.Merge.{Merge}
 use Rattle.lh_flat.specs.declared.rename.Span.{Span}
 use Rattle.lh_flat.specs.declared.rename.Renaming.{Renaming}
-use Rattle.lh_flat.specs.declared.build.Text.{Text}
+use Rattle.lh_flat.specs.declared.build.FlatBuilder.{FlatBuilder}
 use Rattle.lh_flat.specs.Renames.{no_span, sizes_in}
 use Rattle.lh_flat.specs.Fits.{IdsFit}
 use Rattle.lh_flat.specs.Building.{line_of, insts_room, block_room, unit_room, call_room, span_at, spans_with, spans_of, new_ids, bound, call_ids, blocks_give, merge_in, merging, entering, blocks_added, call_added, unit_added}
@@ -98,21 +98,21 @@ maybe-within a o u l r f n i v e = subst (λ w. MaybeWithin (sizes_in n r) w) (s
     by (Some w) h = subst (λ m. w.0 < m) (sym f.values) h
 
 -- the copy for a call is added
-pub call_added-none : (k : ℕ) (a : Arena) (f : UnitId) (r : Renaming) (l : Line) (t : Text) → k ≡ 0 → t ≡ call_added k a f r l t
+pub call_added-none : (k : ℕ) (a : Arena) (f : UnitId) (r : Renaming) (l : TableLine) (t : FlatBuilder) → k ≡ 0 → t ≡ call_added k a f r l t
 unfolding call_added
 call_added-none zero a f r l t e = refl
 call_added-none (suc k) a f r l t e = cc
 
-pub call_added-next : (k : ℕ) (a : Arena) (f : UnitId) (r : Renaming) (l : Line) (t : Text) → call_added (suc k) a f r l t ≡
+pub call_added-next : (k : ℕ) (a : Arena) (f : UnitId) (r : Renaming) (l : TableLine) (t : FlatBuilder) → call_added (suc k) a f r l t ≡
     merging (merge_in r (blocks_give a f.0 (call_ids (call_room k a) a f r l t) (blocks_at a f.0)) l.inst l.result)
     (blocks_added (call_added k a) a f.0 (call_ids (call_room k a) a f r l t) (blocks_at a f.0) (entering a f t))
 unfolding call_added
 call_added-next k a f r l t = refl
 
-abbrev call_made : (j : ℕ) (f : UnitId) (r : Renaming) (l : Line) (t : Text) (b : Arena) (h : UnitId) (ids : Renaming) → Text
+abbrev call_made : (j : ℕ) (f : UnitId) (r : Renaming) (l : TableLine) (t : FlatBuilder) (b : Arena) (h : UnitId) (ids : Renaming) → FlatBuilder
 call_made j f r l t b h ids = merging (merge_in r (blocks_give b h.0 ids (blocks_at b h.0)) l.inst l.result) (blocks_added (call_added j b) b h.0 ids (blocks_at b h.0) (entering b h t))
 
-pub call_added-is : (k : ℕ) (a b : Arena) (f h : UnitId) (r ids : Renaming) (l : Line) (t s v z : Text) (m : Option Merge) → (k ≡ 0 → ⊥) → b ≡ a → h ≡ f
+pub call_added-is : (k : ℕ) (a b : Arena) (f h : UnitId) (r ids : Renaming) (l : TableLine) (t s v z : FlatBuilder) (m : Option Merge) → (k ≡ 0 → ⊥) → b ≡ a → h ≡ f
     → ids ≡ call_ids (call_room (k - 1) a) a f r l t →
     m ≡ merge_in r (blocks_give b h.0 ids (blocks_at b h.0)) l.inst l.result → s ≡ entering b h t → v ≡ blocks_added (call_added (k - 1) b) b h.0 ids (blocks_at b h.0) s → z ≡ merging m v
     → z ≡ call_added k a f r l t
@@ -127,6 +127,6 @@ call_added-is (suc j) a b f h r ids l t s v z m n eb eh ei em es ev ez =
     ∙ sym (call_added-next j a f r l t)
 
 -- the copy of a unit was entered and added, and its merge behind it
-pub copy_added : (depth u : ℕ) (a : Arena) (ids : Renaming) (m n : Option Merge) (t s v z : Text) → z ≡ merging m v → m ≡ n → v ≡ unit_added depth a u ids s → s ≡ t
+pub copy_added : (depth u : ℕ) (a : Arena) (ids : Renaming) (m n : Option Merge) (t s v z : FlatBuilder) → z ≡ merging m v → m ≡ n → v ≡ unit_added depth a u ids s → s ≡ t
     → z ≡ merging n (unit_added depth a u ids t)
 copy_added depth u a ids m n t s v z ez em ev es = ez ∙ ap (λ x. merging x v) em ∙ ap (merging n) (ev ∙ ap (unit_added depth a u ids) es)

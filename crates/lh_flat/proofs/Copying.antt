@@ -17,11 +17,11 @@ use Rattle.lh_unit.specs.declared.inst.BlockId.{BlockId}
 use Rattle.lh_unit.specs.declared.inst.InstId.{InstId}
 use Rattle.lh_unit.specs.declared.inst.Inst.{Inst}
 use Rattle.lh_unit.specs.declared.inst.Inst.TheVariants as inst
-use Rattle.lh_unit.specs.declared.table.Line.{Line}
+use Rattle.lh_unit.specs.declared.table.TableLine.{TableLine}
 use Rattle.lh_unit.proofs.Defined.{label_text-named}
 use Rattle.lh_unit.proofs.ModuleLaws.{line-placed}
 use Rattle.lh_flat.specs.declared.rename.Renaming.{Renaming}
-use Rattle.lh_flat.specs.declared.build.Text.{Text}
+use Rattle.lh_flat.specs.declared.build.FlatBuilder.{FlatBuilder}
 use Rattle.lh_flat.specs.Graph.{callee_of}
 use Rattle.lh_flat.specs.Calls.{callee_if, callees_in}
 use Rattle.lh_flat.specs.Copies.{Copy, call_path, copy_at, opened, first_piece, copied, copied_line}
@@ -116,7 +116,7 @@ pub record CopyIs (a : Arena) (fs : List UnitText) (g : Naming) (u : ℕ) (c : C
   pub agrees : Agrees (naming a u) g fs (blocks_at a u) (is_function (kind_text (kind_at a u))) c r
 
 -- what is built for a call reads as the branch into the copy, and the copy
-pub record CallReads (fs : List UnitText) (g : Naming) (c d : Copy) (l : LineText) (copies : List FlatBlockText) (names : List (List ℕ)) (t t' : Text) : Type 0 where
+pub record CallReads (fs : List UnitText) (g : Naming) (c d : Copy) (l : LineText) (copies : List FlatBlockText) (names : List (List ℕ)) (t t' : FlatBuilder) : Type 0 where
   pub blocks : read g t'.blocks ≡ read g t.blocks
       ++ (record { label = g.label_name (length t.blocks); merge = option_map (merge_text g) t.current.merge; lines = map (flat_line_text g) t.current.insts ++ branch_into d ∷ [] } ∷ copies)
   pub merge : option_map (merge_text g) t'.current.merge ≡ merge_of fs c d l.inst l.result
@@ -124,22 +124,22 @@ pub record CallReads (fs : List UnitText) (g : Naming) (c d : Copy) (l : LineTex
   pub values : t'.values ≡ t.values + length names
 
 -- what is built for the rest of a block reads as the pieces of that
-pub record LinesRead (g : Naming) (p : Pieces) (names : List (List ℕ)) (t t' : Text) : Type 0 where
+pub record LinesRead (g : Naming) (p : Pieces) (names : List (List ℕ)) (t t' : FlatBuilder) : Type 0 where
   pub blocks : read g (put t').blocks ≡ read g t.blocks
       ++ (record { label = g.label_name (length t.blocks); merge = option_map (merge_text g) t.current.merge; lines = map (flat_line_text g) t.current.insts ++ p.rest } ∷ p.more)
   pub values : t'.values ≡ t.values + length names
 
 -- what is built for blocks reads as these
-pub record BlocksRead (g : Naming) (texts : List FlatBlockText) (names : List (List ℕ)) (t t' : Text) : Type 0 where
+pub record BlocksRead (g : Naming) (texts : List FlatBlockText) (names : List (List ℕ)) (t t' : FlatBuilder) : Type 0 where
   pub blocks : read g t'.blocks ≡ read g t.blocks ++ texts
   pub current : t'.current ≡ no_block
   pub values : t'.values ≡ t.values + length names
 
 -- what is built for each call reads as its copy
-abbrev pub CallsRead : (a : Arena) (fs : List UnitText) (g : Naming) (called : UnitId → Renaming → Line → Text → Text) (copy_of : Copy → List FlatBlockText) (names : UnitId → List ℕ
+abbrev pub CallsRead : (a : Arena) (fs : List UnitText) (g : Naming) (called : UnitId → Renaming → TableLine → FlatBuilder → FlatBuilder) (copy_of : Copy → List FlatBlockText) (names : UnitId → List ℕ
     → List (List ℕ)) (test : UnitName → Bool) → Type 0
 CallsRead a fs g called copy_of names test =
-    (u : ℕ) (c : Copy) (r : Renaming) (i : InstId) (f : UnitId) (path : List ℕ) (t : Text) → CopyIs a fs g u c r → callee_of a (line_of a u i).inst ≡ Some f → IsCallable a fs f
+    (u : ℕ) (c : Copy) (r : Renaming) (i : InstId) (f : UnitId) (path : List ℕ) (t : FlatBuilder) → CopyIs a fs g u c r → callee_of a (line_of a u i).inst ≡ Some f → IsCallable a fs f
     → test (unit_name_at a f.0) ≡ false →
     NamedFrom g.label_name (length t.blocks + 1) (labels (copy_of (copy_at path (arg_names c (line_text_of a u i).inst) (unit_text_at a f.0)))) →
     g.label_name (length t.blocks + 1 + length (copy_of (copy_at path (arg_names c (line_text_of a u i).inst) (unit_text_at a f.0)))) ≡ path →
@@ -188,7 +188,7 @@ pub block-named : (a : Arena) (fs : List UnitText) (copy_of : Copy → List Flat
 block-named a fs copy_of u c x k =
     ap (λ m. in_order c m (pieces_from copy_of fs c m 0 (map (line_text_of a u) (insts_at (table_at a u) x.0)))) (ap label_or (label_text-named (naming a u) (kind_at a u) x k))
 
-module _ (a : Arena) (o : IsArena a) (fs : List UnitText) (g : Naming) (called : UnitId → Renaming → Line → Text → Text) (copy_of : Copy → List FlatBlockText) (names : UnitId → List ℕ → List (List ℕ))
+module _ (a : Arena) (o : IsArena a) (fs : List UnitText) (g : Naming) (called : UnitId → Renaming → TableLine → FlatBuilder → FlatBuilder) (copy_of : Copy → List FlatBlockText) (names : UnitId → List ℕ → List (List ℕ))
     (test : UnitName → Bool) (calls : CallsRead a fs g called copy_of names test) where
   line-same : (u : ℕ) (c : Copy) (r : Renaming) (i : InstId) → CopyIs a fs g u c r → InstIsRight a fs u (line_of a u i).inst
       → flat_line_text g (line_in r (line_of a u i)) ≡ copied_line fs c (line_text_of a u i)
@@ -202,7 +202,7 @@ module _ (a : Arena) (o : IsArena a) (fs : List UnitText) (g : Naming) (called :
 
   -- the lines of a block from line n on
   pub lines-read : (u : ℕ) (c : Copy) (r : Renaming) (k : CopyIs a fs g u c r) (label : List ℕ) (is : List InstId) → Each (λ (i : InstId). InstIsRight a fs u (line_of a u i).inst) is → (n : ℕ)
-      → list_any test (callees_in (map (line_text_of a u) is)) ≡ false → (t : Text) →
+      → list_any test (callees_in (map (line_text_of a u) is)) ≡ false → (t : FlatBuilder) →
       NamedFrom g.label_name (length t.blocks + 1) (labels (pieces_from copy_of fs c label n (map (line_text_of a u) is)).more) →
       NamedFrom g.value_name t.values (insts_names names a u c.path label n is) →
       LinesRead g (pieces_from copy_of fs c label n (map (line_text_of a u) is)) (insts_names names a u c.path label n is) t (insts_added called a u r is t)
@@ -220,7 +220,7 @@ module _ (a : Arena) (o : IsArena a) (fs : List UnitText) (g : Naming) (called :
       path = call_path c label n
 
       by : (x : Option UnitId) → callee_of a (line_of a u i).inst ≡ x → Tested test a x →
-          ((s : Text) → NamedFrom g.label_name (length s.blocks + 1) (labels (pieces_from copy_of fs c label (n + 1) (map (line_text_of a u) more)).more)
+          ((s : FlatBuilder) → NamedFrom g.label_name (length s.blocks + 1) (labels (pieces_from copy_of fs c label (n + 1) (map (line_text_of a u) more)).more)
           → NamedFrom g.value_name s.values (insts_names names a u c.path label (n + 1) more) →
           LinesRead g (pieces_from copy_of fs c label (n + 1) (map (line_text_of a u) more)) (insts_names names a u c.path label (n + 1) more) s (insts_added called a u r more s)) →
           NamedFrom g.label_name (length t.blocks + 1)
@@ -233,7 +233,7 @@ module _ (a : Arena) (o : IsArena a) (fs : List UnitText) (g : Naming) (called :
           let l : LineText = line_text_of a u i in
           let p : Pieces = pieces_from copy_of fs c label (n + 1) (map (line_text_of a u) more) in
           let none : opened fs c (call_path c label n) l.inst ≡ None = opened-none a fs u c (call_path c label n) (line_of a u i).inst e in
-          let s : Text = taken (line_in r (line_of a u i)) t in
+          let s : FlatBuilder = taken (line_in r (line_of a u i)) t in
           let rest : LinesRead g p (insts_names names a u c.path label (n + 1) more) s (insts_added called a u r more s) =
           ih s (subst (λ y. NamedFrom g.label_name (length t.blocks + 1) (labels (with_line copy_of fs c l y p).more)) none hl) hv in
           subst (λ y. LinesRead g (with_line copy_of fs c l y p) (insts_names names a u c.path label (n + 1) more) t (insts_added called a u r more s)) (sym none) record {
@@ -253,7 +253,7 @@ module _ (a : Arena) (o : IsArena a) (fs : List UnitText) (g : Naming) (called :
           let hs : NamedFrom g.label_name (length t.blocks + 1) (labels (copy_of d ++ D ∷ p.more)) = subst
           (λ y. NamedFrom g.label_name (length t.blocks + 1) (labels (with_line copy_of fs c l y p).more)) some hl in
           let right : NamedFrom g.label_name (length t.blocks + 1 + length (copy_of d)) (labels (D ∷ p.more)) = labels-right g.label_name (length t.blocks + 1) (copy_of d) (D ∷ p.more) hs in
-          let s : Text = called f r (line_of a u i) t in
+          let s : FlatBuilder = called f r (line_of a u i) t in
           let one : CallReads fs g c d l (copy_of d) (names f (call_path c label n)) t s =
           calls u c r i f (call_path c label n) t k e ok z (labels-left g.label_name (length t.blocks + 1) (copy_of d) (D ∷ p.more) hs) right.0
           (named-left g.value_name t.values (names f (call_path c label n)) ns hv) in
@@ -281,7 +281,7 @@ module _ (a : Arena) (o : IsArena a) (fs : List UnitText) (g : Naming) (called :
 
   -- blocks, one after the other
   pub blocks-read : (u : ℕ) (c : Copy) (r : Renaming) (k : CopyIs a fs g u c r) (bs : List BlockId) → Each (BlockIsRight a fs u) bs
-      → list_any test (callees_in (lines_of (map (block_text (naming a u) (table_at a u)) bs))) ≡ false → (t : Text) → t.current ≡ no_block →
+      → list_any test (callees_in (lines_of (map (block_text (naming a u) (table_at a u)) bs))) ≡ false → (t : FlatBuilder) → t.current ≡ no_block →
       NamedFrom g.label_name (length t.blocks) (labels (flat_map (flat_block copy_of fs c) (map (block_text (naming a u) (table_at a u)) bs))) →
       NamedFrom g.value_name t.values (blocks_names names a u c.path bs) →
       BlocksRead g (flat_map (flat_block copy_of fs c) (map (block_text (naming a u) (table_at a u)) bs)) (blocks_names names a u c.path bs) t (blocks_added called a u r bs t)
@@ -299,7 +299,7 @@ module _ (a : Arena) (o : IsArena a) (fs : List UnitText) (g : Naming) (called :
       (ap (list_any test) (sym (callees-append (map (line_text_of a u) is) (lines_of (map (block_text (naming a u) (table_at a u)) bs)))) ∙ q) in
       let hs : NamedFrom g.label_name (length t.blocks) (labels (in_order c m p)) = subst (λ zs. NamedFrom g.label_name (length t.blocks) (labels zs)) e
       (labels-left g.label_name (length t.blocks) X Y h) in
-      let s : Text = put (insts_added called a u r is t) in
+      let s : FlatBuilder = put (insts_added called a u r is t) in
       let one : LinesRead g p ns t (insts_added called a u r is t) = lines-read u c r k m is w.0 0 qs.0 t hs.1 (named-left g.value_name t.values ns (blocks_names names a u c.path bs) v) in
       let head : blocked (g.label_name (length t.blocks)) (option_map (merge_text g) t.current.merge) (map (flat_line_text g) t.current.insts ++ p.rest) ≡ blocked (first_piece c m) None p.rest =
       block-records (g.label_name (length t.blocks)) (first_piece c m) (option_map (merge_text g) t.current.merge) None (map (flat_line_text g) t.current.insts ++ p.rest) p.rest hs.0

@@ -16,10 +16,10 @@ use Rattle.lh_unit.specs.declared.inst.ValueId.{ValueId}
 use Rattle.lh_unit.specs.declared.inst.Arg.{Arg}
 use Rattle.lh_unit_graph.specs.declared.fault.DescentFault.{DescentFault}
 use Rattle.lh_flat.specs.declared.calls.CallNode.{CallNode}
-use Rattle.lh_flat.specs.declared.measure.Measure.{Measure}
+use Rattle.lh_flat.specs.declared.measure.CallMeasure.{CallMeasure}
 use Rattle.lh_flat.specs.declared.flat.Flat.{Flat}
 use Rattle.lh_flat.specs.declared.rename.Renaming.{Renaming}
-use Rattle.lh_flat.specs.declared.build.Text.{Text}
+use Rattle.lh_flat.specs.declared.build.FlatBuilder.{FlatBuilder}
 use Rattle.lh_flat.specs.Calls.{callees, nest_deeper}
 use Rattle.lh_flat.specs.Copies.{top_copy, argument_or}
 use Rattle.lh_flat.specs.Flat.{FlatBlockText, FlatText, flat_copy, max_nested, text_of, refused, call_too_deep, flat_too_large, flat_of}
@@ -99,7 +99,7 @@ module _ (a : Arena) (o : IsArena a) (f : IsFaultless (contents a)) (named : Uni
     abbrev ids : Renaming
     ids = ids_for (call_room depth a) a top [] 0 0 0
 
-    abbrev made : Text
+    abbrev made : FlatBuilder
     made = blocks_added (call_added depth a) a top ids (blocks_at a top) (no_text (value_count a top))
 
     own-long : length own ≡ value_count a top
@@ -208,13 +208,13 @@ module _ (a : Arena) (g h : List CallNode) (top : ℕ) (o : IsArena a) (f : IsFa
   pub flat-refused : (x : DescentFault) → Measures measuring g top (Err x) → Flattens a top (Err (fault_of x))
   flat-refused x m = Refuses-measured a g top o f graph l p x m
 
-  pub flat-deep : (m : Measure) → Measures measuring g top (Ok m) → 65 < m.depth → flat_of (contents a) (unit_text_at a top) ≡ refused call_too_deep
+  pub flat-deep : (m : CallMeasure) → Measures measuring g top (Ok m) → 65 < m.depth → flat_of (contents a) (unit_text_at a top) ≡ refused call_too_deep
   flat-deep m w d = Refuses-deep a g top o f graph l p m w (lt-ltb 65 m.depth d)
 
-  pub flat-large : (m : Measure) → Measures measuring g top (Ok m) → m.depth ≤ 65 → 65536 < m.insts → flat_of (contents a) (unit_text_at a top) ≡ refused flat_too_large
+  pub flat-large : (m : CallMeasure) → Measures measuring g top (Ok m) → m.depth ≤ 65 → 65536 < m.insts → flat_of (contents a) (unit_text_at a top) ≡ refused flat_too_large
   flat-large m w d n = Refuses-large a g top o f graph l p m w (le-ltb 65 m.depth d) (lt-ltb 65536 m.insts n)
 
-  pub flat-made : UnitsAreNamed a → (m : Measure) → Measures measuring g top (Ok m) → m.depth ≤ 65 → m.insts ≤ 65536 → (b : Arena) (u : UnitId) (t : Flat) → b ≡ a → u.0 ≡ top → IsMade b u.0 t
+  pub flat-made : UnitsAreNamed a → (m : CallMeasure) → Measures measuring g top (Ok m) → m.depth ≤ 65 → m.insts ≤ 65536 → (b : Arena) (u : UnitId) (t : Flat) → b ≡ a → u.0 ≡ top → IsMade b u.0 t
       → Flattens a top (Ok t)
   flat-made n m w d i b u t eb eu t-made = (
     text_of (functions (contents a)) (unit_text_at a top),
@@ -223,7 +223,7 @@ module _ (a : Arena) (g h : List CallNode) (top : ℕ) (o : IsArena a) (f : IsFa
         (subst (λ x. IsMade a x t) eu (subst (λ x. IsMade x u.0 t) eb t-made)),
   )
 
-  pub flat-below : UnitsAreNamed a → (m : Measure) → Measures measuring g top (Ok m) → m.depth ≤ 65 → (b : Arena) (u : UnitId) (t : Flat) → b ≡ a → u.0 ≡ top → IsMade b u.0 t → IdsBelow t
+  pub flat-below : UnitsAreNamed a → (m : CallMeasure) → Measures measuring g top (Ok m) → m.depth ≤ 65 → (b : Arena) (u : UnitId) (t : Flat) → b ≡ a → u.0 ≡ top → IsMade b u.0 t → IdsBelow t
   flat-below n m w d b u t eb eu t-made =
       made_below a o f n top l (process-blocks (kind_at a top) p) p (not-deep a g top o f graph l p m w (le-ltb 65 m.depth d)) t
       (subst (λ x. IsMade a x t) eu (subst (λ x. IsMade x u.0 t) eb t-made))

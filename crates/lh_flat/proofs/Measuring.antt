@@ -10,7 +10,7 @@ use Rattle.lh_unit_graph.specs.Measures as descent
 use Rattle.lh_unit_graph.proofs.Measuring.{measure-holds}
 use Rattle.lh_verify_laws.proofs.Capped.{not_below_zero, zero_capped, below_max, sum_capped, left_max, right_max, first_below, next_below, none_at_zero, below_next, right_capped}
 use Rattle.lh_flat.specs.declared.calls.CallNode.{CallNode}
-use Rattle.lh_flat.specs.declared.measure.Measure.{Measure}
+use Rattle.lh_flat.specs.declared.measure.CallMeasure.{CallMeasure}
 use Rattle.lh_flat.specs.Graph.{node_at, callees_at, max_counted}
 use Rattle.lh_flat.specs.Measures.{nothing, beside, around, measuring}
 
@@ -30,13 +30,13 @@ blocks_in zero g n = 0
 blocks_in (suc k) g n = (node_at g n).blocks + sum_by (λ (t : UnitId). blocks_in k g t.0) (callees_at g n)
 
 -- the measure of a copy of the unit n; a number that stands at its end is a count that is as large at least
-pub record IsMeasure (g : List CallNode) (n : ℕ) (m : Measure) : Type 0 where
+pub record IsMeasure (g : List CallNode) (n : ℕ) (m : CallMeasure) : Type 0 where
   pub depth : (k : ℕ) → suc k ≤ max_counted → nests k g n ≡ nat_lt k m.depth
   pub insts : (k : ℕ) → suc k ≤ max_counted → m.depth ≤ k → min (insts_in k g n) max_counted ≡ m.insts
   pub blocks : (k : ℕ) → suc k ≤ max_counted → m.depth ≤ k → min (blocks_in k g n) max_counted ≡ m.blocks
 
 -- copies of these units beside each other
-record IsSum (g : List CallNode) (ts : List UnitId) (m : Measure) : Type 0 where
+record IsSum (g : List CallNode) (ts : List UnitId) (m : CallMeasure) : Type 0 where
   pub depth : (k : ℕ) → suc k ≤ max_counted → list_any (λ (t : UnitId). nests k g t.0) ts ≡ nat_lt k m.depth
   pub insts : (k : ℕ) → suc k ≤ max_counted → m.depth ≤ k → min (sum_by (λ (t : UnitId). insts_in k g t.0) ts) max_counted ≡ m.insts
   pub blocks : (k : ℕ) → suc k ≤ max_counted → m.depth ≤ k → min (sum_by (λ (t : UnitId). blocks_in k g t.0) ts) max_counted ≡ m.blocks
@@ -44,7 +44,7 @@ record IsSum (g : List CallNode) (ts : List UnitId) (m : Measure) : Type 0 where
 IsSum-none : (g : List CallNode) → IsSum g [] nothing
 IsSum-none g = record { depth = λ k l. not_below_zero k; insts = λ k l d. zero_capped max_counted; blocks = λ k l d. zero_capped max_counted }
 
-IsSum-beside : (g : List CallNode) (ts : List UnitId) (t : UnitId) (m n : Measure) → IsSum g ts m → IsMeasure g t.0 n → IsSum g (ts ++ t ∷ []) (beside m n)
+IsSum-beside : (g : List CallNode) (ts : List UnitId) (t : UnitId) (m n : CallMeasure) → IsSum g ts m → IsMeasure g t.0 n → IsSum g (ts ++ t ∷ []) (beside m n)
 IsSum-beside g ts t m n o p = record {
   depth = λ k l.
       list_any-append (λ (x : UnitId). nests k g x.0) ts (t ∷ [])
@@ -62,28 +62,28 @@ IsSum-beside g ts t m n o p = record {
       (right_max m.depth n.depth k d));
 }
 
-depth-around : (g : List CallNode) (u : ℕ) (m : Measure) → IsSum g (callees_at g u) m → (k : ℕ) → suc k ≤ max_counted → nests k g u ≡ nat_lt k (min (1 + m.depth) max_counted)
+depth-around : (g : List CallNode) (u : ℕ) (m : CallMeasure) → IsSum g (callees_at g u) m → (k : ℕ) → suc k ≤ max_counted → nests k g u ≡ nat_lt k (min (1 + m.depth) max_counted)
 depth-around g u m o zero l = first_below m.depth max_counted (omega arith)
 depth-around g u m o (suc j) l = o.depth j (omega arith) ∙ next_below j m.depth max_counted l
 
-insts-around : (g : List CallNode) (u : ℕ) (m : Measure) → IsSum g (callees_at g u) m → (k : ℕ) → suc k ≤ max_counted → min (1 + m.depth) max_counted ≤ k
+insts-around : (g : List CallNode) (u : ℕ) (m : CallMeasure) → IsSum g (callees_at g u) m → (k : ℕ) → suc k ≤ max_counted → min (1 + m.depth) max_counted ≤ k
     → min (insts_in k g u) max_counted ≡ min ((node_at g u).insts + m.insts) max_counted
 insts-around g u m o zero l d = absurd (none_at_zero m.depth max_counted (omega arith) d)
 insts-around g u m o (suc j) l d = right_capped (node_at g u).insts (sum_by (λ (t : UnitId). insts_in j g t.0) (callees_at g u)) max_counted m.insts
     (o.insts j (omega arith) (below_next j m.depth max_counted l d))
 
-blocks-around : (g : List CallNode) (u : ℕ) (m : Measure) → IsSum g (callees_at g u) m → (k : ℕ) → suc k ≤ max_counted → min (1 + m.depth) max_counted ≤ k
+blocks-around : (g : List CallNode) (u : ℕ) (m : CallMeasure) → IsSum g (callees_at g u) m → (k : ℕ) → suc k ≤ max_counted → min (1 + m.depth) max_counted ≤ k
     → min (blocks_in k g u) max_counted ≡ min ((node_at g u).blocks + m.blocks) max_counted
 blocks-around g u m o zero l d = absurd (none_at_zero m.depth max_counted (omega arith) d)
 blocks-around g u m o (suc j) l d = right_capped (node_at g u).blocks (sum_by (λ (t : UnitId). blocks_in j g t.0) (callees_at g u)) max_counted m.blocks
     (o.blocks j (omega arith) (below_next j m.depth max_counted l d))
 
-IsMeasure-around : (g : List CallNode) (u : ℕ) (m : Measure) → IsSum g (callees_at g u) m → IsMeasure g u (around m (node_at g u))
+IsMeasure-around : (g : List CallNode) (u : ℕ) (m : CallMeasure) → IsSum g (callees_at g u) m → IsMeasure g u (around m (node_at g u))
 IsMeasure-around g u m o = record { depth = depth-around g u m o; insts = insts-around g u m o; blocks = blocks-around g u m o }
 
-IsMeasure-prop : (g : List CallNode) (u : ℕ) (m : Measure) → IsProp (IsMeasure g u m)
+IsMeasure-prop : (g : List CallNode) (u : ℕ) (m : CallMeasure) → IsProp (IsMeasure g u m)
 IsMeasure-prop g u m = hlevel props
 
 -- the measure of the search is the one of its depth and its counts
-pub measure-is : (g : List CallNode) (u : ℕ) (m : Measure) → descent.IsMeasure measuring g u m → IsMeasure g u m
+pub measure-is : (g : List CallNode) (u : ℕ) (m : CallMeasure) → descent.IsMeasure measuring g u m → IsMeasure g u m
 measure-is g u m h = measure-holds measuring g (IsMeasure g) (IsSum g) (IsMeasure-prop g) (IsSum-none g) (IsSum-beside g) (IsMeasure-around g) u m h

@@ -16,13 +16,13 @@ use Rattle.lh_unit.specs.declared.inst.InstId.{InstId}
 use Rattle.lh_unit.specs.declared.inst.ValueId.{ValueId}
 use Rattle.lh_unit.specs.declared.inst.Inst.{Inst}
 use Rattle.lh_unit.specs.declared.inst.Inst.TheVariants as inst
-use Rattle.lh_unit.specs.declared.table.Line.{Line}
+use Rattle.lh_unit.specs.declared.table.TableLine.{TableLine}
 use Rattle.lh_unit.proofs.Lists.{Same, same, other, same_or, nat_eq-refl, nat_eq-other, or_true}
 use Rattle.lh_unit.proofs.Defined.{blocks-within}
 use Rattle.lh_unit.proofs.ById.{block_of-by_id}
 use Rattle.lh_unit.proofs.ModuleLaws.{line-placed}
 use Rattle.lh_flat.specs.declared.rename.Renaming.{Renaming}
-use Rattle.lh_flat.specs.declared.build.Text.{Text}
+use Rattle.lh_flat.specs.declared.build.FlatBuilder.{FlatBuilder}
 use Rattle.lh_flat.specs.Calls.{callees, callees_of, nest_deeper}
 use Rattle.lh_flat.specs.Copies.{Copy, copy_at, argument_or, first_piece, last_piece, last_piece_of}
 use Rattle.lh_flat.specs.Flat.{FlatBlockText, merge_of, given_in, given_by, first_label, branch_into, flat_block, flat_copy}
@@ -182,7 +182,7 @@ module _ (a : Arena) (o : IsArena a) (fs : List UnitText) (formed : UnitsAreRigh
   pub calls-read : (depth : ℕ) → CallsRead a fs g (call_added depth a) (flat_copy depth fs) (copy_names depth a) (nests_below depth fs)
   calls-read zero u c r i f path t k e ok n hl hb hv = cc
   calls-read (suc j) u c r i f path t k e ok n hl hb hv =
-      let l : Line = line_of a u i in
+      let l : TableLine = line_of a u i in
       let d : Copy = copy_at path (arg_names c (line_text_of a u i).inst) (unit_text_at a f.0) in
       let copies : List FlatBlockText = flat_copy (suc j) fs d in
       let q : Renaming = call_ids (call_room j a) a f r l t in
@@ -202,7 +202,7 @@ module _ (a : Arena) (o : IsArena a) (fs : List UnitText) (formed : UnitsAreRigh
       (λ v w. values-named a o f.0 ok.within g path t.values (call_args r l.inst) v (length-new_ids t.values (value_count a f.0)) starts.values w
       ∙ ap (λ xs. argument_or (map (arg_text (naming a f.0)) (args_at a f.0)) xs (path ++ value_name_at a f.0 v.0) (value_name_at a f.0 v.0)) (call_args-named a fs g u c r k l.inst
       (line-placed a u i.0 o))) in
-      let s : Text = entering a f t in
+      let s : FlatBuilder = entering a f t in
       let B : FlatBlockText = record {
         label = g.label_name (length t.blocks);
         merge = option_map (merge_text g) t.current.merge;
@@ -218,7 +218,7 @@ module _ (a : Arena) (o : IsArena a) (fs : List UnitText) (formed : UnitsAreRigh
       blocks-read a o fs g (call_added j a) (flat_copy j fs) (copy_names j a) (nests_below j fs) (calls-read j) f.0 d q m (blocks_at a f.0) (formed f.0 ok.within ok.blocks) starts.nests s refl
       (moved g.label_name (length t.blocks + 1) (length s.blocks) (labels copies) (sym long) hl)
       (moved g.value_name (t.values + length own) s.values inner (ap (λ x. t.values + x) (length-map (table_at a f.0).values (λ x. path ++ x))) (named-right g.value_name t.values own inner names)) in
-      let z : Text = blocks_added (call_added j a) a f.0 q (blocks_at a f.0) s in
+      let z : FlatBuilder = blocks_added (call_added j a) a f.0 q (blocks_at a f.0) s in
       subst (λ x. CallReads fs g c d (line_text_of a u i) copies (copy_names (suc j) a f path) t x) (sym (call_added-next j a f r l t)) record {
         blocks = inside.blocks ∙ ap (λ xs. xs ++ copies) entered ∙ append_assoc (read g t.blocks) (B ∷ []) copies;
         merge = merge-named u c d r q f.0 i k m (each-block (λ b. g.label_name (last_in q b).0 ≡ last_piece fs d (block_text (naming a f.0) (table_at a f.0) b)) (blocks_at a f.0) (blocks_at a f.0)

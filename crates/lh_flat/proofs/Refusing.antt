@@ -25,7 +25,7 @@ use Rattle.lh_unit.proofs.Lists.{nat_eq-is, nat_eq-refl}
 use Rattle.lh_verify_laws.specs.Graphs.{IsIn}
 use Rattle.lh_verify_laws.proofs.Graphs.{item_units, in-units}
 use Rattle.lh_flat.specs.declared.calls.CallNode.{CallNode}
-use Rattle.lh_flat.specs.declared.measure.Measure.{Measure}
+use Rattle.lh_flat.specs.declared.measure.CallMeasure.{CallMeasure}
 use Rattle.lh_flat.specs.Calls.{callees, recursion_from, nest_deeper}
 use Rattle.lh_flat.specs.Copies.{top_copy}
 use Rattle.lh_flat.specs.Flat.{max_nested, max_flat, inst_count, text_of, refused, flattened, recursive_call, call_too_deep, flat_too_large, flattened_by, flat_in, flat_of}
@@ -235,7 +235,7 @@ module _ (a : Arena) (g : List CallNode) (top : ℕ) (o : IsArena a) (f : IsFaul
 
   -- ---- depth and length
 
-  module _ (m : Measure) (w : Measures measuring g top (Ok m)) where
+  module _ (m : CallMeasure) (w : Measures measuring g top (Ok m)) where
     counts : IsMeasure g top m
     counts = measure-is g top m w.1
 

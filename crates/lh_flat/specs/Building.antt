@@ -12,19 +12,19 @@ use Rattle.lh_unit.specs.declared.inst.Typed.{Typed}
 use Rattle.lh_unit.specs.declared.inst.Arg.{Arg}
 use Rattle.lh_unit.specs.declared.inst.Inst.{Inst}
 use Rattle.lh_unit.specs.declared.inst.Inst.TheVariants as inst
-use Rattle.lh_unit.specs.declared.table.Line.{Line}
+use Rattle.lh_unit.specs.declared.table.TableLine.{TableLine}
 use Rattle.lh_flat.specs.declared.flat.MergeEdge.{MergeEdge}
 use Rattle.lh_flat.specs.declared.flat.Merge.{Merge}
 use Rattle.lh_flat.specs.declared.flat.FlatInst.{FlatInst}
 use Rattle.lh_flat.specs.declared.flat.FlatBlock.{FlatBlock}
 use Rattle.lh_flat.specs.declared.rename.Span.{Span}
 use Rattle.lh_flat.specs.declared.rename.Renaming.{Renaming}
-use Rattle.lh_flat.specs.declared.build.Text.{Text}
+use Rattle.lh_flat.specs.declared.build.FlatBuilder.{FlatBuilder}
 use Rattle.lh_flat.specs.Graph.{callee_of}
 use Rattle.lh_flat.specs.Renames.{no_span, value_in, last_in, renamed}
 
 -- the instruction i of the unit u, with its result
-abbrev pub line_of : Arena → (u : ℕ) → InstId → Line
+abbrev pub line_of : Arena → (u : ℕ) → InstId → TableLine
 line_of a u i = line_at (table_at a u) i.0
 
 -- how many blocks the calls of these instructions add to their own
@@ -107,27 +107,27 @@ abbrev pub no_block : FlatBlock
 no_block = record { merge = None; insts = [] }
 
 -- a text in which nothing stands yet, where this many ids of values are given
-abbrev pub no_text : ℕ → Text
+abbrev pub no_text : ℕ → FlatBuilder
 no_text n = record { blocks = []; current = no_block; values = n }
 
 -- the open block is complete
-abbrev pub put : Text → Text
+abbrev pub put : FlatBuilder → FlatBuilder
 put t = record { blocks = t.blocks ++ t.current ∷ []; current = no_block; values = t.values }
 
 -- one more instruction in the open block
-abbrev pub taken : FlatInst → Text → Text
+abbrev pub taken : FlatInst → FlatBuilder → FlatBuilder
 taken i t = record { blocks = t.blocks; current = record { merge = t.current.merge; insts = t.current.insts ++ i ∷ [] }; values = t.values }
 
 -- as many more ids of values
-abbrev pub with_values : ℕ → Text → Text
+abbrev pub with_values : ℕ → FlatBuilder → FlatBuilder
 with_values n t = record { blocks = t.blocks; current = t.current; values = t.values + n }
 
 -- what the open block begins with
-abbrev pub merging : Option Merge → Text → Text
+abbrev pub merging : Option Merge → FlatBuilder → FlatBuilder
 merging m t = record { blocks = t.blocks; current = record { merge = m; insts = t.current.insts }; values = t.values }
 
 -- an instruction in a copy
-abbrev pub line_in : Renaming → Line → FlatInst
+abbrev pub line_in : Renaming → TableLine → FlatInst
 line_in r l = record { result = option_map (value_in r) l.result; inst = renamed r l.inst }
 
 -- a branch
@@ -135,37 +135,37 @@ abbrev pub branch_to : ℕ → FlatInst
 branch_to k = record { result = None; inst = inst.Br (record { 0 = k }) }
 
 -- one instruction of a copy is added, or the copy of the function that it calls
-abbrev pub line_added : (called : UnitId → Renaming → Line → Text → Text) → Renaming → Line → Option UnitId → Text → Text
+abbrev pub line_added : (called : UnitId → Renaming → TableLine → FlatBuilder → FlatBuilder) → Renaming → TableLine → Option UnitId → FlatBuilder → FlatBuilder
 line_added called r l None t = taken (line_in r l) t
 line_added called r l (Some f) t = called f r l t
 
-abbrev pub insts_added : (called : UnitId → Renaming → Line → Text → Text) → Arena → (u : ℕ) → Renaming → List InstId → Text → Text
+abbrev pub insts_added : (called : UnitId → Renaming → TableLine → FlatBuilder → FlatBuilder) → Arena → (u : ℕ) → Renaming → List InstId → FlatBuilder → FlatBuilder
 insts_added called a u r [] t = t
 insts_added called a u r (i ∷ more) t = insts_added called a u r more (line_added called r (line_of a u i) (callee_of a (line_of a u i).inst) t)
 
 -- the pieces of a block are added, with the copies between them
-abbrev pub block_added : (called : UnitId → Renaming → Line → Text → Text) → Arena → (u : ℕ) → Renaming → BlockId → Text → Text
+abbrev pub block_added : (called : UnitId → Renaming → TableLine → FlatBuilder → FlatBuilder) → Arena → (u : ℕ) → Renaming → BlockId → FlatBuilder → FlatBuilder
 block_added called a u r b t = put (insts_added called a u r (insts_at (table_at a u) b.0) t)
 
-abbrev pub blocks_added : (called : UnitId → Renaming → Line → Text → Text) → Arena → (u : ℕ) → Renaming → List BlockId → Text → Text
+abbrev pub blocks_added : (called : UnitId → Renaming → TableLine → FlatBuilder → FlatBuilder) → Arena → (u : ℕ) → Renaming → List BlockId → FlatBuilder → FlatBuilder
 blocks_added called a u r [] t = t
 blocks_added called a u r (b ∷ more) t = blocks_added called a u r more (block_added called a u r b t)
 
 -- the new ids of the copy for a call: its entry stands behind the open block, and it goes back to the block behind its own
-abbrev pub call_ids : (room : Option UnitId → ℕ) → Arena → UnitId → Renaming → Line → Text → Renaming
+abbrev pub call_ids : (room : Option UnitId → ℕ) → Arena → UnitId → Renaming → TableLine → FlatBuilder → Renaming
 call_ids room a f r l t = ids_for room a f.0 (call_args r l.inst) (length t.blocks + 1) t.values (length t.blocks + 1 + unit_room room a f.0)
 
 -- the open block leads into the copy, and the values of that have ids
-abbrev pub entering : Arena → UnitId → Text → Text
+abbrev pub entering : Arena → UnitId → FlatBuilder → FlatBuilder
 entering a f t = with_values (value_count a f.0) (put (taken (branch_to (length t.blocks + 1)) t))
 
 -- A call is replaced by a copy, in which at most `depth` calls nest less one: the open block ends, the copy's blocks follow, and a block is open that begins with what they give back.
-unfoldable pub call_added : (depth : ℕ) → Arena → UnitId → Renaming → Line → Text → Text
+unfoldable pub call_added : (depth : ℕ) → Arena → UnitId → Renaming → TableLine → FlatBuilder → FlatBuilder
 call_added zero a f r l t = t
 call_added (suc k) a f r l t =
     merging (merge_in r (blocks_give a f.0 (call_ids (call_room k a) a f r l t) (blocks_at a f.0)) l.inst l.result)
     (blocks_added (call_added k a) a f.0 (call_ids (call_room k a) a f r l t) (blocks_at a f.0) (entering a f t))
 
 -- the blocks of a unit are added, in which at most `depth` calls nest
-abbrev pub unit_added : (depth : ℕ) → Arena → (u : ℕ) → Renaming → Text → Text
+abbrev pub unit_added : (depth : ℕ) → Arena → (u : ℕ) → Renaming → FlatBuilder → FlatBuilder
 unit_added depth a u r t = blocks_added (call_added depth a) a u r (blocks_at a u) t

@@ -3,7 +3,7 @@ use Rattle.std.specs.Prelude.{◌≡◌, ℕ, []}
 use Rattle.lh_unit.specs.Arena.{Arena, args_at, value_count}
 use Rattle.lh_flat.specs.declared.flat.Flat.{Flat}
 use Rattle.lh_flat.specs.declared.rename.Renaming.{Renaming}
-use Rattle.lh_flat.specs.declared.build.Text.{Text}
+use Rattle.lh_flat.specs.declared.build.FlatBuilder.{FlatBuilder}
 use Rattle.lh_flat.specs.Building.{call_room, ids_for, no_text, unit_added}
 use Rattle.lh_flat.specs.Flat.{max_nested}
 
@@ -12,7 +12,7 @@ abbrev pub top_ids : Arena → (u : ℕ) → Renaming
 top_ids a u = ids_for (call_room max_nested a) a u [] 0 0 0
 
 -- all that is built for it
-abbrev pub top_text : Arena → (u : ℕ) → Text
+abbrev pub top_text : Arena → (u : ℕ) → FlatBuilder
 top_text a u = unit_added max_nested a u (top_ids a u) (no_text (value_count a u))
 
 -- the flat text that is made

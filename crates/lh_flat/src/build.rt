@@ -9,14 +9,14 @@ use crate::calls::callee;
 use crate::copy::{CopyPlace, UnitCopy};
 use crate::flat::{FlatBlock, FlatBlockList, FlatInst, Merge};
 use crate::layout::{plus, unit_room};
-use lh_types::ty::NoMemory;
+use lh_types::memory::NoMemory;
 use lh_unit::inst::{BlockId, Inst, InstId, UnitId};
 use std::alloc::Global;
 use std::mem;
 
 /// A flat text while it is built.
 #[derive(Drop)]
-pub struct Text {
+pub struct FlatBuilder {
     /// The blocks that are complete.
     pub blocks: FlatBlockList,
     /// The block that is open.
@@ -25,12 +25,12 @@ pub struct Text {
     pub values: u32,
 }
 
-impl Text {
+impl FlatBuilder {
     /// A text in which nothing stands yet, where this many ids of values are given.
-    pub fn new(alloc: Global, values: u32) -> Text
+    pub fn new(alloc: Global, values: u32) -> FlatBuilder
         ensures { result ≡ no_text values }
     {
-        Text {
+        FlatBuilder {
             blocks: FlatBlockList::new(alloc),
             current: FlatBlock::new(alloc),
             values,

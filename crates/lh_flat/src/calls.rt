@@ -4,7 +4,7 @@ ghost use Rattle.lh_unit.specs.Arena.{IsArena, InstPlaced, unit_count};
 ghost use Rattle.lh_flat.specs.Graph.{no_node, called_of, callee_of, CalleeWithin, with_inst, with_block, node_of, BlockPlaced, IsGraph, counted};
 
 use lh_types::list::ListOf;
-use lh_types::ty::NoMemory;
+use lh_types::memory::NoMemory;
 use lh_unit::inst::{BlockId, Inst, UnitId};
 use lh_unit::module::Module;
 use lh_unit::view::UnitView;

@@ -12,7 +12,7 @@ use crate::flat::{FlatInst, Merge, MergeEdge, MergeList};
 use crate::layout::{layout, plus};
 use crate::rename::Renaming;
 use lh_types::list::ListOf;
-use lh_types::ty::NoMemory;
+use lh_types::memory::NoMemory;
 use lh_unit::inst::{Arg, BlockId, Inst, InstId, ValueId, ValueIdList};
 use lh_unit::view::UnitView;
 use std::alloc::Global;

@@ -11,18 +11,18 @@ ghost use Rattle.lh_flat.specs.Made.{IsMade, top_text};
 ghost use Rattle.lh_flat.specs.Below.{IdsBelow};
 ghost use Rattle.lh_flat.specs.Reads.{Flattens};
 
-use crate::build::Text;
+use crate::build::FlatBuilder;
 use crate::calls::{CallNode, graph};
 use crate::copy::{CopyPlace, UnitCopy};
 use crate::fault::FlatFault;
 use crate::flat::{ArgList, Flat};
-use crate::measure::Measure;
+use crate::measure::CallMeasure;
 use crate::named::read_names;
-use lh_types::ty::NoMemory;
+use lh_types::memory::NoMemory;
 use lh_unit::inst::{Arg, UnitId};
 use lh_unit::module::Module;
 use lh_unit::view::UnitView;
-use lh_unit_graph::Search;
+use lh_unit_graph::UnitSearch;
 use std::alloc::Global;
 
 /// How many calls may nest.
@@ -53,7 +53,7 @@ pub struct Flattener<'m> {
     alloc: Global,
     m: &'m Module,
     nodes: Vec<CallNode>,
-    search: Search<Measure>,
+    search: UnitSearch<CallMeasure>,
     ghost graph: { IsGraph m.now nodes.items },
     ghost settled: { IsSettled measuring nodes.items search },
     ghost named: { UnitsAreNamed m.now },
@@ -66,7 +66,7 @@ impl<'m> Flattener<'m> {
     {
         read_names(m);
         let nodes = graph(alloc, m)?;
-        let search = Search::new(alloc, nodes.len())?;
+        let search = UnitSearch::new(alloc, nodes.len())?;
         Ok(Flattener {
             alloc,
             m,
@@ -113,7 +113,7 @@ fn made(alloc: Global, view: UnitView<'_>) -> Result<Flat, NoMemory>
 }
 
 /// The text of a process with its calls replaced.
-fn text_of(alloc: Global, view: UnitView<'_>) -> Result<Text, NoMemory>
+fn text_of(alloc: Global, view: UnitView<'_>) -> Result<FlatBuilder, NoMemory>
     ensures { IfOk result (λ text. text ≡ top_text view.entry.module.now view.entry.unit.0) }
 {
     let place = CopyPlace {
@@ -122,7 +122,7 @@ fn text_of(alloc: Global, view: UnitView<'_>) -> Result<Text, NoMemory>
         back: 0,
     };
     let copy = UnitCopy::new(alloc, MAX_NESTED, view, &[], place)?;
-    let mut text = Text::new(alloc, view.values());
+    let mut text = FlatBuilder::new(alloc, view.values());
     let added = text.add_unit(MAX_NESTED, &copy);
     drop(copy);
     match added {
@@ -135,12 +135,12 @@ fn text_of(alloc: Global, view: UnitView<'_>) -> Result<Text, NoMemory>
 }
 
 /// A text with its arguments.
-fn flat_of(args: ArgList, text: Text) -> Flat
+fn flat_of(args: ArgList, text: FlatBuilder) -> Flat
     ensures args { result.args ≡ args }
     ensures blocks { result.blocks ≡ text.blocks }
     ensures values { result.values ≡ text.values }
 {
-    let Text { blocks, values, .. } = text;
+    let FlatBuilder { blocks, values, .. } = text;
     Flat {
         args,
         blocks,

@@ -8,7 +8,7 @@ ghost use Rattle.lh_flat.specs.Renames.{no_span};
 use crate::calls::callee;
 use crate::rename::{Span, SpanList};
 use lh_types::list::ListOf;
-use lh_types::ty::NoMemory;
+use lh_types::memory::NoMemory;
 use lh_unit::inst::{BlockId, UnitId};
 use lh_unit::module::Module;
 use lh_unit::view::UnitView;

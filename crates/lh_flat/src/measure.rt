@@ -8,7 +8,7 @@ use lh_unit_graph::Measured;
 /// What is counted of copies of units: of one with all that is copied into it, or of some beside each other. Each number stands still
 /// at its type's end.
 #[derive(Clone, Copy)]
-pub struct Measure {
+pub struct CallMeasure {
     /// How many units nest.
     pub depth: u32,
     /// How many instructions they have.
@@ -17,7 +17,7 @@ pub struct Measure {
     pub blocks: u32,
 }
 
-impl Measured for Measure {
+impl Measured for CallMeasure {
     type Node = CallNode;
 
     ghost measuring = { measuring };
@@ -28,8 +28,8 @@ impl Measured for Measure {
     }
 
     /// No copy.
-    fn nothing() -> Measure {
-        Measure {
+    fn nothing() -> CallMeasure {
+        CallMeasure {
             depth: 0,
             insts: 0,
             blocks: 0,
@@ -37,8 +37,8 @@ impl Measured for Measure {
     }
 
     /// These copies, and others beside them.
-    fn beside(self, other: Measure) -> Measure {
-        Measure {
+    fn beside(self, other: CallMeasure) -> CallMeasure {
+        CallMeasure {
             depth: self.depth.max(other.depth),
             insts: counted(self.insts, other.insts),
             blocks: counted(self.blocks, other.blocks),
@@ -46,8 +46,8 @@ impl Measured for Measure {
     }
 
     /// A copy of a unit that has these in it.
-    fn around(self, unit: &CallNode) -> Measure {
-        Measure {
+    fn around(self, unit: &CallNode) -> CallMeasure {
+        CallMeasure {
             depth: counted(1, self.depth),
             insts: counted(unit.insts, self.insts),
             blocks: counted(unit.blocks, self.blocks),

@@ -8,8 +8,9 @@ ghost use Rattle.lh_unit.specs.declared.inst.ValueId.{ValueId as Id};
 ghost use Rattle.lh_flat.specs.Renames.{no_span, value_in, span_in, first_in, last_in, operand_in, edge_in, renamed, sizes_in, max_units};
 
 use lh_types::list::ListOf;
+use lh_types::memory::NoMemory;
 use lh_types::op::Op;
-use lh_types::ty::{NoMemory, Ty};
+use lh_types::ty::Ty;
 use lh_unit::inst::{
     BlockId, Inst, OperandList, PhiEdge, PhiEdgeList, Typed, TypedList, UnitId, ValueId,
     ValueIdList,

@@ -8,7 +8,7 @@ ghost use Rattle.lh_flat.specs.Below.{ValuesBelow};
 use crate::step::{PartStep, stepped};
 use crate::table::Steps;
 use lh_term::part::Part;
-use lh_types::ty::NoMemory;
+use lh_types::memory::NoMemory;
 use lh_unit::inst::ValueId;
 use std::alloc::Global;
 

@@ -8,9 +8,10 @@ ghost use Rattle.lh_unit.specs.Effects.{step_of};
 ghost use Rattle.lh_flat_parts.specs.Steps as spec;
 
 use lh_term::part::Part;
+use lh_types::memory::NoMemory;
 use lh_types::op::Op;
 use lh_types::part::{Range, Step, range_of};
-use lh_types::ty::{NoMemory, Ty, TyKind};
+use lh_types::ty::{Ty, TyKind};
 use lh_unit::inst::{Inst, OperandList, Typed, ValueId};
 
 /// A step from one signal to a part of it: the value that it starts from, the operation, and the type of the part.

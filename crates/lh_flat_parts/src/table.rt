@@ -14,7 +14,8 @@ use crate::resolve::resolved;
 use crate::step::{PartStep, step_in};
 use lh_flat::{Flat, FlatBlock, FlatInst};
 use lh_term::part::Part;
-use lh_types::ty::{NoMemory, Ty, TyKind};
+use lh_types::memory::NoMemory;
+use lh_types::ty::{Ty, TyKind};
 use lh_unit::inst::{Arg, ValueId};
 use std::alloc::Global;
 

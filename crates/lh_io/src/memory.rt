@@ -4,7 +4,7 @@ ghost use Rattle.lh_types.specs.Raised.{raised};
 ghost use Rattle.lh_io.specs.Streams.{Rose, FillsFront, Appends};
 
 use crate::stream::{Failed, Sink, Source};
-use lh_types::ty::NoMemory;
+use lh_types::memory::NoMemory;
 use std::alloc::Global;
 use std::marker::Model;
 

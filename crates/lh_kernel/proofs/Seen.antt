@@ -7,7 +7,7 @@ use Rattle.lh_types.specs.Types.{IsData, bit_count}
 use Rattle.lh_types.specs.ValueOf.{datum_of}
 use Rattle.lh_types.specs.Bits.{value_from_bits}
 use Rattle.lh_types.specs.declared.val.Val.{Val}
-use Rattle.lh_types.specs.declared.ty.NoMemory.{NoMemory}
+use Rattle.lh_types.specs.declared.memory.NoMemory.{NoMemory}
 use Rattle.lh_unit.specs.Design as text
 use Rattle.lh_unit.specs.Trace.{signal_value}
 use Rattle.lh_kernel_wakes.specs.Rising.{IsOneOf}

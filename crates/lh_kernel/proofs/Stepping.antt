@@ -3,7 +3,7 @@ use Rattle.std.proofs.Common.{◌≡◌, ℕ, List, Bool, true, false, Option, S
 use Rattle.lh_time.specs.declared.Instant.{Instant}
 use Rattle.lh_types.specs.History.{bits_at}
 use Rattle.lh_types.specs.declared.frame.Frame.{Frame}
-use Rattle.lh_types.specs.declared.ty.NoMemory.{NoMemory}
+use Rattle.lh_types.specs.declared.memory.NoMemory.{NoMemory}
 use Rattle.lh_unit.specs.World.{World, next_instant}
 use Rattle.lh_kernel.specs.declared.machine.SimState.{SimState}
 use Rattle.lh_kernel.specs.declared.sim.SimStep.{SimStep}

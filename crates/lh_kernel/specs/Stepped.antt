@@ -5,7 +5,7 @@ use Rattle.lh_types.specs.Raised.{raised}
 use Rattle.lh_types.specs.Pictures.{Picture, picture}
 use Rattle.lh_types.specs.History.{bits_at}
 use Rattle.lh_types.specs.declared.frame.Frame.{Frame}
-use Rattle.lh_types.specs.declared.ty.NoMemory.{NoMemory}
+use Rattle.lh_types.specs.declared.memory.NoMemory.{NoMemory}
 use Rattle.lh_unit.specs.Contents.{ItemText}
 use Rattle.lh_unit.specs.Arena.{contents}
 use Rattle.lh_unit.specs.Design as text

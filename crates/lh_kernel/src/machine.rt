@@ -28,9 +28,9 @@ use lh_kernel_wakes::rising::Rising;
 use lh_queue::queue::Queue;
 use lh_time::Instant;
 use lh_types::frame::Frame;
+use lh_types::memory::NoMemory;
 use lh_types::part::RangeList;
 use lh_types::tally::Tally;
-use lh_types::ty::NoMemory;
 use lh_unit::module::Module;
 use std::alloc::Global;
 

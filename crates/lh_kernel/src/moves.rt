@@ -16,8 +16,8 @@ use lh_kernel_changes::signals::signals_of;
 use lh_kernel_states::state::InstState;
 use lh_kernel_wakes::rising::Rising;
 use lh_time::Instant;
+use lh_types::memory::NoMemory;
 use lh_types::part::{Range, RangeList};
-use lh_types::ty::NoMemory;
 use std::alloc::Global;
 
 /// What changes of what is noted where these instances did this. Nothing does of an entity: it senses what it probes.

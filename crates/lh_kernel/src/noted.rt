@@ -9,7 +9,7 @@ use lh_kernel_wakes::rising::Rising;
 use lh_kernel_wakes::sensing::Index;
 use lh_kernel_wakes::wakes::Wakes;
 use lh_time::Instant;
-use lh_types::ty::NoMemory;
+use lh_types::memory::NoMemory;
 
 /// Which instances sense each signal, and when instances wake by themselves.
 #[derive(Drop)]

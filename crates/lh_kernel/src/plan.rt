@@ -21,8 +21,8 @@ use lh_kernel_changes::changes::{all_changes, changes_among};
 use lh_kernel_wakes::rising::Rising;
 use lh_time::Instant;
 use lh_types::frame::{ChangeList, Frame};
+use lh_types::memory::NoMemory;
 use lh_types::tally::Tally;
-use lh_types::ty::NoMemory;
 use std::alloc::Global;
 
 /// A frame, and what it brings: what its instances did, what of what is noted moves, how many wishes are made, and who ran away.

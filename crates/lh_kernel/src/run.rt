@@ -17,8 +17,8 @@ use lh_kernel_states::runs::{InstAct, run_instance};
 use lh_kernel_states::state::InstState;
 use lh_time::Instant;
 use lh_types::frame::{Outcome, OutcomeList};
+use lh_types::memory::NoMemory;
 use lh_types::tally::Tally;
-use lh_types::ty::NoMemory;
 use lh_unit::module::Module;
 use std::alloc::Global;
 

@@ -26,8 +26,8 @@ use lh_kernel_states::state::InstState;
 use lh_kernel_wakes::sensing::Index;
 use lh_kernel_wakes::wakes::Wakes;
 use lh_queue::queue::Queue;
+use lh_types::memory::NoMemory;
 use lh_types::part::RangeList;
-use lh_types::ty::NoMemory;
 use lh_unit::module::Module;
 use std::alloc::Global;
 

@@ -11,7 +11,7 @@ use lh_kernel_wakes::rising::Rising;
 use lh_queue::queue::{Bucket, Queue};
 use lh_queue::wish::Wish;
 use lh_time::Instant;
-use lh_types::ty::NoMemory;
+use lh_types::memory::NoMemory;
 use std::alloc::Global;
 
 /// The signals that the wishes due at an instant may change. None may be due before it. The work grows with these wishes alone.

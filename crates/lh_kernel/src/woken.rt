@@ -14,8 +14,8 @@ use lh_kernel_changes::differ::{changed_part, differs_with};
 use lh_kernel_states::state::InstState;
 use lh_kernel_wakes::rising::Rising;
 use lh_time::Instant;
+use lh_types::memory::NoMemory;
 use lh_types::part::RangeList;
-use lh_types::ty::NoMemory;
 use std::alloc::Global;
 
 /// What a frame is woken by: the design with what is kept and noted of its instances.

@@ -14,7 +14,8 @@ use lh_bits::layout::from_bits;
 use lh_design::{Design, Signal};
 use lh_kernel_wakes::rising::Rising;
 use lh_types::frame::{Change, ChangeList};
-use lh_types::ty::{NoMemory, bits};
+use lh_types::memory::NoMemory;
+use lh_types::ty::bits;
 use std::alloc::Global;
 
 /// The changes of the first frame: every signal with its value, and no bit counted as toggled.

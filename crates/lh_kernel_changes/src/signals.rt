@@ -8,8 +8,9 @@ ghost use Rattle.lh_kernel_changes.specs.Touched.{HasBit, AreTouched, TouchesMor
 use lh_bits::writes::BitWrites;
 use lh_design::Design;
 use lh_kernel_wakes::rising::Rising;
+use lh_types::memory::NoMemory;
 use lh_types::part::Range;
-use lh_types::ty::{NoMemory, bits};
+use lh_types::ty::bits;
 use std::alloc::Global;
 
 /// So many signals are looked at before all are searched.

@@ -9,8 +9,8 @@ ghost use Rattle.lh_kernel_states.specs.States.{StateIs, StateFits, parts_sensed
 use lh_exec::ProcState;
 use lh_react::EntState;
 use lh_time::Instant;
+use lh_types::memory::NoMemory;
 use lh_types::part::{Range, RangeList};
-use lh_types::ty::NoMemory;
 use lh_unit::inst::{UnitId, UnitKind};
 use lh_unit::module::Module;
 use std::alloc::Global;

@@ -3,7 +3,7 @@ ghost use Rattle.std.specs.Prelude.{◌≡◌, ◌<◌, ◌≤◌, ◌-◌, [], 
 ghost use Rattle.std.specs.List.{insert};
 ghost use Rattle.lh_kernel_wakes.specs.Rising.{IsOneOf, IsRising, HasOneMore, HasOneLess};
 
-use lh_types::ty::NoMemory;
+use lh_types::memory::NoMemory;
 use std::alloc::Global;
 use std::marker::Model;
 

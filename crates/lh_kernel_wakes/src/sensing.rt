@@ -4,7 +4,7 @@ ghost use Rattle.lh_kernel_wakes.specs.Rising.{IsOneOf, IsRising};
 ghost use Rattle.lh_kernel_wakes.specs.Sensed.{sensed_by, Senses, SensesOneMore, SensesOneLess};
 
 use crate::rising::Rising;
-use lh_types::ty::NoMemory;
+use lh_types::memory::NoMemory;
 use std::alloc::Global;
 use std::marker::Model;
 

@@ -4,7 +4,7 @@ ghost use Rattle.lh_time.specs.Order.{instant_le, instant_eq};
 ghost use Rattle.lh_kernel_wakes.specs.Waking.{IsNoted, NotesOneMore, NotesOneLess, IsSoonest, AreDue};
 
 use lh_time::Instant;
-use lh_types::ty::NoMemory;
+use lh_types::memory::NoMemory;
 use std::alloc::Global;
 use std::collections::BTreeSet;
 use std::marker::Model;

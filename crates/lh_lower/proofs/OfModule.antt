@@ -21,7 +21,7 @@ use Rattle.lh_flat.specs.declared.flat.Flat.{Flat}
 use Rattle.lh_flat.specs.declared.fault.FlatFault.{FlatFault}
 use Rattle.lh_flat_parts.specs.declared.table.PartTable.{PartTable}
 use Rattle.lh_flat_parts.specs.Steps.{IsPartTable}
-use Rattle.lh_term.specs.declared.term.Node.{Node}
+use Rattle.lh_term.specs.declared.term.TermNode.{TermNode}
 use Rattle.lh_region.specs.Forms.{Names, HasForm}
 use Rattle.lh_region_walk.proofs.HavingSteps.{has-steps}
 use Rattle.lh_shape.specs.Answers.{IsShape}
@@ -35,8 +35,8 @@ use Rattle.lh_lower_def.specs.Lowering as text
 use Rattle.lh_entity_laws.specs.Given.{CombIsGiven, EdgeIsGiven, OnceIsGiven}
 use Rattle.lh_entity_laws.proofs.Few.{unit-args-few}
 use Rattle.lh_lower.specs.Outcomes.{IsOutcome, IsOutcomeAt, HasArgs, CanEmit, IsOutcomeOf, IsOutcomeBy}
-use Rattle.lh_lower.specs.declared.outcome.Outcome.{Outcome}
-use Rattle.lh_lower.specs.declared.outcome.Outcome.TheVariants as outcome
+use Rattle.lh_lower.specs.declared.outcome.ProcessOutcome.{ProcessOutcome}
+use Rattle.lh_lower.specs.declared.outcome.ProcessOutcome.TheVariants as outcome
 use Rattle.lh_lower.proofs.Outcomes.{has-shape}
 
 -- the names of arguments by ids
@@ -80,7 +80,7 @@ module _ (a : Arena) (u : ℕ) where
     pub has-args : (ns : List (List ℕ)) → ns ≡ map (λ (b : ArgText). b.name) x.args → HasArgs ns t
     has-args ns e = record { below = below; naming = read.naming; is = names; named = e ∙ ap (map (λ (b : ArgText). b.name)) same-args; few = few }
 
-    pub outcome-at : (ns : List (List ℕ)) (y : Outcome) → ns ≡ map (λ (b : ArgText). b.name) x.args → IsOutcomeBy ns t y → IsOutcomeAt a u y
+    pub outcome-at : (ns : List (List ℕ)) (y : ProcessOutcome) → ns ≡ map (λ (b : ArgText). b.name) x.args → IsOutcomeBy ns t y → IsOutcomeAt a u y
     outcome-at ns y e h = subst (λ (z : Flattened). IsOutcome x (text.outcome_of_text x z) y) (sym (fl.1 ∙ ap flattened (sym read.says))) (h x read.naming names same-args once few-args e)
 
 -- ---- a flat text
@@ -88,7 +88,7 @@ module _ (a : Arena) (u : ℕ) where
 pub has-form : (ns : List (List ℕ)) (t : Flat) → HasArgs ns t → HasForm t
 has-form ns t h = record { below = h.below; naming = h.naming; names = h.is }
 
-module _ (combs : CombIsGiven) (edges : EdgeIsGiven) (onces : OnceIsGiven) (ns : List Node) (o : Origin) (h : HasArgs o.names o.flat.now) (table : IsPartTable o.flat.now o.parts.now)
+module _ (combs : CombIsGiven) (edges : EdgeIsGiven) (onces : OnceIsGiven) (ns : List TermNode) (o : Origin) (h : HasArgs o.names o.flat.now) (table : IsPartTable o.flat.now o.parts.now)
     (firsts : AreFirsts o) (s : Shape)
     (is : (f : Naming) → Names o.flat.now f → IsShape ns s (shape_of_text (flat_text f o.flat.now))) where
   origin-by : (f : Naming) → Names o.flat.now f → o.names ≡ map (λ (b : ArgText). b.name) (flat_text f o.flat.now).args → IsOrigin f o
@@ -113,12 +113,12 @@ module _ (combs : CombIsGiven) (edges : EdgeIsGiven) (onces : OnceIsGiven) (ns :
             (subst (λ (n : ℕ). n < 2 ^ 32) (sym (length-map o.flat.now.args (arg_text h.naming))) h.few) (is h.naming h.is);
       }
 
-  pub outcome-by : (y : Outcome) → IsOutcomeOf ns o s y → IsOutcomeBy o.names o.flat.now y
+  pub outcome-by : (y : ProcessOutcome) → IsOutcomeOf ns o s y → IsOutcomeBy o.names o.flat.now y
   outcome-by y k u f n args once few e = k u f (shape_of_text (flat_text f o.flat.now))
       (has-shape combs edges onces ns o s u f (origin-by f n (e ∙ ap (map (λ (b : ArgText). b.name)) args)) args once few (is f n))
 
 -- the same of an origin that was made of these
-module _ (combs : CombIsGiven) (edges : EdgeIsGiven) (onces : OnceIsGiven) (ns : List Node) (names : List (List ℕ)) (t : Flat) (p : PartTable) (h : HasArgs names t) (table : IsPartTable t p)
+module _ (combs : CombIsGiven) (edges : EdgeIsGiven) (onces : OnceIsGiven) (ns : List TermNode) (names : List (List ℕ)) (t : Flat) (p : PartTable) (h : HasArgs names t) (table : IsPartTable t p)
     (o : Origin) (same-flat : o.flat.now ≡ t) (same-parts : o.parts.now ≡ p)
     (same-names : o.names ≡ names) (firsts : AreFirsts o) (s : Shape) (is : (f : Naming) → Names t f → IsShape ns s (shape_of_text (flat_text f t))) where
   args-there : HasArgs o.names o.flat.now
@@ -133,7 +133,7 @@ module _ (combs : CombIsGiven) (edges : EdgeIsGiven) (onces : OnceIsGiven) (ns :
   pub can-emit-made : CanEmit ns o s
   can-emit-made = can-emit combs edges onces ns o args-there table-there firsts s shape-there
 
-  pub outcome-made : (y : Outcome) → IsOutcomeOf ns o s y → IsOutcomeBy names t y
+  pub outcome-made : (y : ProcessOutcome) → IsOutcomeOf ns o s y → IsOutcomeBy names t y
   outcome-made y k = subst (λ (xs : List (List ℕ)). IsOutcomeBy xs t y) same-names
       (subst (λ (z : Flat). IsOutcomeBy o.names z y) same-flat (outcome-by combs edges onces ns o args-there table-there firsts s shape-there y k))
 

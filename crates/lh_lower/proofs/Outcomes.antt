@@ -11,7 +11,7 @@ use Rattle.lh_flat_laws.specs.Formed.{IsFormed}
 use Rattle.lh_flat.specs.Flat.{FlatText, flat_unit}
 use Rattle.lh_flat.specs.Reads.{flat_text}
 use Rattle.lh_term.specs.declared.part.Part.{Part}
-use Rattle.lh_term.specs.declared.term.Node.{Node}
+use Rattle.lh_term.specs.declared.term.TermNode.{TermNode}
 use Rattle.lh_edge.specs.Triggers.{EdgeRowTree}
 use Rattle.lh_edge.specs.declared.triggers.EdgeRow.{EdgeRow}
 use Rattle.lh_region_def.specs.Rows.{Drive}
@@ -37,8 +37,8 @@ use Rattle.lh_lower_def.specs.Lowering as text
 use Rattle.lh_entity_laws.specs.Given.{source_in, CombIsGiven, EdgeIsGiven, OnceIsGiven}
 use Rattle.lh_lower.specs.Outcomes.{IsEntityBody}
 use Rattle.lh_lower.specs.Outcomes.{IsOutcome, IsOutcomeWith, IsShapeGiven, HasShape, CanEmit, IsOutcomeOf}
-use Rattle.lh_lower.specs.declared.outcome.Outcome.{Outcome}
-use Rattle.lh_lower.specs.declared.outcome.Outcome.TheVariants as outcome
+use Rattle.lh_lower.specs.declared.outcome.ProcessOutcome.{ProcessOutcome}
+use Rattle.lh_lower.specs.declared.outcome.ProcessOutcome.TheVariants as outcome
 
 -- ---- a body
 
@@ -62,17 +62,17 @@ is-body u b lines is r distinct = record {
   new_results = ap (results_repeat u.args []) (sym (append-nil lines)) ∙ r.right.new_results;
 }
 
-by-answer : (u : UnitText) (k : Kind) (x : Emission) (r : Result Body EmitFault) (o : Outcome) → BodyOrTooLarge u x r → IsOutcomeWith k r o
+by-answer : (u : UnitText) (k : Kind) (x : Emission) (r : Result Body EmitFault) (o : ProcessOutcome) → BodyOrTooLarge u x r → IsOutcomeWith k r o
     → ((lines : List LineText) → x ≡ emits (entity_with u lines) → IsRight u lines) → args_repeat [] u.args ≡ false
     → IsOutcome u (text.outcome_of_emission k x) o
-by-answer u k x (Ok b) o a w right distinct = subst (λ (y : Outcome). IsOutcome u (text.outcome_of_emission k x) y) (sym w)
+by-answer u k x (Ok b) o a w right distinct = subst (λ (y : ProcessOutcome). IsOutcome u (text.outcome_of_emission k x) y) (sym w)
     (a.0, ap (text.outcome_of_emission k) a.1, is-body u b a.0 a.2 (right a.0 a.1) distinct)
-by-answer u k x (Err emit.EntityTooLarge) o a w right distinct = subst (λ (y : Outcome). IsOutcome u (text.outcome_of_emission k x) y) (sym w) (ap (text.outcome_of_emission k) a)
+by-answer u k x (Err emit.EntityTooLarge) o a w right distinct = subst (λ (y : ProcessOutcome). IsOutcome u (text.outcome_of_emission k x) y) (sym w) (ap (text.outcome_of_emission k) a)
 by-answer u k x (Err emit.OutOfMemory) o a w right distinct = absurd w
 
 -- ---- a shape
 
-module _ (ns : List Node) (o : Origin) (u : UnitText) (f : Naming) where
+module _ (ns : List TermNode) (o : Origin) (u : UnitText) (f : Naming) where
   abbrev source : Source
   source = source_by u.name f o.flat.now
 
@@ -137,7 +137,7 @@ module _ (ns : List Node) (o : Origin) (u : UnitText) (f : Naming) where
     rows-by : (rs : List EdgeRowTree) → Each (RowIsGiven source) rs → Each (RowIsGiven (source_of u steps)) rs
     rows-by rs = subst (λ (s : Source). Each (RowIsGiven s) rs) same-source
 
-    comb-outcome : CombIsEntity → CombIsRight → (waited : List Part) (ds : List DriveRow) (x : ShapeText) (r : Result Body EmitFault) (y : Outcome) → IsShape ns (shape.Comb waited ds) x
+    comb-outcome : CombIsEntity → CombIsRight → (waited : List Part) (ds : List DriveRow) (x : ShapeText) (r : Result Body EmitFault) (y : ProcessOutcome) → IsShape ns (shape.Comb waited ds) x
         → IsShapeGiven source x → IsComb ns o waited ds r → IsOutcomeWith kind.Comb r y
         → IsOutcome u (text.outcome_of_shape u steps x) y
     comb-outcome entity right waited ds x r y i g is w =
@@ -148,7 +148,7 @@ module _ (ns : List Node) (o : Origin) (u : UnitText) (f : Naming) where
         (by-answer u kind.Comb (comb_emission u steps waited h.texts) r y (is u f h.texts fl h.drives h.waits) w
         (λ lines q. record { entity = entity u (entity_with u lines) steps waited h.texts q ws ds'; right = right u (entity_with u lines) steps waited h.texts q apart ws ds' }) fl.once)
 
-    edge-outcome : EdgeIsEntity → EdgeIsRight → (rows : List EdgeRow) (x : ShapeText) (r : Result Body EmitFault) (y : Outcome) → IsShape ns (shape.Edge rows) x → IsShapeGiven source x
+    edge-outcome : EdgeIsEntity → EdgeIsRight → (rows : List EdgeRow) (x : ShapeText) (r : Result Body EmitFault) (y : ProcessOutcome) → IsShape ns (shape.Edge rows) x → IsShapeGiven source x
         → IsEdge ns o rows r → IsOutcomeWith kind.Edge r y
         → IsOutcome u (text.outcome_of_shape u steps x) y
     edge-outcome entity right rows x r y i g is w =
@@ -158,7 +158,7 @@ module _ (ns : List Node) (o : Origin) (u : UnitText) (f : Naming) where
         (by-answer u kind.Edge (edge_emission u steps h.texts) r y (is u f h.texts fl h.rows_given) w
         (λ lines q. record { entity = entity u (entity_with u lines) steps h.texts q rs; right = right u (entity_with u lines) steps h.texts q apart rs }) fl.once)
 
-    once-outcome : OnceIsEntity → OnceIsRight → (ds : List DriveRow) (x : ShapeText) (r : Result Body EmitFault) (y : Outcome) → IsShape ns (shape.Once ds) x → IsShapeGiven source x → IsOnce ns o ds r
+    once-outcome : OnceIsEntity → OnceIsRight → (ds : List DriveRow) (x : ShapeText) (r : Result Body EmitFault) (y : ProcessOutcome) → IsShape ns (shape.Once ds) x → IsShapeGiven source x → IsOnce ns o ds r
         → IsOutcomeWith kind.Once r y
         → IsOutcome u (text.outcome_of_shape u steps x) y
     once-outcome entity right ds x r y i g is w =
@@ -173,36 +173,36 @@ module _ (ns : List Node) (o : Origin) (u : UnitText) (f : Naming) where
 
 -- ---- what may be emitted
 
-pub can-drive : (ns : List Node) (o : Origin) (waited : List Part) (ds : List DriveRow) → CanEmit ns o (shape.Comb waited ds) → CanDrive ns o waited ds
+pub can-drive : (ns : List TermNode) (o : Origin) (waited : List Part) (ds : List DriveRow) → CanEmit ns o (shape.Comb waited ds) → CanDrive ns o waited ds
 can-drive ns o waited ds c =
     let h = comb-has ns o c.unit c.naming waited ds c.text c.has.is c.has.given in
     record { unit = c.unit; naming = c.naming; flat = c.has.flat; texts = h.texts; drives_given = h.drives; waits_given = h.waits }
 
-pub can-drive-once : (ns : List Node) (o : Origin) (ds : List DriveRow) → CanEmit ns o (shape.Once ds) → CanDrive ns o [] ds
+pub can-drive-once : (ns : List TermNode) (o : Origin) (ds : List DriveRow) → CanEmit ns o (shape.Once ds) → CanDrive ns o [] ds
 can-drive-once ns o ds c =
     let h = once-has ns o c.unit c.naming ds c.text c.has.is c.has.given in
     record { unit = c.unit; naming = c.naming; flat = c.has.flat; texts = h.texts; drives_given = h.drives; waits_given = tt }
 
-pub can-register : (ns : List Node) (o : Origin) (rows : List EdgeRow) → CanEmit ns o (shape.Edge rows) → CanRegister ns o rows
+pub can-register : (ns : List TermNode) (o : Origin) (rows : List EdgeRow) → CanEmit ns o (shape.Edge rows) → CanRegister ns o rows
 can-register ns o rows c =
     let h = edge-has ns o c.unit c.naming rows c.text c.has.is c.has.given in
     record { unit = c.unit; naming = c.naming; flat = c.has.flat; texts = h.texts; rows_given = h.rows_given }
 
 -- ---- the outcome of a shape
 
-pub comb-of : (ns : List Node) (o : Origin) (waited : List Part) (ds : List DriveRow) (r : Result Body EmitFault) (y : Outcome) → CombIsEntity → CombIsRight → IsComb ns o waited ds r
+pub comb-of : (ns : List TermNode) (o : Origin) (waited : List Part) (ds : List DriveRow) (r : Result Body EmitFault) (y : ProcessOutcome) → CombIsEntity → CombIsRight → IsComb ns o waited ds r
     → IsOutcomeWith kind.Comb r y → IsOutcomeOf ns o (shape.Comb waited ds) y
 comb-of ns o waited ds r y entity right is w u f x h = comb-outcome ns o u f h.flat h.few entity right waited ds x r y h.is h.given is w
 
-pub edge-of : (ns : List Node) (o : Origin) (rows : List EdgeRow) (r : Result Body EmitFault) (y : Outcome) → EdgeIsEntity → EdgeIsRight → IsEdge ns o rows r → IsOutcomeWith kind.Edge r y
+pub edge-of : (ns : List TermNode) (o : Origin) (rows : List EdgeRow) (r : Result Body EmitFault) (y : ProcessOutcome) → EdgeIsEntity → EdgeIsRight → IsEdge ns o rows r → IsOutcomeWith kind.Edge r y
     → IsOutcomeOf ns o (shape.Edge rows) y
 edge-of ns o rows r y entity right is w u f x h = edge-outcome ns o u f h.flat h.few entity right rows x r y h.is h.given is w
 
-pub once-of : (ns : List Node) (o : Origin) (ds : List DriveRow) (r : Result Body EmitFault) (y : Outcome) → OnceIsEntity → OnceIsRight → IsOnce ns o ds r → IsOutcomeWith kind.Once r y
+pub once-of : (ns : List TermNode) (o : Origin) (ds : List DriveRow) (r : Result Body EmitFault) (y : ProcessOutcome) → OnceIsEntity → OnceIsRight → IsOnce ns o ds r → IsOutcomeWith kind.Once r y
     → IsOutcomeOf ns o (shape.Once ds) y
 once-of ns o ds r y entity right is w u f x h = once-outcome ns o u f h.flat h.few entity right ds x r y h.is h.given is w
 
-pub left-of : (ns : List Node) (o : Origin) (r : Reason) → IsOutcomeOf ns o (shape.Left r) (outcome.Left r)
+pub left-of : (ns : List TermNode) (o : Origin) (r : Reason) → IsOutcomeOf ns o (shape.Left r) (outcome.Left r)
 left-of ns o r u f x h = left-outcome ns o u f h.flat h.few r x h.is
 
 -- what is so of an answer that is there
@@ -218,7 +218,7 @@ given-of combs edges onces name t f (edge rs) e = edges name t f rs e
 given-of combs edges onces name t f (once ds) e = (onces name t f ds e).0
 given-of combs edges onces name t f (left r) e = tt
 
-pub has-shape : CombIsGiven → EdgeIsGiven → OnceIsGiven → (ns : List Node) (o : Origin) (s : Shape) (u : UnitText) (f : Naming) → IsOrigin f o → u.args ≡ (flat_text f o.flat.now).args
+pub has-shape : CombIsGiven → EdgeIsGiven → OnceIsGiven → (ns : List TermNode) (o : Origin) (s : Shape) (u : UnitText) (f : Naming) → IsOrigin f o → u.args ≡ (flat_text f o.flat.now).args
     → args_repeat [] u.args ≡ false → length u.args < 2 ^ 32
     → IsShape ns s (shape_of_text (flat_text f o.flat.now)) → HasShape ns o s u f (shape_of_text (flat_text f o.flat.now))
 has-shape combs edges onces ns o s u f origin args distinct few is = record {

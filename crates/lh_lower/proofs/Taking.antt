@@ -3,7 +3,7 @@ use Rattle.std.proofs.Common.{◌≡◌, ◌<◌, ℕ, List, [], ◌∷◌, ◌+
 use Rattle.std.specs.List.{flat_map}
 use Rattle.std.proofs.lemmas.List.{append-nil}
 use Rattle.std.proofs.Math.Seq.{take-suc}
-use Rattle.lh_types.specs.declared.ty.NoMemory.{NoMemory}
+use Rattle.lh_types.specs.declared.memory.NoMemory.{NoMemory}
 use Rattle.lh_unit.specs.declared.inst.UnitId.{UnitId}
 use Rattle.lh_unit.specs.declared.inst.Declare.{Declare}
 use Rattle.lh_unit.specs.declared.inst.Item.{Item}
@@ -29,8 +29,8 @@ use Rattle.lh_lower_def.specs.declared.report.ReportRow.{ReportRow}
 use Rattle.lh_shape.specs.declared.reason.Reason.{Reason}
 use Rattle.lh_lower.specs.Outcomes.{IsOutcomeAt}
 use Rattle.lh_lower.specs.Lowers.{IsLowering, IsBehind, IsNext, LowersItem}
-use Rattle.lh_lower.specs.declared.outcome.Outcome.{Outcome}
-use Rattle.lh_lower.specs.declared.outcome.Outcome.TheVariants as outcome
+use Rattle.lh_lower.specs.declared.outcome.ProcessOutcome.{ProcessOutcome}
+use Rattle.lh_lower.specs.declared.outcome.ProcessOutcome.TheVariants as outcome
 use Rattle.lh_lower.specs.declared.lowering.Lowering.{Lowering}
 use Rattle.lh_lower.proofs.Lowerings.{within, begun, fresh, lowered-more, rows-more, as-kept, as-process, rows-push, within-push}
 use Rattle.lh_term.proofs.Swaps.{take_whole}
@@ -154,7 +154,7 @@ module _ (l m : Lowering) (u : UnitId) (o : IsArena l.from.now) where
       }
 
   -- a process gets a row
-  module _ (v : Verdict) (x : text.Outcome) (is : outcome_in (contents b) t ≡ x) (told : text.verdict_of x ≡ v) (process : kind_at b u.0 ≡ Some unit_kind.Proc) (from : m.from.now ≡ b)
+  module _ (v : Verdict) (x : text.ProcessOutcome) (is : outcome_in (contents b) t ≡ x) (told : text.verdict_of x ≡ v) (process : kind_at b u.0 ≡ Some unit_kind.Proc) (from : m.from.now ≡ b)
       (fl : m.flattener.m.now ≡ b) (co : m.copying.from.now ≡ b)
       (c : CopiesUnit l.copying.from.now l.copying.to m.copying.to u.0 (text.in_place t x)) where
     process-lowers : (r : Result (Unit {0}) NoMemory) → OnOk r (m.report ≡ l.report ++ record { unit = u; verdict = v } ∷ []) → OnOk r (LowersItem l (item.Unit u) m)
@@ -173,7 +173,7 @@ module _ (l m : Lowering) (u : UnitId) (o : IsArena l.from.now) where
           within = subst (Each (λ (z : ReportRow). z.unit.0 < unit_count b)) (sym rows) (within-push (unit_count b) l.report row w.within (within b o u seen behind));
         }
 
-  module _ (n : IsNext l (item.Unit u)) (process : kind_at b u.0 ≡ Some unit_kind.Proc) (x : Outcome) (is : IsOutcomeAt b u.0 x) (from : m.from.now ≡ b) (fl : m.flattener.m.now ≡ l.flattener.m.now)
+  module _ (n : IsNext l (item.Unit u)) (process : kind_at b u.0 ≡ Some unit_kind.Proc) (x : ProcessOutcome) (is : IsOutcomeAt b u.0 x) (from : m.from.now ≡ b) (fl : m.flattener.m.now ≡ l.flattener.m.now)
       (co : m.copying.from.now ≡ l.copying.from.now) (r : Result (Unit {0}) NoMemory) where
     pub entity-lowers : (k : Kind) (body : Body) → x ≡ outcome.Entity k body
         → ((lines : List LineText) → IsBody (unit_text_at l.copying.from.now u.0).args body lines

@@ -10,7 +10,7 @@ use Rattle.lh_flat.specs.declared.flat.Flat.{Flat}
 use Rattle.lh_flat.specs.Below.{IdsBelow}
 use Rattle.lh_flat.specs.Flat.{flattened}
 use Rattle.lh_flat.specs.Reads.{flat_text}
-use Rattle.lh_term.specs.declared.term.Node.{Node}
+use Rattle.lh_term.specs.declared.term.TermNode.{TermNode}
 use Rattle.lh_region.specs.Forms.{Names}
 use Rattle.lh_shape.specs.Answers.{IsShape}
 use Rattle.lh_shape.specs.Shapes.{ShapeText, comb, edge, once, left}
@@ -28,8 +28,8 @@ use Rattle.lh_emit_body.specs.declared.lines.EmitFault.{EmitFault}
 use Rattle.lh_emit_body.specs.declared.lines.EmitFault.TheVariants as emit
 use Rattle.lh_lower_def.specs.declared.report.Kind.{Kind}
 use Rattle.lh_lower_def.specs.Lowering as text
-use Rattle.lh_lower.specs.declared.outcome.Outcome.{Outcome}
-use Rattle.lh_lower.specs.declared.outcome.Outcome.TheVariants as outcome
+use Rattle.lh_lower.specs.declared.outcome.ProcessOutcome.{ProcessOutcome}
+use Rattle.lh_lower.specs.declared.outcome.ProcessOutcome.TheVariants as outcome
 
 -- the body of an entity in the place of a process
 pub record IsEntityBody (u : UnitText) (body : Body) (lines : List LineText) : Type 0 where
@@ -39,18 +39,18 @@ pub record IsEntityBody (u : UnitText) (body : Body) (lines : List LineText) : T
   pub new_results : results_repeat u.args [] lines ≡ false
 
 -- the outcome of a process is that one
-abbrev pub IsOutcome : UnitText → text.Outcome → Outcome → Type 0
+abbrev pub IsOutcome : UnitText → text.ProcessOutcome → ProcessOutcome → Type 0
 IsOutcome u x (outcome.Entity k body) = (lines : List LineText) × (x ≡ text.becomes k (entity_with u lines)) × IsEntityBody u body lines
 IsOutcome u x (outcome.Left r) = x ≡ text.stays r
 
 -- The outcome of the unit u of a module.
-abbrev pub IsOutcomeAt : Arena → (u : ℕ) → Outcome → Type 0
+abbrev pub IsOutcomeAt : Arena → (u : ℕ) → ProcessOutcome → Type 0
 IsOutcomeAt a u o = IsOutcome (unit_text_at a u) (text.outcome_in (contents a) (unit_text_at a u)) o
 
 -- ---- what the calls compute on the way
 
 -- what an answer of a body comes to, of an entity by this shape
-abbrev pub IsOutcomeWith : Kind → Result Body EmitFault → Outcome → Type 0
+abbrev pub IsOutcomeWith : Kind → Result Body EmitFault → ProcessOutcome → Type 0
 IsOutcomeWith k (Ok b) o = o ≡ outcome.Entity k b
 IsOutcomeWith k (Err emit.EntityTooLarge) o = o ≡ outcome.Left reason.EntityTooLarge
 IsOutcomeWith k (Err emit.OutOfMemory) o = ⊥
@@ -63,20 +63,20 @@ IsShapeGiven s (once ds) = Each (DriveIsGiven s) ds
 IsShapeGiven s (left r) = Unit {0}
 
 -- a process of this flat text by some names, with this shape by ids
-pub record HasShape (ns : List Node) (o : Origin) (shape : Shape) (u : UnitText) (f : Naming) (x : ShapeText) : Type 0 where
+pub record HasShape (ns : List TermNode) (o : Origin) (shape : Shape) (u : UnitText) (f : Naming) (x : ShapeText) : Type 0 where
   pub flat : IsFlatOf u f o
   pub few : length u.args < 2 ^ 32
   pub is : IsShape ns shape x
   pub given : IsShapeGiven (source_by u.name f o.flat.now) x
 
-pub record CanEmit (ns : List Node) (o : Origin) (shape : Shape) : Type 0 where
+pub record CanEmit (ns : List TermNode) (o : Origin) (shape : Shape) : Type 0 where
   pub unit : UnitText
   pub naming : Naming
   pub text : ShapeText
   pub has : HasShape ns o shape unit naming text
 
 -- The outcome is that of the shape.
-abbrev pub IsOutcomeOf : List Node → Origin → Shape → Outcome → Type 0
+abbrev pub IsOutcomeOf : List TermNode → Origin → Shape → ProcessOutcome → Type 0
 IsOutcomeOf ns o shape y = (u : UnitText) (f : Naming) (x : ShapeText) → HasShape ns o shape u f x → IsOutcome u (text.outcome_of_shape u (steps_of u f o) x) y
 
 -- a flat text that is formed by some names, by which its arguments have these
@@ -88,7 +88,7 @@ pub record HasArgs (names : List (List ℕ)) (t : Flat) : Type 0 where
   pub few : length t.args < 2 ^ 32
 
 -- The outcome is that of the flat text, for a process whose arguments have these names.
-abbrev pub IsOutcomeBy : List (List ℕ) → Flat → Outcome → Type 0
+abbrev pub IsOutcomeBy : List (List ℕ) → Flat → ProcessOutcome → Type 0
 IsOutcomeBy names t y =
     (u : UnitText) (f : Naming) → Names t f → u.args ≡ (flat_text f t).args → args_repeat [] u.args ≡ false → length u.args < 2 ^ 32 → names ≡ map (λ (a : ArgText). a.name) u.args
     → IsOutcome u (text.outcome_of_text u (flattened (flat_text f t))) y

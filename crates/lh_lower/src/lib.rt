@@ -7,7 +7,7 @@ pub mod process;
 pub mod text;
 
 pub use crate::lowering::{Lowered, lower};
-pub use crate::outcome::{Outcome, outcome_of};
+pub use crate::outcome::{ProcessOutcome, outcome_of};
 pub use crate::process::shape_of_flat;
 pub use crate::text::text_of;
 pub use lh_lower_def::{Kind, ReportList, ReportRow, Verdict};

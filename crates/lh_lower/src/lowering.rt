@@ -8,12 +8,12 @@ ghost use Rattle.lh_unit.specs.declared.inst.UnitKind.TheVariants.{Proc};
 ghost use Rattle.lh_flat.specs.Marks.{UnitsAreNamed};
 ghost use Rattle.lh_lower.specs.Lowers.{IsLowered, IsLowering, IsNext, LowersItem};
 
-use crate::outcome::{Outcome, outcome_of};
+use crate::outcome::{ProcessOutcome, outcome_of};
 use lh_flat::Flattener;
 use lh_lower_copy::Copying;
 use lh_lower_def::{ReportList, ReportRow, Verdict};
 use lh_lower_laws::laws::{same_trace_law, well_formed_law};
-use lh_types::ty::NoMemory;
+use lh_types::memory::NoMemory;
 use lh_unit::inst::{Item, UnitId, UnitKind};
 use lh_unit::module::Module;
 use lh_verify::verify::Verified;
@@ -114,12 +114,12 @@ impl<'m> Lowering<'m> {
         ensures lowers { OnOk result (LowersItem self.old (Entry.Unit unit) self.new) }
     {
         match outcome_of(self.alloc, self.from, &mut self.flattener, unit)? {
-            Outcome::Entity(kind, body) => {
+            ProcessOutcome::Entity(kind, body) => {
                 self.copying.put_entity(unit, body)?;
                 let verdict = Verdict::Lowered(kind);
                 self.report.push(ReportRow { unit, verdict })
             }
-            Outcome::Left(reason) => {
+            ProcessOutcome::Left(reason) => {
                 self.copying.keep(unit)?;
                 let verdict = Verdict::Left(reason);
                 self.report.push(ReportRow { unit, verdict })

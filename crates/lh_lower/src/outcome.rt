@@ -18,14 +18,14 @@ use lh_flat_state_laws::formed_law;
 use lh_lower_def::Kind;
 use lh_shape::{Reason, Shape};
 use lh_term::terms::Terms;
-use lh_types::ty::NoMemory;
+use lh_types::memory::NoMemory;
 use lh_unit::inst::{NameList, UnitId};
 use lh_unit::module::Module;
 use std::alloc::Global;
 
 /// What becomes of a process.
 #[derive(Drop)]
-pub enum Outcome {
+pub enum ProcessOutcome {
     /// An entity by this shape, with this body, stands in its place.
     Entity(Kind, Body),
     /// It stays, for this reason.
@@ -40,7 +40,7 @@ pub fn outcome_of(
     from: &Module,
     flattener: &mut Flattener<'_>,
     unit: UnitId,
-) -> Result<Outcome, NoMemory>
+) -> Result<ProcessOutcome, NoMemory>
     requires same { flattener.old.m.now ≡ from.now }
     requires formed { IsWellFormed (contents from.now) }
     requires within { unit.0 < unit_count from.now }
@@ -52,9 +52,9 @@ pub fn outcome_of(
     let names = names_of_args(alloc, from, unit)?;
     match flattener.flat(unit) {
         Ok(flat) => outcome_by(alloc, names, &flat),
-        Err(FlatFault::RecursiveCall(_)) => Ok(Outcome::Left(Reason::RecursiveCall)),
-        Err(FlatFault::CallTooDeep) => Ok(Outcome::Left(Reason::CallTooDeep)),
-        Err(FlatFault::FlatTooLarge) => Ok(Outcome::Left(Reason::FlatTooLarge)),
+        Err(FlatFault::RecursiveCall(_)) => Ok(ProcessOutcome::Left(Reason::RecursiveCall)),
+        Err(FlatFault::CallTooDeep) => Ok(ProcessOutcome::Left(Reason::CallTooDeep)),
+        Err(FlatFault::FlatTooLarge) => Ok(ProcessOutcome::Left(Reason::FlatTooLarge)),
         Err(FlatFault::OutOfMemory) => Err(NoMemory),
     }
 }
@@ -75,7 +75,7 @@ fn names_of_args(alloc: Global, from: &Module, unit: UnitId) -> Result<NameList,
 }
 
 /// What becomes of a process with this flat text, whose arguments have these names.
-fn outcome_by(alloc: Global, names: NameList, flat: &Flat) -> Result<Outcome, NoMemory>
+fn outcome_by(alloc: Global, names: NameList, flat: &Flat) -> Result<ProcessOutcome, NoMemory>
     requires { HasArgs names flat.now }
     ensures is { IfOk result (IsOutcomeBy names flat.now) }
 {
@@ -95,7 +95,7 @@ fn entity_of(
     origin: &Origin<'_>,
     terms: &mut Terms,
     shape: Shape,
-) -> Result<Outcome, NoMemory>
+) -> Result<ProcessOutcome, NoMemory>
     requires { CanEmit terms.old origin.now shape }
     ensures is { IfOk result (IsOutcomeOf terms.old origin.now shape) }
 {
@@ -115,17 +115,17 @@ fn entity_of(
             let body = once_body(alloc, origin, terms, &drives);
             outcome_with(Kind::Once, body)
         }
-        Shape::Left(reason) => Ok(Outcome::Left(reason)),
+        Shape::Left(reason) => Ok(ProcessOutcome::Left(reason)),
     }
 }
 
 /// An entity with this body by a shape; none where it would be too large.
-fn outcome_with(kind: Kind, body: Result<Body, EmitFault>) -> Result<Outcome, NoMemory>
+fn outcome_with(kind: Kind, body: Result<Body, EmitFault>) -> Result<ProcessOutcome, NoMemory>
     ensures { IfOk result (IsOutcomeWith kind body) }
 {
     match body {
-        Ok(body) => Ok(Outcome::Entity(kind, body)),
-        Err(EmitFault::EntityTooLarge) => Ok(Outcome::Left(Reason::EntityTooLarge)),
+        Ok(body) => Ok(ProcessOutcome::Entity(kind, body)),
+        Err(EmitFault::EntityTooLarge) => Ok(ProcessOutcome::Left(Reason::EntityTooLarge)),
         Err(EmitFault::OutOfMemory) => Err(NoMemory),
     }
 }

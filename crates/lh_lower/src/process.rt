@@ -12,7 +12,7 @@ use lh_region::RegionFault;
 use lh_region_walk::regions;
 use lh_shape::{Reason, Shape, shape_of_regions};
 use lh_term::terms::Terms;
-use lh_types::ty::NoMemory;
+use lh_types::memory::NoMemory;
 use std::alloc::Global;
 
 /// The shape of a process with this flat text: the first reason why it stays, if there is one.

@@ -6,8 +6,8 @@ ghost use Rattle.lh_lower_def.specs.Report.{row_text, row_line, report_text};
 ghost use Rattle.lh_lower_def.specs.declared.report.ReportRow.{ReportRow as Row};
 
 use lh_lower_def::ReportRow;
+use lh_types::memory::NoMemory;
 use lh_types::text::put;
-use lh_types::ty::NoMemory;
 use lh_unit::module::Module;
 use std::alloc::Global;
 

@@ -4,7 +4,7 @@ use Rattle.std.specs.Option.{option_map}
 use Rattle.std.proofs.lemmas.List.{length-map}
 use Rattle.std.proofs.lemmas.Option.{slice_get-get_or, slice_get-map, slice_get_within}
 use Rattle.lh_types.specs.Types.{TypeTree}
-use Rattle.lh_types.specs.declared.ty.NoMemory.{NoMemory}
+use Rattle.lh_types.specs.declared.memory.NoMemory.{NoMemory}
 use Rattle.lh_unit.specs.Contents.{UnitText, LineText, ArgText, new_unit, with_arg, with_line, defines_value, defines_unit}
 use Rattle.lh_unit.specs.Within.{Each}
 use Rattle.lh_unit.specs.Naming.{arg_text, maybe_text, inst_text}

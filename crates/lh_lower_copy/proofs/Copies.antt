@@ -1,7 +1,7 @@
 -- A module underway that copies another one, with one item more.
 use Rattle.std.proofs.Common.{◌≡◌, ◌≢◌, ℕ, ◌<◌, zero, suc, true, false, ◌||◌, List, [], ◌∷◌, ◌++◌, length, get_or, IsSome, Result, Ok, Err, IfOk, refl, ap, sym, ◌∙◌, arith}
 use Rattle.std.proofs.lemmas.Bool.{or_parts}
-use Rattle.lh_types.specs.declared.ty.NoMemory.{NoMemory}
+use Rattle.lh_types.specs.declared.memory.NoMemory.{NoMemory}
 use Rattle.lh_unit_names.specs.UnitNames.{same_unit_name}
 use Rattle.lh_unit.specs.Contents.{ItemText, UnitText, LineText, unit_text, declare_text, defines_unit}
 use Rattle.lh_unit.specs.Table.{Table, no_table}

@@ -17,7 +17,7 @@ use Rattle.lh_unit.specs.declared.inst.InstId.{InstId}
 use Rattle.lh_unit.specs.declared.inst.Arg.{Arg}
 use Rattle.lh_unit.specs.declared.inst.Inst.{Inst}
 use Rattle.std.proofs.lemmas.List.{drop_more}
-use Rattle.lh_types.specs.declared.ty.NoMemory.{NoMemory}
+use Rattle.lh_types.specs.declared.memory.NoMemory.{NoMemory}
 use Rattle.lh_unit.proofs.Lists.{drop-item, Each-at}
 use Rattle.lh_unit.proofs.ById.{result-within}
 use Rattle.lh_unit.proofs.ModuleLaws.{block_insts-within, block-within}

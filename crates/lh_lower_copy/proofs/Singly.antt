@@ -16,7 +16,7 @@ use Rattle.lh_unit.specs.declared.inst.ValueId.{ValueId}
 use Rattle.lh_unit.specs.declared.inst.BlockId.{BlockId}
 use Rattle.lh_unit.specs.declared.inst.InstId.{InstId}
 use Rattle.lh_unit.specs.declared.inst.ValueDef.TheVariants as value_def
-use Rattle.lh_unit.specs.declared.table.Line.{Line}
+use Rattle.lh_unit.specs.declared.table.TableLine.{TableLine}
 use Rattle.lh_unit.proofs.Lists.{nat_eq-is, not_true}
 use Rattle.lh_unit.proofs.Defined.{arg-ids, line-ids, flat_lines, line_count-ids, label_text-named, blocks-within}
 use Rattle.lh_unit.proofs.ById.{args_define-by_id, same_label-by_id}
@@ -41,7 +41,7 @@ args-parts : (n : ℕ) (xs ys : List Arg) → ArgsWithin n (xs ++ ys) → ArgsWi
 args-parts n [] ys w = (tt, w)
 args-parts n (x ∷ xs) ys w = let p = args-parts n xs ys w.1 in ((w.0, p.0), p.1)
 
-results-parts : (n : ℕ) (xs ys : List Line) → ResultsWithin n (xs ++ ys) → ResultsWithin n xs × ResultsWithin n ys
+results-parts : (n : ℕ) (xs ys : List TableLine) → ResultsWithin n (xs ++ ys) → ResultsWithin n xs × ResultsWithin n ys
 results-parts n [] ys w = (tt, w)
 results-parts n (x ∷ xs) ys w = let p = results-parts n xs ys w.1 in ((w.0, p.0), p.1)
 
@@ -55,7 +55,7 @@ result-found : (r : Option ValueId) (k : ℕ) → is_result r k ≡ true → r �
 result-found None k e = absurd cc
 result-found (Some v) k e = let p : v.0 ≡ k = nat_eq-is v.0 k e in λ i. Some (record { 0 = p i })
 
-made-found : (ls : List Line) (k : ℕ) → is_made ls k ≡ true → (j : ℕ) × (j < length ls) × ((get_or ls j no_line).result ≡ Some (record { 0 = k }))
+made-found : (ls : List TableLine) (k : ℕ) → is_made ls k ≡ true → (j : ℕ) × (j < length ls) × ((get_or ls j no_line).result ≡ Some (record { 0 = k }))
 made-found [] k e = absurd cc
 made-found (l ∷ ls) k e = by (is_result l.result k) refl e (λ q. made-found ls k q)
   where
@@ -92,11 +92,11 @@ module _ (t : Table) (o : IsTable t) where
         ∙ ap (option_map (λ (a : Arg). a.value)) (get_end seen x more),
   )
 
-  line-here : (seen more : List Line) (x : Line) (v : ValueId) → t.lines ≡ seen ++ x ∷ more → x.result ≡ Some v → IsDefinition t v.0 (value_def.Inst (record { 0 = length seen }))
+  line-here : (seen more : List TableLine) (x : TableLine) (v : ValueId) → t.lines ≡ seen ++ x ∷ more → x.result ≡ Some v → IsDefinition t v.0 (value_def.Inst (record { 0 = length seen }))
   line-here seen more x v e r = (
-    subst (λ (xs : List Line). length seen < length xs) (sym e) (within-next seen x more),
-    ap (λ (xs : List Line). (get_or xs (length seen) no_line).result) e
-        ∙ ap (λ (y : Line). y.result) (get-next seen x more no_line) ∙ r,
+    subst (λ (xs : List TableLine). length seen < length xs) (sym e) (within-next seen x more),
+    ap (λ (xs : List TableLine). (get_or xs (length seen) no_line).result) e
+        ∙ ap (λ (y : TableLine). y.result) (get-next seen x more no_line) ∙ r,
   )
 
   arg-once : (seen more : List Arg) (x : Arg) → t.args ≡ seen ++ x ∷ more → is_arg seen x.value.0 ≡ false
@@ -109,18 +109,18 @@ module _ (t : Table) (o : IsTable t) where
       let q : f.0 ≡ length seen = same-argument f.0 (length seen) (o.defined_once x.value.0 (value_def.Arg f.0) (value_def.Arg (length seen)) d (arg-here seen more x e)) in
       omega (arith, q, f.1))
 
-  result-no-arg : (seen more : List Line) (x : Line) (v : ValueId) → t.lines ≡ seen ++ x ∷ more → x.result ≡ Some v → is_arg t.args v.0 ≡ false
+  result-no-arg : (seen more : List TableLine) (x : TableLine) (v : ValueId) → t.lines ≡ seen ++ x ∷ more → x.result ≡ Some v → is_arg t.args v.0 ≡ false
   result-no-arg seen more x v e r = not_true (is_arg t.args v.0) (λ p.
       let f = is_arg-there t.args v.0 p in
       let d : IsDefinition t v.0 (value_def.Arg f.0) = (f.1, f.2) in
       apart f.0 (length seen) (o.defined_once v.0 (value_def.Arg f.0) (value_def.Inst (record { 0 = length seen })) d (line-here seen more x v e r)))
 
-  result-once : (seen more : List Line) (x : Line) (v : ValueId) → t.lines ≡ seen ++ x ∷ more → x.result ≡ Some v → is_made seen v.0 ≡ false
+  result-once : (seen more : List TableLine) (x : TableLine) (v : ValueId) → t.lines ≡ seen ++ x ∷ more → x.result ≡ Some v → is_made seen v.0 ≡ false
   result-once seen more x v e r = not_true (is_made seen v.0) (λ p.
       let f = made-found seen v.0 p in
       let d : IsDefinition t v.0 (value_def.Inst (record { 0 = f.0 })) = (
-        subst (λ (xs : List Line). f.0 < length xs) (sym e) (within-left seen (x ∷ more) f.0 f.1),
-        ap (λ (xs : List Line). (get_or xs f.0 no_line).result) e ∙ ap (λ (y : Line). y.result) (get_or_append_left seen (x ∷ more) no_line f.0 f.1) ∙ f.2,
+        subst (λ (xs : List TableLine). f.0 < length xs) (sym e) (within-left seen (x ∷ more) f.0 f.1),
+        ap (λ (xs : List TableLine). (get_or xs f.0 no_line).result) e ∙ ap (λ (y : TableLine). y.result) (get_or_append_left seen (x ∷ more) no_line f.0 f.1) ∙ f.2,
       ) in
       let q : f.0 ≡ length seen = same-inst f.0 (length seen) (o.defined_once v.0 (value_def.Inst (record { 0 = f.0 })) (value_def.Inst (record { 0 = length seen })) d
       (line-here seen more x v e r)) in
@@ -150,7 +150,7 @@ module _ (a : Arena) (u : ℕ) (o : IsArena a) (h : u < unit_count a) where
       let m : map (arg_text (naming a u)) (seen ++ x ∷ []) ≡ map (arg_text (naming a u)) seen ++ arg_text (naming a u) x ∷ [] = map-append (arg_text (naming a u)) seen (x ∷ []) in
       or_from (args_define (value_name_at a u x.value.0) (map (arg_text (naming a u)) seen)) _ p (ap (λ s. args_repeat s (map (arg_text (naming a u)) more)) (sym m) ∙ q)
 
-  line-once : (seen more : List Line) (x : Line) (r : Option ValueId) → (table_at a u).lines ≡ seen ++ x ∷ more → x.result ≡ r
+  line-once : (seen more : List TableLine) (x : TableLine) (r : Option ValueId) → (table_at a u).lines ≡ seen ++ x ∷ more → x.result ≡ r
       → result_repeats (unit_text_at a u).args (map (line_text (naming a u)) seen) (maybe_text (naming a u) r) ≡ false
   line-once seen more x None e q = refl
   line-once seen more x (Some v) e q =
@@ -160,7 +160,7 @@ module _ (a : Arena) (u : ℕ) (o : IsArena a) (h : u < unit_count a) where
       (args_define-by_id a u o h v.0 i ∙ result-no-arg (table_at a u) (o.tables u h) seen more x v e q)
       (line-ids (unit_name_at a) (table_at a u) (o.tables u h) v.0 seen i w.0 ∙ result-once (table_at a u) (o.tables u h) seen more x v e q)
 
-  lines-once : (seen rest : List Line) → (table_at a u).lines ≡ seen ++ rest → results_repeat (unit_text_at a u).args (map (line_text (naming a u)) seen) (map (line_text (naming a u)) rest) ≡ false
+  lines-once : (seen rest : List TableLine) → (table_at a u).lines ≡ seen ++ rest → results_repeat (unit_text_at a u).args (map (line_text (naming a u)) seen) (map (line_text (naming a u)) rest) ≡ false
   lines-once seen [] e = refl
   lines-once seen (x ∷ more) e =
       let q : results_repeat (unit_text_at a u).args (map (line_text (naming a u)) (seen ++ x ∷ [])) (map (line_text (naming a u)) more)

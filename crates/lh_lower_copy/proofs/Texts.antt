@@ -1,6 +1,6 @@
 -- A unit that is added as it is: its header, its blocks, and what stays of the other units.
 use Rattle.std.proofs.Common.{◌≡◌, ℕ, ◌<◌, false, List, [], ◌∷◌, ◌++◌, map, Some, Result, Ok, Err, IfOk, ap, sym, ◌∙◌, subst, arith}
-use Rattle.lh_types.specs.declared.ty.NoMemory.{NoMemory}
+use Rattle.lh_types.specs.declared.memory.NoMemory.{NoMemory}
 use Rattle.lh_unit.specs.Contents.{UnitText, unit_text, new_unit, defines_unit}
 use Rattle.lh_unit.specs.Table.{Table, FitsKind, HasBlocks, entity_block}
 use Rattle.lh_unit.specs.Within.{Each}

@@ -7,7 +7,8 @@ ghost use Rattle.lh_unit.specs.Arena.{IsOpen, InstPlaced, contents, naming, size
 ghost use Rattle.lh_unit.specs.Builders.{HasLabels, HasRoom, line_text_at};
 ghost use Rattle.lh_lower_copy.specs.Changing.{AddsUnitText, Becomes};
 
-use lh_types::ty::{NoMemory, Ty};
+use lh_types::memory::NoMemory;
+use lh_types::ty::Ty;
 use lh_unit::inst::{BlockId, Inst, UnitFault, UnitId, UnitKind, ValueId};
 use lh_unit::module::Module;
 

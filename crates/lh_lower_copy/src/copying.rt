@@ -11,7 +11,7 @@ use crate::entities::put_body;
 use crate::keeping::keep_unit;
 use crate::names::name_units;
 use lh_emit_body::Body;
-use lh_types::ty::NoMemory;
+use lh_types::memory::NoMemory;
 use lh_unit::inst::{Declare, UnitId};
 use lh_unit::module::Module;
 use std::alloc::Global;

@@ -14,7 +14,7 @@ ghost use Rattle.lh_lower_copy.specs.Putting.{CanPut, ArgsNamed, IsLineWithin, b
 use crate::adding::{begin, put_arg, put_inst};
 use crate::names::name_all;
 use lh_emit_body::{Body, BodyLine, BodyLineList};
-use lh_types::ty::NoMemory;
+use lh_types::memory::NoMemory;
 use lh_unit::inst::{UnitId, UnitKind, ValueId};
 use lh_unit::module::Module;
 

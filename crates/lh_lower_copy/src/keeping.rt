@@ -9,7 +9,7 @@ ghost use Rattle.lh_lower_copy.specs.Copying.{AddsUnit, headed};
 use crate::adding::begin;
 use crate::names::{name_labels, name_values};
 use crate::units::{keep_args, keep_blocks, keep_type};
-use lh_types::ty::NoMemory;
+use lh_types::memory::NoMemory;
 use lh_unit::inst::{UnitId, UnitKind};
 use lh_unit::module::Module;
 

@@ -4,7 +4,7 @@ ghost use Rattle.lh_unit.specs.Arena.{no_arena, unit_count, value_count, label_c
 ghost use Rattle.lh_emit_body.specs.Bodies.{NamesDiffer};
 ghost use Rattle.lh_lower_copy.specs.Named.{NamesUnits, NamesValues, NamesLabels};
 
-use lh_types::ty::NoMemory;
+use lh_types::memory::NoMemory;
 use lh_unit::inst::{BlockId, UnitId, ValueId};
 use lh_unit::module::Module;
 use lh_unit_names::name::Name;

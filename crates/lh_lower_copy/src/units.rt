@@ -7,7 +7,7 @@ ghost use Rattle.lh_lower_copy.specs.Named.{SameNames};
 ghost use Rattle.lh_lower_copy.specs.Kept.{StandsIn, block_at, TypeFits};
 
 use crate::adding::{put_arg, put_block, put_inst};
-use lh_types::ty::NoMemory;
+use lh_types::memory::NoMemory;
 use lh_unit::inst::{BlockId, UnitId, UnitKind};
 use lh_unit::module::Module;
 

@@ -3,7 +3,7 @@ ghost use Rattle.std.specs.Prelude.{◌≡◌, ◌+◌, ◌<◌, ◌≤◌, ◌+
 ghost use Rattle.lh_types.specs.ValueOf.{datum_of};
 ghost use Rattle.lh_ops.specs.Operands.{width_of, number_of, parts_within};
 
-use lh_types::ty::NoMemory;
+use lh_types::memory::NoMemory;
 use lh_types::val::{Val, ValList};
 use std::alloc::Global;
 

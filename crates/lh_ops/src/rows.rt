@@ -10,8 +10,8 @@ ghost use Rattle.lh_ops.specs.Operands.{number_of};
 use crate::integers::{apply_int, result_width};
 use crate::parts::{copies, number, parts, repeats, width, with_part, with_parts};
 use crate::shifts::{bits_at, shift_down, shift_up, with_bits};
+use lh_types::memory::NoMemory;
 use lh_types::op::Op;
-use lh_types::ty::NoMemory;
 use lh_types::val::Val;
 use std::alloc::Global;
 

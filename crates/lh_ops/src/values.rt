@@ -7,8 +7,8 @@ ghost use Rattle.lh_types.specs.ApplyTypes.{FitsOp};
 use crate::rows::{
     array, equal, extf, exts, insf, inss, integers, mux, repeat, shl, shr, truth, tuple,
 };
+use lh_types::memory::NoMemory;
 use lh_types::op::Op;
-use lh_types::ty::NoMemory;
 use lh_types::val::Val;
 use std::alloc::Global;
 

@@ -18,7 +18,8 @@ use crate::operands::{
 use crate::types::put_type;
 use crate::values::put_const;
 use lh_text_buffer::Text;
-use lh_types::ty::{NoMemory, Ty};
+use lh_types::memory::NoMemory;
+use lh_types::ty::Ty;
 use lh_unit::constant::Constant;
 use lh_unit::inst::{BlockId, Inst, PhiEdge, RegTrigger, Typed, UnitId, ValueId};
 use lh_unit::view::UnitView;

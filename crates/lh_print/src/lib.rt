@@ -15,7 +15,7 @@ mod values;
 mod words;
 
 use lh_text_buffer::Text;
-use lh_types::ty::NoMemory;
+use lh_types::memory::NoMemory;
 use lh_unit::module::Module;
 use std::alloc::Global;
 /// The canonical text of a module: its items in file order, one line each, as the language reference spells them.

@@ -12,7 +12,7 @@ use lh_io::stream::Sink;
 use lh_run::status::Status;
 pub use lh_run::top::run;
 use lh_types::list::{ByteList, TextList};
-use lh_types::ty::NoMemory;
+use lh_types::memory::NoMemory;
 use std::alloc::Global;
 use std::env::Args;
 use std::io::{self, ErrorKind};

@@ -3,21 +3,21 @@ ghost use Rattle.std.specs.Prelude.{◌≡◌, ◌≤◌, ◌<◌, ◌+◌, [], 
 ghost use Rattle.std.specs.List.{insert};
 
 use crate::queue::Bucket;
-use lh_types::ty::NoMemory;
+use lh_types::memory::NoMemory;
 use std::alloc::Global;
 use std::marker::Model;
 
 /// Buckets in a row. Contracts see them as a list, and the number of buckets that go in without memory.
 #[derive(Drop)]
-pub struct Line {
+pub struct BucketLine {
     all: Vec<Bucket>,
     // So many at the front are gone.
     gone: usize,
 }
 
-impl Model for Line {
+impl Model for BucketLine {
     ghost use Rattle.std.specs.Prelude.{◌-◌, ◌≤◌, drop, length, vec_capacity};
-    ghost use Rattle.lh_queue.specs.Line.{Buckets};
+    ghost use Rattle.lh_queue.specs.BucketLine.{Buckets};
 
     ghost Value = { Buckets };
 
@@ -29,12 +29,12 @@ impl Model for Line {
     ghost invariant = { λ l. l.gone ≤ length l.all.items };
 }
 
-impl Line {
+impl BucketLine {
     /// No bucket; this takes no memory yet.
-    pub fn new(alloc: Global) -> Line
+    pub fn new(alloc: Global) -> BucketLine
         ensures { result.items ≡ [] }
     {
-        Line {
+        BucketLine {
             all: Vec::new(alloc),
             gone: 0,
         }

@@ -7,11 +7,11 @@ ghost use Rattle.lh_queue.specs.Buckets.{buckets_of, next_in, AreBuckets};
 ghost use Rattle.lh_queue.specs.Places.{IsPlace, GoesAlone, GoesFirst, GoesAfter, IsBehind, IsPut, earlier, first_key, first_wish, starts_at, first_of, comes_before, next_before, is_near};
 
 use crate::hints::Hints;
-use crate::line::Line;
+use crate::line::BucketLine;
 use crate::wish::Wish;
 use lh_bits::bits::Bits;
 use lh_time::Instant;
-use lh_types::ty::NoMemory;
+use lh_types::memory::NoMemory;
 use slab::Slab;
 use std::alloc::Global;
 use std::marker::Model;
@@ -49,7 +49,7 @@ enum Insertion {
 pub struct Queue {
     links: Slab<Linked>,
     // The times rise.
-    buckets: Line,
+    buckets: BucketLine,
     hints: Hints,
 }
 
@@ -76,7 +76,7 @@ impl Queue {
     {
         Queue {
             links: Slab::new(alloc),
-            buckets: Line::new(alloc),
+            buckets: BucketLine::new(alloc),
             hints: Hints::new(alloc),
         }
     }

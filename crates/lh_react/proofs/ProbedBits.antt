@@ -32,7 +32,7 @@ use Rattle.lh_unit.specs.declared.inst.ValueId.{ValueId}
 use Rattle.lh_unit.specs.declared.inst.BlockId.{BlockId}
 use Rattle.lh_unit.specs.declared.inst.Typed.{Typed}
 use Rattle.lh_unit.specs.declared.inst.Arg.{Arg}
-use Rattle.lh_unit.specs.declared.table.Line.{Line}
+use Rattle.lh_unit.specs.declared.table.TableLine.{TableLine}
 use Rattle.lh_unit.specs.ById.{is_sig}
 use Rattle.lh_unit.proofs.Giving.{same-argument}
 use Rattle.lh_unit_names.proofs.NameLists.{same_name-refl}
@@ -78,7 +78,7 @@ arg-defined f (a ∷ args) zero v e =
 arg-defined f (a ∷ args) (suc k) v e = let x = same_name (value_text f a.value) (value_text f v) in ap (λ b. x || b) (arg-defined f args k v e) ∙ or-true x
 
 -- what holds of each line holds of that of each id
-each-id : (P : LineText → Type 0) (f : InstId → LineText) (ls : List Line) (k j : ℕ) → Each P (map f (ids_from k ls)) → k ≤ j → j < k + length ls
+each-id : (P : LineText → Type 0) (f : InstId → LineText) (ls : List TableLine) (k j : ℕ) → Each P (map f (ids_from k ls)) → k ≤ j → j < k + length ls
     → P (f (record { 0 = j }))
 each-id P f [] k j e low high = absurd (omega arith)
 each-id P f (l ∷ ls) k j e low high =

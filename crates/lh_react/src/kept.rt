@@ -2,7 +2,7 @@
 ghost use Rattle.std.specs.Prelude.{◌≡◌, IfOk};
 
 use lh_types::list::ListOf;
-use lh_types::ty::NoMemory;
+use lh_types::memory::NoMemory;
 use std::alloc::Global;
 use std::marker::Model;
 use std::rc::Rc;

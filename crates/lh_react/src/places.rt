@@ -14,9 +14,10 @@ ghost use Rattle.lh_react.specs.TriggerBits.{IsBitAt, IsIntAt, IsSameAt, AreSame
 
 use crate::triggers::{Gate, TriggerBit};
 use lh_types::list::ListOf;
+use lh_types::memory::NoMemory;
 use lh_types::op::Op;
 use lh_types::part::Range;
-use lh_types::ty::{NoMemory, Ty, TyKind};
+use lh_types::ty::{Ty, TyKind};
 use lh_unit::inst::{Inst, InstId, RegTrigger, Typed, UnitId, UnitKind, ValueDef, ValueId};
 use lh_unit::module::Module;
 use std::alloc::Global;

@@ -8,8 +8,8 @@ use crate::register::mode_holds;
 use crate::state::EntState;
 use crate::triggers::{Gate, TriggerBit};
 use lh_bits::bits::Bits;
+use lh_types::memory::NoMemory;
 use lh_types::part::Range;
-use lh_types::ty::NoMemory;
 
 /// The next state of an entity in a pass, where it is seen that none of its triggers fires and that their values are among those that are known.
 pub(crate) fn quiet(state: &EntState, now: &Bits) -> Result<Option<EntState>, NoMemory>

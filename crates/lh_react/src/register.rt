@@ -12,7 +12,7 @@ use lh_eval::effects::wish;
 use lh_eval::held::Slots;
 use lh_eval::operands::{condition_in, datum_in, delay_in, part_in, test_in};
 use lh_time::{Delay, Instant};
-use lh_types::ty::NoMemory;
+use lh_types::memory::NoMemory;
 use lh_unit::inst::{Mode, RegTrigger, Typed, ValueId};
 use std::alloc::Global;
 

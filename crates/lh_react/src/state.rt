@@ -7,7 +7,7 @@ ghost use Rattle.lh_react.specs.State.{values_of, state_of};
 use crate::kept::Kept;
 use crate::triggers::TriggerBit;
 use lh_types::list::{BoolList, ListOf};
-use lh_types::ty::NoMemory;
+use lh_types::memory::NoMemory;
 use lh_unit::inst::UnitId;
 use lh_unit::module::Module;
 use std::alloc::Global;

@@ -9,7 +9,7 @@ use Rattle.lh_unit.specs.Contents.{OperandText, TriggerText, st_text, drv_text, 
 use Rattle.lh_unit.specs.Builders.{FindsUnit, FindsValue, FindsLabel}
 use Rattle.lh_unit_names.specs.declared.name.UnitName.{UnitName}
 use Rattle.lh_types.specs.Types.{TypeTree}
-use Rattle.lh_types.specs.declared.ty.NoMemory.{NoMemory}
+use Rattle.lh_types.specs.declared.memory.NoMemory.{NoMemory}
 use Rattle.lh_unit.specs.declared.inst.UnitId.{UnitId}
 use Rattle.lh_unit.specs.declared.inst.BlockId.{BlockId}
 use Rattle.lh_unit.specs.declared.inst.ValueId.{ValueId}

@@ -1,6 +1,6 @@
 //! Why a line is faulty.
 use lh_read_pieces::fault::ScanFault;
-use lh_types::ty::NoMemory;
+use lh_types::memory::NoMemory;
 use lh_unit::inst::UnitFault;
 
 /// Why a line is faulty.

@@ -15,7 +15,7 @@ use lh_read_phrases::syntax::{EdgeSyntax, Operand, TriggerSyntax};
 use lh_read_pieces::tokens::{NameText, UnitNameText};
 use lh_types::few::{Few, FewOf};
 use lh_types::list::ListOf;
-use lh_types::ty::NoMemory;
+use lh_types::memory::NoMemory;
 use lh_unit::inst::{
     BlockId, OperandList, PhiEdge, PhiEdgeList, RegTrigger, RegTriggerList, Typed, TypedList,
     UnitId, ValueId, ValueIdList,

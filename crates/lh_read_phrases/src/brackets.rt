@@ -11,8 +11,9 @@ use lh_read_pieces::list::parts;
 use lh_read_pieces::numbers::count;
 use lh_read_pieces::tokens::Tokens;
 use lh_types::few::FewOf;
+use lh_types::memory::NoMemory;
 use lh_types::op::Op;
-use lh_types::ty::{NoMemory, Ty, TyFault, TyList};
+use lh_types::ty::{Ty, TyFault, TyList};
 use std::alloc::Global;
 
 /// Whether the tokens are this one mark.

@@ -6,12 +6,12 @@ ghost use Rattle.lh_read_phrases.specs.Operands.{typed_at, bare_at, free_at, one
 use crate::syntax::{EdgeSyntax, Operand, Param, TriggerSyntax};
 use crate::words::{Columns, find_mode};
 use lh_read_pieces::fault::ScanFault::{self, NotSpelled};
-use lh_read_pieces::list::Part;
+use lh_read_pieces::list::ListPart;
 use lh_read_pieces::tokens::{NameText, Tokens};
 use lh_read_pieces::types::ty;
 use lh_types::few::FewOf;
 use lh_types::list::ListOf;
-use lh_types::ty::NoMemory;
+use lh_types::memory::NoMemory;
 use std::alloc::Global;
 
 /// Operands, and what follows them.
@@ -51,7 +51,7 @@ pub fn free<'a>(alloc: Global, tokens: &Tokens<'a>) -> Result<(Operand<'a>, Toke
     typed(alloc, tokens)
 }
 
-impl<'a> Part<'a> for Operand<'a> {
+impl<'a> ListPart<'a> for Operand<'a> {
     ghost use Rattle.lh_read_phrases.specs.Operands.{free_at};
     ghost use Rattle.lh_read_phrases.specs.Shorter.{free_at-shorter};
 
@@ -205,7 +205,7 @@ fn trigger<'a>(tokens: &Tokens<'a>) -> Option<(TriggerSyntax<'a>, Tokens<'a>)>
     Some((trigger, rest))
 }
 
-impl<'a> Part<'a> for TriggerSyntax<'a> {
+impl<'a> ListPart<'a> for TriggerSyntax<'a> {
     ghost use Rattle.lh_read_phrases.specs.Operands.{trigger_at};
     ghost use Rattle.lh_read_phrases.specs.Shorter.{trigger_at-shorter};
 
@@ -232,7 +232,7 @@ fn edge<'a>(tokens: &Tokens<'a>) -> Option<(EdgeSyntax<'a>, Tokens<'a>)>
     Some((EdgeSyntax { value, block }, rest))
 }
 
-impl<'a> Part<'a> for EdgeSyntax<'a> {
+impl<'a> ListPart<'a> for EdgeSyntax<'a> {
     ghost use Rattle.lh_read_phrases.specs.Operands.{edge_at};
     ghost use Rattle.lh_read_phrases.specs.Shorter.{edge_at-shorter};
 
@@ -245,7 +245,7 @@ impl<'a> Part<'a> for EdgeSyntax<'a> {
     ghost shorter = { edge_at-shorter };
 }
 
-impl<'a> Part<'a> for Param<'a> {
+impl<'a> ListPart<'a> for Param<'a> {
     ghost use Rattle.lh_read_phrases.specs.Operands.{param_at};
     ghost use Rattle.lh_read_phrases.specs.Shorter.{param_at-shorter};
 

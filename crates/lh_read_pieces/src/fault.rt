@@ -2,7 +2,7 @@
 ghost use Rattle.std.specs.Prelude.{◌≡◌};
 ghost use Rattle.lh_read_pieces.specs.declared.fault.ScanFault.TheVariants as fault;
 
-use lh_types::ty::NoMemory;
+use lh_types::memory::NoMemory;
 use thiserror::Error;
 
 /// Why nothing was read in front of the tokens.

@@ -12,7 +12,7 @@ use lh_types::ty::Ty;
 use std::alloc::Global;
 
 /// What may be a part of a list.
-pub trait Part<'a>: Sized + Drop {
+pub trait ListPart<'a>: Sized + Drop {
     ghost part_at: { List Lexeme → Option (Self × List Lexeme) };
 
     /// The part in front, and what follows it.
@@ -25,7 +25,7 @@ pub trait Part<'a>: Sized + Drop {
 /// Parts by comma before a closing mark, or none, and what follows them.
 ///
 /// The mark is not taken; that it stands there is looked for only before the first part.
-pub fn list<'a, P: Part<'a>>(
+pub fn list<'a, P: ListPart<'a>>(
     alloc: Global,
     tokens: &Tokens<'a>,
     close: u8,
@@ -39,7 +39,7 @@ pub fn list<'a, P: Part<'a>>(
 }
 
 /// Parts with a comma before each, or none, and what follows them.
-pub fn behind<'a, P: Part<'a>>(
+pub fn behind<'a, P: ListPart<'a>>(
     alloc: Global,
     tokens: &Tokens<'a>,
 ) -> Result<(ListOf<P>, Tokens<'a>), ScanFault>
@@ -52,7 +52,7 @@ pub fn behind<'a, P: Part<'a>>(
 }
 
 /// One or more parts by comma, and what follows them.
-pub fn parts<'a, P: Part<'a>>(
+pub fn parts<'a, P: ListPart<'a>>(
     alloc: Global,
     tokens: &Tokens<'a>,
 ) -> Result<(ListOf<P>, Tokens<'a>), ScanFault>
@@ -71,7 +71,7 @@ pub fn parts<'a, P: Part<'a>>(
 }
 
 /// A name behind `%`.
-impl<'a> Part<'a> for NameText<'a> {
+impl<'a> ListPart<'a> for NameText<'a> {
     ghost use Rattle.lh_read_pieces.specs.Pieces.{local_at};
     ghost use Rattle.lh_read_pieces.specs.Shorter.{local_part-shorter};
 
@@ -85,7 +85,7 @@ impl<'a> Part<'a> for NameText<'a> {
 }
 
 /// A type.
-impl<'a> Part<'a> for Ty {
+impl<'a> ListPart<'a> for Ty {
     ghost use Rattle.lh_read_pieces.specs.Types.{type_at};
     ghost use Rattle.lh_read_pieces.specs.Shorter.{type_part-shorter};
 

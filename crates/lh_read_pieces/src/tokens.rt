@@ -8,7 +8,7 @@ ghost use Rattle.lh_read_pieces.specs.Pieces.{first_at, word_at, any_word_at, lo
 ghost use Rattle.lh_read_pieces.specs.LexemeOf.{lexeme_of, unit_name_of};
 
 use lh_lex::{from_token, is_mark, split};
-use lh_types::ty::NoMemory;
+use lh_types::memory::NoMemory;
 use lh_unit::token::TokenKind;
 use lh_unit_names::name::{Name, UnitName};
 use std::alloc::Global;

@@ -16,7 +16,7 @@ use Rattle.lh_term.specs.Types.{IsTyped, type_of}
 use Rattle.lh_term.specs.Arena.{StandsForTree}
 use Rattle.lh_term.specs.declared.part.Part.{Part}
 use Rattle.lh_term.specs.declared.term.TermId.{TermId}
-use Rattle.lh_term.specs.declared.term.Node.{Node}
+use Rattle.lh_term.specs.declared.term.TermNode.{TermNode}
 use Rattle.lh_region_def.specs.Known.{Known, known_value, known_cell, known_part, Knowledge, as_value, as_cell, value_known, cell_known, part_known}
 use Rattle.lh_region_def.specs.Joins.{RegionEdge, selector, merged, on_each, merged_by, first_one, joined}
 use Rattle.lh_region_def.specs.Typed.{IsCondition}
@@ -121,25 +121,25 @@ are-alike ty v vs h = record { typed = h.0.0; others = alike-others ty (type_of 
 
 -- ---- edges by ids
 
-pub edges-on : (ns : List Node) (s : Story) (es : List Edge) (xs : List RegionEdge) → AreEdges ns s es xs → edges_on ns es ≡ on_conditions xs
+pub edges-on : (ns : List TermNode) (s : Story) (es : List Edge) (xs : List RegionEdge) → AreEdges ns s es xs → edges_on ns es ≡ on_conditions xs
 edges-on ns s [] [] h = refl
 edges-on ns s [] (x ∷ xs) h = absurd h
 edges-on ns s (e ∷ es) [] h = absurd h
 edges-on ns s (e ∷ es) (x ∷ xs) h = let a = h.0.cond.tree in let b = edges-on ns s es xs h.1 in λ i. edge_on (a i) ∷ b i
 
-pub edges-below : (ns : List Node) (s : Story) (es : List Edge) (xs : List RegionEdge) → AreEdges ns s es xs → Each (IsBelow s.places) (map source_of es)
+pub edges-below : (ns : List TermNode) (s : Story) (es : List Edge) (xs : List RegionEdge) → AreEdges ns s es xs → Each (IsBelow s.places) (map source_of es)
 edges-below ns s [] [] h = tt
 edges-below ns s [] (x ∷ xs) h = absurd h
 edges-below ns s (e ∷ es) [] h = absurd h
 edges-below ns s (e ∷ es) (x ∷ xs) h = (h.0.within, edges-below ns s es xs h.1)
 
-pub edges-conditions : (ns : List Node) (s : Story) (es : List Edge) (xs : List RegionEdge) → AreEdges ns s es xs → Each (λ (x : RegionEdge). IsCondition x.cond) xs → AreConditions ns es
+pub edges-conditions : (ns : List TermNode) (s : Story) (es : List Edge) (xs : List RegionEdge) → AreEdges ns s es xs → Each (λ (x : RegionEdge). IsCondition x.cond) xs → AreConditions ns es
 edges-conditions ns s [] [] h c = tt
 edges-conditions ns s [] (x ∷ xs) h c = absurd h
 edges-conditions ns s (e ∷ es) [] h c = absurd h
 edges-conditions ns s (e ∷ es) (x ∷ xs) h c = (stands-condition ns e.cond x.cond h.0.cond c.0, edges-conditions ns s es xs h.1 c.1)
 
-edges-told : (ns : List Node) (s : Story) (v : ℕ) → v < s.values → (es : List Edge) (xs : List RegionEdge) → AreEdges ns s es xs
+edges-told : (ns : List TermNode) (s : Story) (v : ℕ) → v < s.values → (es : List Edge) (xs : List RegionEdge) → AreEdges ns s es xs
     → map (λ (e : Edge). s.told e.from v) es ≡ map (term_on (s.naming.value_name v)) xs
 edges-told ns s v l [] [] h = refl
 edges-told ns s v l [] (x ∷ xs) h = absurd h
@@ -189,7 +189,7 @@ module _ (s : Story) (k : Knowledge) where
   told-sources v [] h = refl
   told-sources v (e ∷ es) h = let a = told-old e.from v (ne_of_lt {a = e.from} {b = s.places} h.0) in let b = told-sources v es h.1 in λ i. a i ∷ b i
 
-  joins-old : (ns : List Node) (v : ℕ) (es : List Edge) (x : Tree) → Each (IsBelow s.places) (map source_of es) → Joins ns s.told v es x → Joins ns told_now v es x
+  joins-old : (ns : List TermNode) (v : ℕ) (es : List Edge) (x : Tree) → Each (IsBelow s.places) (map source_of es) → Joins ns s.told v es x → Joins ns told_now v es x
   joins-old ns v es x h j = record { first = j.first; others = j.others; each = told-sources v es h ∙ j.each; alike = j.alike; gives = j.gives }
 
   known-new : TellsKnown (with_place s k) s.places k
@@ -199,7 +199,7 @@ module _ (s : Story) (k : Knowledge) where
   known-old i j l t v m = told-old i v (ne_of_lt {a = i} {b = s.places} l) ∙ t v m
 
 -- what the edges give at the new place
-joins-new : (ns : List Node) (s : Story) (es : List Edge) (x : RegionEdge) (xs : List RegionEdge) → AreEdges ns s es (x ∷ xs) → CanBegin s (x ∷ xs) → (v : ℕ) (z : Tree)
+joins-new : (ns : List TermNode) (s : Story) (es : List Edge) (x : RegionEdge) (xs : List RegionEdge) → AreEdges ns s es (x ∷ xs) → CanBegin s (x ∷ xs) → (v : ℕ) (z : Tree)
     → told_by s (joined (x ∷ xs)) v ≡ Some z → Joins ns (with_place s (joined (x ∷ xs))).told v es z
 joins-new ns s es x xs h c v z e =
     let k = joined (x ∷ xs) in
@@ -228,7 +228,7 @@ begun-at s ps qs p len e i = by (same_or i s.places)
     by (same h) = new_place h (ap (λ (xs : List PlaceState). slice_get xs i) e ∙ ap (slice_get (ps ++ p ∷ [])) (h ∙ len) ∙ get_last ps p)
     by (other n) = old_place n (ap (λ (xs : List PlaceState). slice_get xs i) e ∙ push-other ps p i (λ h. n (h ∙ sym len)))
 
-module _ (ns : List Node) (ps qs : List PlaceState) (block : ℕ) (s : Story) (es : List Edge) (x : RegionEdge) (xs : List RegionEdge) (b : IsBegun ps block es qs) (t : Tells ns ps s.told)
+module _ (ns : List TermNode) (ps qs : List PlaceState) (block : ℕ) (s : Story) (es : List Edge) (x : RegionEdge) (xs : List RegionEdge) (b : IsBegun ps block es qs) (t : Tells ns ps s.told)
     (len : s.places ≡ length ps) (h : AreEdges ns s es (x ∷ xs)) (c : CanBegin s (x ∷ xs)) where
   abbrev known_now : Knowledge
   known_now = joined (x ∷ xs)

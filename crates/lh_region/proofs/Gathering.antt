@@ -9,7 +9,7 @@ use Rattle.lh_term.specs.Types.{TakesTypes, types_of}
 use Rattle.lh_term.specs.Make.{make_operation}
 use Rattle.lh_term.specs.Arena.{trees_at, AreIn, StandsForTree, Grows}
 use Rattle.lh_term.specs.declared.term.TermId.{TermId}
-use Rattle.lh_term.specs.declared.term.Node.{Node}
+use Rattle.lh_term.specs.declared.term.TermNode.{TermNode}
 use Rattle.lh_term.proofs.Swaps.{grows_on}
 use Rattle.lh_region_joins.specs.Joins.{AreTerms}
 use Rattle.lh_region_joins.proofs.Conditions.{grows-none}
@@ -59,20 +59,20 @@ there-from told (a ∷ asks) (y ∷ ys) e =
 
 -- ---- one value after the other
 
-pub record AskSoFar (old : List Node) (ps : List PlaceState) (now : List Node) (qs : List PlaceState) (asks seen : List PlaceValue) (ts : List TermId) : Type 0 where
+pub record AskSoFar (old : List TermNode) (ps : List PlaceState) (now : List TermNode) (qs : List PlaceState) (asks seen : List PlaceValue) (ts : List TermId) : Type 0 where
   pub grows : Grows old now
   pub same : SamePlaces ps qs
   pub still : StillToldAll old ps now qs asks
   pub made : (told : KnownTerms) (ys : List Tree) → Tells old ps told → AllThere told asks → map (told_of told) seen ≡ map Some ys → AreTerms now ts ys
 
-none-made : (ns : List Node) (ys : List Tree) → [] ≡ map Some ys → AreTerms ns [] ys
+none-made : (ns : List TermNode) (ys : List Tree) → [] ≡ map Some ys → AreTerms ns [] ys
 none-made ns [] e = tt
 none-made ns (y ∷ ys) e = absurd cc
 
-pub ask-none : (ns : List Node) (ps : List PlaceState) (asks : List PlaceValue) → AskSoFar ns ps ns ps asks [] []
+pub ask-none : (ns : List TermNode) (ps : List PlaceState) (asks : List PlaceValue) → AskSoFar ns ps ns ps asks [] []
 ask-none ns ps asks = record { grows = grows-none ns; same = refl; still = λ told t h. t; made = λ told ys t h e. none-made ns ys e }
 
-module _ (old now : List Node) (ps qs : List PlaceState) (asks seen : List PlaceValue) (ts : List TermId) (i : ℕ) (d : PlaceValue) (l : i < length asks) (s : AskSoFar old ps now qs asks seen ts) where
+module _ (old now : List TermNode) (ps qs : List PlaceState) (asks seen : List PlaceValue) (ts : List TermId) (i : ℕ) (d : PlaceValue) (l : i < length asks) (s : AskSoFar old ps now qs asks seen ts) where
   abbrev a : PlaceValue
   a = get_or asks i d
 
@@ -82,7 +82,7 @@ module _ (old now : List Node) (ps qs : List PlaceState) (asks seen : List Place
   pub ask-told : CanAskAll old ps asks → CanAsk now qs a.value a.place
   ask-told c = record { told = c.told; tells = s.still c.told c.tells c.there; there = each-item (λ (x : PlaceValue). is_some (told_of c.told x) ≡ true) asks i d c.there l }
 
-  pub ask-next : (new : List Node) (rs : List PlaceState) (after : List PlaceValue) (us : List TermId) (t : TermId) → after ≡ seen ++ a ∷ [] → us ≡ ts ++ t ∷ [] → Grows now new → SamePlaces qs rs
+  pub ask-next : (new : List TermNode) (rs : List PlaceState) (after : List PlaceValue) (us : List TermId) (t : TermId) → after ≡ seen ++ a ∷ [] → us ≡ ts ++ t ∷ [] → Grows now new → SamePlaces qs rs
       → StillTold now qs new rs a.value a.place → IsTold now qs new a.value a.place t → AskSoFar old ps new rs asks after us
   ask-next new rs after us t e f g same still term = record {
     grows = grows_on old now new s.grows g;
@@ -103,7 +103,7 @@ module _ (old now : List Node) (ps qs : List PlaceState) (asks seen : List Place
           (subst (λ (vs : List TermId). AreTerms new vs (r.before ++ r.last ∷ [])) (sym f)
           (terms-push new ts r.before t r.last (terms-grown now new ts r.before g (s.made told r.before u h r.each)) (subst (StandsForTree new t) z st)))
 
-pub ask-end : (old now : List Node) (ps qs : List PlaceState) (asks seen : List PlaceValue) (ts : List TermId) → seen ≡ asks → AskSoFar old ps now qs asks seen ts → AreTold old ps now asks ts
+pub ask-end : (old now : List TermNode) (ps qs : List PlaceState) (asks seen : List PlaceValue) (ts : List TermId) → seen ≡ asks → AskSoFar old ps now qs asks seen ts → AreTold old ps now asks ts
 ask-end old now ps qs asks seen ts e s told ys t m = s.made told ys t (there-from told asks ys m) (ap (map (told_of told)) e ∙ m)
 
 -- ---- an operation
@@ -112,16 +112,16 @@ within-at : (n i : ℕ) (xs : List Typed) → i < n → Each (λ (a : PlaceValue
 within-at n i [] l = tt
 within-at n i (x ∷ xs) l = (l, within-at n i xs l)
 
-pub operands-asked : (ns : List Node) (ps : List PlaceState) (i : ℕ) (o : Op) (xs : List Typed) → i < length ps → IsOperation ns ps i o xs → CanAskAll ns ps (asks_at i xs)
+pub operands-asked : (ns : List TermNode) (ps : List PlaceState) (i : ℕ) (o : Op) (xs : List Typed) → i < length ps → IsOperation ns ps i o xs → CanAskAll ns ps (asks_at i xs)
 operands-asked ns ps i o xs l c = record { told = c.told; tells = c.tells; within = within-at (length ps) i xs l; there = there-from c.told (asks_at i xs) c.operands c.each }
 
-made-below : (ns : List Node) (ts : List TermId) (xs : List Tree) → AreTerms ns ts xs → AreIn ns ts
+made-below : (ns : List TermNode) (ts : List TermId) (xs : List Tree) → AreTerms ns ts xs → AreIn ns ts
 made-below ns [] [] m = refl
 made-below ns [] (x ∷ xs) m = absurd m
 made-below ns (t ∷ ts) [] m = absurd m
 made-below ns (t ∷ ts) (x ∷ xs) m = rw (lt-ltb t.0 (length ns) m.0.is_in) (made-below ns ts xs m.1)
 
-module _ (ns ms : List Node) (ps : List PlaceState) (i : ℕ) (o : Op) (xs : List Typed) (ts : List TermId) (c : IsOperation ns ps i o xs) (m : AreTold ns ps ms (asks_at i xs) ts) where
+module _ (ns ms : List TermNode) (ps : List PlaceState) (i : ℕ) (o : Op) (xs : List Typed) (ts : List TermId) (c : IsOperation ns ps i o xs) (m : AreTold ns ps ms (asks_at i xs) ts) where
   operands-made : AreTerms ms ts c.operands
   operands-made = m c.told c.operands c.tells c.each
 
@@ -131,8 +131,8 @@ module _ (ns ms : List Node) (ps : List PlaceState) (i : ℕ) (o : Op) (xs : Lis
   pub operands-fit : TakesTypes o (types_of (tree_row (trees_at ms ts)))
   operands-fit = subst (λ (us : List Tree). TakesTypes o (types_of (tree_row us))) (sym (made-trees ms ts c.operands operands-made)) c.fits
 
-  pub operated-is : (os : List Node) (t : TermId) → StandsForTree os t (make_operation o (trees_at ms ts)) → IsOperated ns ps os i o xs t
+  pub operated-is : (os : List TermNode) (t : TermId) → StandsForTree os t (make_operation o (trees_at ms ts)) → IsOperated ns ps os i o xs t
   operated-is os t s told ys u e = subst (λ (us : List Tree). StandsForTree os t (make_operation o us)) (made-trees ms ts ys (m told ys u e)) s
 
-  pub operated-still : (os : List Node) (qs : List PlaceState) → Grows ms os → StillToldAll ns ps ms qs (asks_at i xs) → StillToldAll ns ps os qs (asks_at i xs)
+  pub operated-still : (os : List TermNode) (qs : List PlaceState) → Grows ms os → StillToldAll ns ps ms qs (asks_at i xs) → StillToldAll ns ps os qs (asks_at i xs)
   operated-still os qs g s told u h = tells-grown ms os qs told g (s told u h)

@@ -5,7 +5,7 @@ use Rattle.std.proofs.Math.Nat.{ne_of_lt}
 use Rattle.lh_unit.proofs.Lists.{Same, same, other, same_or, nat_eq-refl, nat_eq-other}
 use Rattle.lh_term.specs.Tree.{Tree}
 use Rattle.lh_term.specs.Arena.{Grows}
-use Rattle.lh_term.specs.declared.term.Node.{Node}
+use Rattle.lh_term.specs.declared.term.TermNode.{TermNode}
 use Rattle.lh_term.proofs.Swaps.{stands_grown}
 use Rattle.lh_region_def.specs.Joins.{RegionPlace, RegionEdge}
 use Rattle.lh_region_def.specs.Places.{Region, Here, Midst, next_place, goes}
@@ -17,7 +17,7 @@ use Rattle.lh_region.specs.Walking.{Story, IsEdge, AreEdges, place_of, AreAhead,
 
 -- ---- edges one by one
 
-pub edges-grown : (ns ms : List Node) (s : Story) (es : List Edge) (xs : List RegionEdge) → Grows ns ms → AreEdges ns s es xs → AreEdges ms s es xs
+pub edges-grown : (ns ms : List TermNode) (s : Story) (es : List Edge) (xs : List RegionEdge) → Grows ns ms → AreEdges ns s es xs → AreEdges ms s es xs
 edges-grown ns ms s [] [] g h = tt
 edges-grown ns ms s [] (x ∷ xs) g h = absurd h
 edges-grown ns ms s (e ∷ es) [] g h = absurd h
@@ -26,13 +26,13 @@ edges-grown ns ms s (e ∷ es) (x ∷ xs) g h = (
   edges-grown ns ms s es xs g h.1,
 )
 
-pub edges-push : (ns : List Node) (s : Story) (es : List Edge) (xs : List RegionEdge) (e : Edge) (x : RegionEdge) → AreEdges ns s es xs → IsEdge ns s e x → AreEdges ns s (es ++ e ∷ []) (xs ++ x ∷ [])
+pub edges-push : (ns : List TermNode) (s : Story) (es : List Edge) (xs : List RegionEdge) (e : Edge) (x : RegionEdge) → AreEdges ns s es xs → IsEdge ns s e x → AreEdges ns s (es ++ e ∷ []) (xs ++ x ∷ [])
 edges-push ns s [] [] e x h i = (i, tt)
 edges-push ns s [] (y ∷ ys) e x h i = absurd h
 edges-push ns s (d ∷ ds) [] e x h i = absurd h
 edges-push ns s (d ∷ ds) (y ∷ ys) e x h i = (h.0, edges-push ns s ds ys e x h.1 i)
 
-pub ahead-grown : (ns ms : List Node) (s : Story) (turns block : ℕ) (ahead : Ahead) (xs : List RegionEdge) → Grows ns ms → AreAhead ns s turns block ahead xs → AreAhead ms s turns block ahead xs
+pub ahead-grown : (ns ms : List TermNode) (s : Story) (turns block : ℕ) (ahead : Ahead) (xs : List RegionEdge) → Grows ns ms → AreAhead ns s turns block ahead xs → AreAhead ms s turns block ahead xs
 ahead-grown ns ms s turns block ahead xs g h = record {
   here = λ b l. edges-grown ns ms s (led_to ahead.here.items b) (edges_to (place_of turns b) xs) g (h.here b l);
   next = λ b. edges-grown ns ms s (led_to ahead.next.items b) (edges_to (place_of (turns + 1) b) xs) g (h.next b);
@@ -70,7 +70,7 @@ same-place : (t a : ℕ) → is_place (place_of t a) (place_of t a) ≡ true
 same-place t a = ap (λ (k : Bool). k && nat_eq a a) (nat_eq-refl t) ∙ nat_eq-refl a
 
 -- the edges to the blocks of a turn, of which one leads to block a
-module _ (ns : List Node) (s : Story) (t a : ℕ) (old new : List (List Edge)) (xs : List RegionEdge) (e : Edge) (x : RegionEdge) (also : IsLedAlso old a e new) (i : IsEdge ns s e x)
+module _ (ns : List TermNode) (s : Story) (t a : ℕ) (old new : List (List Edge)) (xs : List RegionEdge) (e : Edge) (x : RegionEdge) (also : IsLedAlso old a e new) (i : IsEdge ns s e x)
     (to : x.to ≡ place_of t a) where
   led-more : (b : ℕ) → AreEdges ns s (led_to old b) (edges_to (place_of t b) xs) → AreEdges ns s (led_to new b) (edges_to (place_of t b) (xs ++ x ∷ []))
   led-more b h = by (same_or a b)
@@ -100,7 +100,7 @@ stays t u a b xs x to n = to-no (place_of u b) xs x (ap (λ (p : RegionPlace). i
 more-other : (a b : ℕ) → b < a → a ≢ b
 more-other a b l e = omega (arith, l, e)
 
-module _ (ns : List Node) (s : Story) (turns block a : ℕ) (old new : Ahead) (xs : List RegionEdge) (e : Edge) (x : RegionEdge) (i : IsEdge ns s e x) (h : AreAhead ns s turns block old xs) where
+module _ (ns : List TermNode) (s : Story) (turns block a : ℕ) (old new : Ahead) (xs : List RegionEdge) (e : Edge) (x : RegionEdge) (i : IsEdge ns s e x) (h : AreAhead ns s turns block old xs) where
   ahead-here : IsLedAlso old.here.items a e new.here.items → new.next ≡ old.next → x.to ≡ place_of turns a → AreAhead ns s turns block new (xs ++ x ∷ [])
   ahead-here also k to = record {
     here = λ b l. led-more ns s turns a old.here.items new.here.items xs e x also i to b (h.here b l);

@@ -7,7 +7,7 @@ use Rattle.lh_term.specs.Make.{is_zero}
 use Rattle.lh_term.specs.Arena.{trees, tree_at, StandsForTree, Grows}
 use Rattle.lh_term.specs.declared.part.Part.{Part}
 use Rattle.lh_term.specs.declared.term.TermId.{TermId}
-use Rattle.lh_term.specs.declared.term.Node.{Node}
+use Rattle.lh_term.specs.declared.term.TermNode.{TermNode}
 use Rattle.lh_term.proofs.Swaps.{stands_grown, tree_grown, in_grown, grows_on}
 use Rattle.lh_region_def.specs.Rows as text
 use Rattle.lh_region_def.specs.Places.{Midst}
@@ -26,7 +26,7 @@ use Rattle.lh_region.specs.Effects.{CanDrive, StillDriven, IsProbed, IsDriven, A
 
 -- ---- an arena that grows
 
-pub drives-grown : (ns ms : List Node) (ds : List DriveRow) (xs : List text.Drive) → Grows ns ms → AreDrives ns ds xs → AreDrives ms ds xs
+pub drives-grown : (ns ms : List TermNode) (ds : List DriveRow) (xs : List text.Drive) → Grows ns ms → AreDrives ns ds xs → AreDrives ms ds xs
 drives-grown ns ms [] [] g h = tt
 drives-grown ns ms [] (x ∷ xs) g h = absurd h
 drives-grown ns ms (d ∷ ds) [] g h = absurd h
@@ -35,13 +35,13 @@ drives-grown ns ms (d ∷ ds) (x ∷ xs) g h = (
   drives-grown ns ms ds xs g h.1,
 )
 
-pub ends-grown : (ns ms : List Node) (es : List EndRow) (xs : List text.RegionEnd) → Grows ns ms → AreEnds ns es xs → AreEnds ms es xs
+pub ends-grown : (ns ms : List TermNode) (es : List EndRow) (xs : List text.RegionEnd) → Grows ns ms → AreEnds ns es xs → AreEnds ms es xs
 ends-grown ns ms [] [] g h = tt
 ends-grown ns ms [] (x ∷ xs) g h = absurd h
 ends-grown ns ms (e ∷ es) [] g h = absurd h
 ends-grown ns ms (e ∷ es) (x ∷ xs) g h = (record { cond = stands_grown ns ms g e.cond x.cond h.0.cond; way = h.0.way }, ends-grown ns ms es xs g h.1)
 
-pub rows-grown : (ns ms : List Node) (r : Rows) (x : text.Rows) → Grows ns ms → AreRows ns r x → AreRows ms r x
+pub rows-grown : (ns ms : List TermNode) (r : Rows) (x : text.Rows) → Grows ns ms → AreRows ns r x → AreRows ms r x
 rows-grown ns ms r x g h = record {
   probes = h.probes;
   drives = drives-grown ns ms r.drives x.drives g h.drives;
@@ -51,19 +51,19 @@ rows-grown ns ms r x g h = record {
 
 -- ---- one more row
 
-pub drives-push : (ns : List Node) (ds : List DriveRow) (xs : List text.Drive) (d : DriveRow) (x : text.Drive) → AreDrives ns ds xs → IsDrive ns d x → AreDrives ns (ds ++ d ∷ []) (xs ++ x ∷ [])
+pub drives-push : (ns : List TermNode) (ds : List DriveRow) (xs : List text.Drive) (d : DriveRow) (x : text.Drive) → AreDrives ns ds xs → IsDrive ns d x → AreDrives ns (ds ++ d ∷ []) (xs ++ x ∷ [])
 drives-push ns [] [] d x h i = (i, tt)
 drives-push ns [] (y ∷ ys) d x h i = absurd h
 drives-push ns (e ∷ es) [] d x h i = absurd h
 drives-push ns (e ∷ es) (y ∷ ys) d x h i = (h.0, drives-push ns es ys d x h.1 i)
 
-ends-push : (ns : List Node) (es : List EndRow) (xs : List text.RegionEnd) (e : EndRow) (x : text.RegionEnd) → AreEnds ns es xs → IsEnd ns e x → AreEnds ns (es ++ e ∷ []) (xs ++ x ∷ [])
+ends-push : (ns : List TermNode) (es : List EndRow) (xs : List text.RegionEnd) (e : EndRow) (x : text.RegionEnd) → AreEnds ns es xs → IsEnd ns e x → AreEnds ns (es ++ e ∷ []) (xs ++ x ∷ [])
 ends-push ns [] [] e x h i = (i, tt)
 ends-push ns [] (y ∷ ys) e x h i = absurd h
 ends-push ns (d ∷ ds) [] e x h i = absurd h
 ends-push ns (d ∷ ds) (y ∷ ys) e x h i = (h.0, ends-push ns ds ys e x h.1 i)
 
-terms-more : (ns : List Node) (ts : List TermId) (xs : List Tree) (us : List TermId) (ys : List Tree) → AreTerms ns ts xs → AreTerms ns us ys → AreTerms ns (ts ++ us) (xs ++ ys)
+terms-more : (ns : List TermNode) (ts : List TermId) (xs : List Tree) (us : List TermId) (ys : List Tree) → AreTerms ns ts xs → AreTerms ns us ys → AreTerms ns (ts ++ us) (xs ++ ys)
 terms-more ns [] [] us ys h m = m
 terms-more ns [] (x ∷ xs) us ys h m = absurd h
 terms-more ns (t ∷ ts) [] us ys h m = absurd h
@@ -71,7 +71,7 @@ terms-more ns (t ∷ ts) (x ∷ xs) us ys h m = (h.0, terms-more ns ts xs us ys 
 
 -- ---- probes
 
-pub probed-more : (ns ms : List Node) (r q : Rows) (p : Part) → Grows ns ms → q.probes ≡ r.probes ++ p ∷ [] → q.drives ≡ r.drives → q.asserts ≡ r.asserts → q.ends ≡ r.ends → IsProbed ns r ms q p
+pub probed-more : (ns ms : List TermNode) (r q : Rows) (p : Part) → Grows ns ms → q.probes ≡ r.probes ++ p ∷ [] → q.drives ≡ r.drives → q.asserts ≡ r.asserts → q.ends ≡ r.ends → IsProbed ns r ms q p
 probed-more ns ms r q p g e d a n h result m s =
     let t = rows-grown ns ms r m.rows g s in
     record {
@@ -87,11 +87,11 @@ probed-more ns ms r q p g e d a n h result m s =
 abbrev after_drive : Bool → Midst → text.Drive → text.Rows
 after_drive b m d = (if b then m else record m { rows = record m.rows { drives = m.rows.drives ++ d ∷ [] } }).rows
 
-module _ (ns ms : List Node) (ps qs : List PlaceState) (d : DriveAt) (t : TermId) (g : Grows ns ms) (still : StillTold ns ps ms qs d.value d.place) (told : IsTold ns ps ms d.value d.place t) where
+module _ (ns ms : List TermNode) (ps qs : List PlaceState) (d : DriveAt) (t : TermId) (g : Grows ns ms) (still : StillTold ns ps ms qs d.value d.place) (told : IsTold ns ps ms d.value d.place t) where
   pub delay-asked : CanDrive ns ps d → CanAsk ms qs d.after d.place
   delay-asked c = record { told = c.told; tells = still c.told c.tells c.value; there = c.delay }
 
-  module _ (os : List Node) (rs : List PlaceState) (u : TermId) (h : Grows ms os) (later : StillTold ms qs os rs d.after d.place) (delay : IsTold ms qs os d.after d.place u) where
+  module _ (os : List TermNode) (rs : List PlaceState) (u : TermId) (h : Grows ms os) (later : StillTold ms qs os rs d.after d.place) (delay : IsTold ms qs os d.after d.place u) where
     pub driven-still : StillDriven ns ps os rs d
     driven-still f t a b = later f (still f t a) b
 
@@ -143,7 +143,7 @@ asserts-next r p q ts after t e eb ed en ea h = record {
   more = ea ∙ ap (λ (us : List TermId). us ++ t ∷ []) h.more ∙ append-append r.asserts ts t ∙ ap (λ (us : List TermId). r.asserts ++ us) (sym e);
 }
 
-pub asserted-more : (ns ms : List Node) (ps : List PlaceState) (r q : Rows) (i : ℕ) (xs : List Typed) (ts : List TermId) → Grows ns ms → AreTold ns ps ms (asks_at i xs) ts → IsWithAsserts r ts q
+pub asserted-more : (ns ms : List TermNode) (ps : List PlaceState) (r q : Rows) (i : ℕ) (xs : List Typed) (ts : List TermId) → Grows ns ms → AreTold ns ps ms (asks_at i xs) ts → IsWithAsserts r ts q
     → AreAsserted ns ps r ms q i xs
 asserted-more ns ms ps r q i xs ts g told h f ys m t e s =
     let w = rows-grown ns ms r m.rows g s in

@@ -12,7 +12,7 @@ use Rattle.lh_unit.proofs.Within.{Each-more}
 use Rattle.lh_term.specs.Tree.{Tree}
 use Rattle.lh_term.specs.Arena.{StandsForTree}
 use Rattle.lh_term.specs.declared.term.TermId.{TermId}
-use Rattle.lh_term.specs.declared.term.Node.{Node}
+use Rattle.lh_term.specs.declared.term.TermNode.{TermNode}
 use Rattle.lh_region_def.specs.Known.{Known, Knowledge, with_known}
 use Rattle.lh_region_joins.specs.declared.edge.Edge.{Edge}
 use Rattle.lh_region_places.specs.declared.state.PlaceState.{PlaceState}
@@ -60,7 +60,7 @@ module _ (s : Story) (i v : ℕ) (x : Tree) where
   told-sources w [] h = refl
   told-sources w (e ∷ es) h = let a = told-place e.from w (ne_of_gt {a = i} {b = e.from} h.0) in let b = told-sources w es h.1 in λ k. a k ∷ b k
 
-  joins-still : (ns : List Node) (w : ℕ) (es : List Edge) (y : Tree) → Each (IsBelow i) (map source_of es) → Joins ns s.told w es y → Joins ns told_now w es y
+  joins-still : (ns : List TermNode) (w : ℕ) (es : List Edge) (y : Tree) → Each (IsBelow i) (map source_of es) → Joins ns s.told w es y → Joins ns told_now w es y
   joins-still ns w es y h j = record { first = j.first; others = j.others; each = told-sources w es h ∙ j.each; alike = j.alike; gives = j.gives }
 
   -- what is known now
@@ -81,7 +81,7 @@ module _ (s : Story) (i v : ℕ) (x : Tree) where
       by (same f) = here f
       by (other q) = differs q (same_name (s.naming.value_name v) (s.naming.value_name w)) refl
 
-module _ (ns : List Node) (ps qs : List PlaceState) (s : Story) (i v : ℕ) (t : TermId) (x : Tree) (a : IsWithAt ps i v t qs) (tells : Tells ns ps s.told) (last : i + 1 ≡ length ps)
+module _ (ns : List TermNode) (ps qs : List PlaceState) (s : Story) (i v : ℕ) (t : TermId) (x : Tree) (a : IsWithAt ps i v t qs) (tells : Tells ns ps s.told) (last : i + 1 ≡ length ps)
     (st : StandsForTree ns t x) where
   same_now : SamePlaces ps qs
   same_now = with-same ps qs v i t a

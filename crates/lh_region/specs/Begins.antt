@@ -4,7 +4,7 @@ use Rattle.lh_types.specs.Types.{TypeTree}
 use Rattle.lh_unit.specs.Within.{Each}
 use Rattle.lh_term.specs.Tree.{Tree}
 use Rattle.lh_term.specs.Types.{IsTyped, type_of}
-use Rattle.lh_term.specs.declared.term.Node.{Node}
+use Rattle.lh_term.specs.declared.term.TermNode.{TermNode}
 use Rattle.lh_region_def.specs.Known.{Knowledge}
 use Rattle.lh_region_def.specs.Joins.{RegionEdge, joined}
 use Rattle.lh_region_def.specs.Typed.{IsCondition}
@@ -44,7 +44,7 @@ abbrev pub StaysKnown : Story → Story → Type 0
 StaysKnown s r = (i : ℕ) (k : Knowledge) → i < s.places → TellsKnown s i k → TellsKnown r i k
 
 -- What was told is told still, and at the new place what the edges that lead there join.
-pub record TellsJoined (ns : List Node) (qs : List PlaceState) (s : Story) (xs : List RegionEdge) : Type 0 where
+pub record TellsJoined (ns : List TermNode) (qs : List PlaceState) (s : Story) (xs : List RegionEdge) : Type 0 where
   pub tells : Tells ns qs (with_place s (joined xs)).told
   pub known : TellsKnown (with_place s (joined xs)) s.places (joined xs)
   pub before : StaysKnown s (with_place s (joined xs))
@@ -52,5 +52,5 @@ pub record TellsJoined (ns : List Node) (qs : List PlaceState) (s : Story) (xs :
 
 -- The place begins with what its edges join, of whatever is told so far.
 abbrev pub BeginsJoined : List PlaceState → List Edge → List PlaceState → Type 0
-BeginsJoined ps es qs = (ns : List Node) (s : Story) (x : RegionEdge) (xs : List RegionEdge) → Tells ns ps s.told → s.places ≡ length ps → AreEdges ns s es (x ∷ xs) → CanBegin s (x ∷ xs)
+BeginsJoined ps es qs = (ns : List TermNode) (s : Story) (x : RegionEdge) (xs : List RegionEdge) → Tells ns ps s.told → s.places ≡ length ps → AreEdges ns s es (x ∷ xs) → CanBegin s (x ∷ xs)
     → TellsJoined ns qs s (x ∷ xs)

@@ -6,7 +6,7 @@ use Rattle.lh_term.specs.Tree.{Tree, past_of, now_of}
 use Rattle.lh_term.specs.Arena.{trees, tree_at, StandsForTree}
 use Rattle.lh_term.specs.declared.part.Part.{Part}
 use Rattle.lh_term.specs.declared.term.TermId.{TermId}
-use Rattle.lh_term.specs.declared.term.Node.{Node}
+use Rattle.lh_term.specs.declared.term.TermNode.{TermNode}
 use Rattle.lh_region_def.specs.Places.{Region, Here, Midst, probes, drives, asserts, ends}
 use Rattle.lh_region_places.specs.declared.state.PlaceState.{PlaceState}
 use Rattle.lh_region.specs.declared.rows.Rows.{Rows}
@@ -22,34 +22,34 @@ probed true p = past_of p
 probed false p = now_of p
 
 -- The rows are those after a probe of the part.
-abbrev pub IsProbed : List Node → Rows → List Node → Rows → Part → Type 0
+abbrev pub IsProbed : List TermNode → Rows → List TermNode → Rows → Part → Type 0
 IsProbed ns r ms q p = (g : Region) (result : Option (List ℕ)) (m : Midst) → AreRows ns r m.rows → AreRows ms q (probes g m result (Some p)).rows
 
 -- something is told of the value that is driven, and of the delay
-pub record CanDrive (ns : List Node) (ps : List PlaceState) (d : DriveAt) : Type 0 where
+pub record CanDrive (ns : List TermNode) (ps : List PlaceState) (d : DriveAt) : Type 0 where
   pub told : KnownTerms
   pub tells : Tells ns ps told
   pub value : is_some (told d.place d.value) ≡ true
   pub delay : is_some (told d.place d.after) ≡ true
 
 -- What was told before, of the value and of the delay too, is so still.
-abbrev pub StillDriven : List Node → List PlaceState → List Node → List PlaceState → DriveAt → Type 0
+abbrev pub StillDriven : List TermNode → List PlaceState → List TermNode → List PlaceState → DriveAt → Type 0
 StillDriven ns ps ms qs d = (told : KnownTerms) → Tells ns ps told → is_some (told d.place d.value) ≡ true → is_some (told d.place d.after) ≡ true → Tells ms qs told
 
 -- The rows are those after a drive of the part: with what is told of the value and of the delay, on a condition.
-abbrev pub IsDriven : List Node → List PlaceState → Rows → List Node → Rows → DriveAt → Part → Type 0
+abbrev pub IsDriven : List TermNode → List PlaceState → Rows → List TermNode → Rows → DriveAt → Part → Type 0
 IsDriven ns ps r ms q d p =
     (told : KnownTerms) (x y : Tree) (m : Midst) → Tells ns ps told → told d.place d.value ≡ Some x → told d.place d.after ≡ Some y → AreRows ns r m.rows →
     AreRows ms q (drives m (Some (tree_at (trees ns) d.cond)) (Some p) (Some x) (Some y)).rows
 
 -- The rows are those after an assertion of what is told of the operands at a place.
-abbrev pub AreAsserted : List Node → List PlaceState → Rows → List Node → Rows → ℕ → List Typed → Type 0
+abbrev pub AreAsserted : List TermNode → List PlaceState → Rows → List TermNode → Rows → ℕ → List Typed → Type 0
 AreAsserted ns ps r ms q i xs = (told : KnownTerms) (ys : List Tree) (m : Midst) → Tells ns ps told → map (told_of told) (asks_at i xs) ≡ map Some ys → AreRows ns r m.rows
     → AreRows ms q (asserts m (Some ys)).rows
 
 -- The rows are those after an end of this way on a condition.
 abbrev pub IsEnded : Rows → Rows → TermId → Way → Type 0
-IsEnded r q cond way = (ns : List Node) (h : Here) (c : Tree) (m : Midst) → StandsForTree ns cond c → AreRows ns r m.rows → AreRows ns q (ends h c m (way_text way)).rows
+IsEnded r q cond way = (ns : List TermNode) (h : Here) (c : Tree) (m : Midst) → StandsForTree ns cond c → AreRows ns r m.rows → AreRows ns q (ends h c m (way_text way)).rows
 
 -- the rows with these assertions behind the others
 pub record IsWithAsserts (r : Rows) (ts : List TermId) (q : Rows) : Type 0 where

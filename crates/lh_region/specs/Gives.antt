@@ -3,7 +3,7 @@ use Rattle.std.specs.Prelude.{◌≡◌, ℕ, ◌+◌, ◌<◌, List, ◌&&◌, 
 use Rattle.lh_term.specs.Tree.{Tree}
 use Rattle.lh_term.specs.Arena.{StandsForTree}
 use Rattle.lh_term.specs.declared.term.TermId.{TermId}
-use Rattle.lh_term.specs.declared.term.Node.{Node}
+use Rattle.lh_term.specs.declared.term.TermNode.{TermNode}
 use Rattle.lh_region_def.specs.Known.{Known, Knowledge, with_known}
 use Rattle.lh_region_places.specs.declared.state.PlaceState.{PlaceState}
 use Rattle.lh_region_places.specs.Asked.{Tells}
@@ -18,7 +18,7 @@ abbrev pub ValuesDiffer : Story → Type 0
 ValuesDiffer s = (v w : ℕ) → v < s.values → w < s.values → s.naming.value_name v ≡ s.naming.value_name w → v ≡ w
 
 -- What was told is told still but of this value at this place, where it is the new term; and this is known there under its name.
-pub record TellsGiven (ns : List Node) (qs : List PlaceState) (s : Story) (i v : ℕ) (k : Knowledge) (a : Known) (x : Tree) : Type 0 where
+pub record TellsGiven (ns : List TermNode) (qs : List PlaceState) (s : Story) (i v : ℕ) (k : Knowledge) (a : Known) (x : Tree) : Type 0 where
   pub tells : Tells ns qs (with_term s i v x).told
   pub known : TellsKnown (with_term s i v x) i (with_known k (s.naming.value_name v) a)
   pub before : (j w : ℕ) → j < i → (with_term s i v x).told j w ≡ s.told j w
@@ -26,6 +26,6 @@ pub record TellsGiven (ns : List Node) (qs : List PlaceState) (s : Story) (i v :
 -- The last place gives the term to a value, of whatever is told and known so far.
 abbrev pub GivesTerm : List PlaceState → (i v : ℕ) → TermId → List PlaceState → Type 0
 GivesTerm ps i v t qs =
-    (ns : List Node) (s : Story) (k : Knowledge) (a : Known) (x : Tree) → Tells ns ps s.told → s.places ≡ length ps → i + 1 ≡ s.places → v < s.values → ValuesDiffer s → as_term a ≡ Some x
+    (ns : List TermNode) (s : Story) (k : Knowledge) (a : Known) (x : Tree) → Tells ns ps s.told → s.places ≡ length ps → i + 1 ≡ s.places → v < s.values → ValuesDiffer s → as_term a ≡ Some x
     → StandsForTree ns t x → TellsKnown s i k →
     TellsGiven ns qs s i v k a x

@@ -2,7 +2,7 @@
 use Rattle.std.specs.Prelude.{◌≡◌, List, [], ◌∷◌, Option, Some, None, Result, Ok, Err}
 use Rattle.std.specs.Option.{option_map_or}
 use Rattle.lh_unit.specs.Within.{Each}
-use Rattle.lh_term.specs.declared.term.Node.{Node}
+use Rattle.lh_term.specs.declared.term.TermNode.{TermNode}
 use Rattle.lh_term.specs.Arena.{trees, tree_at, IsIn, StandsForTree}
 use Rattle.lh_region_def.specs.Rows as text
 use Rattle.lh_region_def.specs.Regions as texts
@@ -19,14 +19,14 @@ use Rattle.lh_region.specs.declared.rows.RegionFault.{RegionFault}
 use Rattle.lh_region.specs.declared.rows.RegionFault.TheVariants as fault
 
 -- the drive is that one
-pub record IsDrive (ns : List Node) (d : DriveRow) (x : text.Drive) : Type 0 where
+pub record IsDrive (ns : List TermNode) (d : DriveRow) (x : text.Drive) : Type 0 where
   pub cond : StandsForTree ns d.cond x.cond
   pub part : d.part ≡ x.part
   pub value : StandsForTree ns d.value x.value
   pub delay : StandsForTree ns d.delay x.delay
 
 -- the drives are those, one by one
-abbrev pub AreDrives : List Node → List DriveRow → List text.Drive → Type 0
+abbrev pub AreDrives : List TermNode → List DriveRow → List text.Drive → Type 0
 AreDrives ns [] [] = Unit {0}
 AreDrives ns (d ∷ ds) (x ∷ xs) = IsDrive ns d x × AreDrives ns ds xs
 AreDrives ns _ _ = ⊥
@@ -38,29 +38,29 @@ way_text way.Head = text.enters_head
 way_text (way.Wait target to_head parts timed) = text.waits target to_head parts timed
 
 -- the end is that one; what is known there is not kept
-pub record IsEnd (ns : List Node) (e : EndRow) (x : text.RegionEnd) : Type 0 where
+pub record IsEnd (ns : List TermNode) (e : EndRow) (x : text.RegionEnd) : Type 0 where
   pub cond : StandsForTree ns e.cond x.cond
   pub way : way_text e.way ≡ x.way
 
-abbrev pub AreEnds : List Node → List EndRow → List text.RegionEnd → Type 0
+abbrev pub AreEnds : List TermNode → List EndRow → List text.RegionEnd → Type 0
 AreEnds ns [] [] = Unit {0}
 AreEnds ns (e ∷ es) (x ∷ xs) = IsEnd ns e x × AreEnds ns es xs
 AreEnds ns _ _ = ⊥
 
 -- the rows are those
-pub record AreRows (ns : List Node) (r : Rows) (x : text.Rows) : Type 0 where
+pub record AreRows (ns : List TermNode) (r : Rows) (x : text.Rows) : Type 0 where
   pub probes : r.probes ≡ x.probes
   pub drives : AreDrives ns r.drives x.drives
   pub asserts : AreTerms ns r.asserts x.asserts
   pub ends : AreEnds ns r.ends x.ends
 
 -- so are those of the second region, where it is built
-abbrev pub MaybeRows : List Node → Option Rows → Option text.Rows → Type 0
+abbrev pub MaybeRows : List TermNode → Option Rows → Option text.Rows → Type 0
 MaybeRows ns None None = Unit {0}
 MaybeRows ns (Some r) (Some x) = AreRows ns r x
 MaybeRows ns _ _ = ⊥
 
-pub record AreRegions (ns : List Node) (r : Regions) (x : texts.Regions) : Type 0 where
+pub record AreRegions (ns : List TermNode) (r : Regions) (x : texts.Regions) : Type 0 where
   pub first : AreRows ns r.first x.first
   pub second : MaybeRows ns r.second x.second
 
@@ -76,20 +76,20 @@ IsRefused x None = Unit {0}
 IsRefused x (Some r) = x ≡ no_regions r
 
 -- The answer is the regions of the definition, or the reason why there are none.
-abbrev pub RegionsOrReason : List Node → Regioned → Result Regions RegionFault → Type 0
+abbrev pub RegionsOrReason : List TermNode → Regioned → Result Regions RegionFault → Type 0
 RegionsOrReason ns x (Ok r) = (y : texts.Regions) × (x ≡ has_regions y) × AreRegions ns r y
 RegionsOrReason ns x (Err e) = IsRefused x (refusal_of e)
 
 -- ---- what is asked of the terms of rows
 
 -- the terms of a drive are of the arena: its condition is of one bit, and its value of the part's type
-pub record DriveFits (ns : List Node) (d : DriveRow) : Type 0 where
+pub record DriveFits (ns : List TermNode) (d : DriveRow) : Type 0 where
   pub cond : IsConditionAt ns d.cond
   pub value_in : IsIn ns d.value
   pub value : IsOfType d.part.ty (tree_at (trees ns) d.value)
   pub delay_in : IsIn ns d.delay
 
-abbrev pub DrivesFit : List Node → List DriveRow → Type 0
+abbrev pub DrivesFit : List TermNode → List DriveRow → Type 0
 DrivesFit ns ds = Each (DriveFits ns) ds
 
 -- the drives of the second region; none where it is not built
@@ -97,6 +97,6 @@ abbrev pub later_drives : Regions → List DriveRow
 later_drives r = option_map_or (λ (s : Rows). s.drives) r.second []
 
 -- the drives of both regions are of the arena
-pub record RegionsFit (ns : List Node) (r : Regions) : Type 0 where
+pub record RegionsFit (ns : List TermNode) (r : Regions) : Type 0 where
   pub first : DrivesFit ns r.first.drives
   pub second : DrivesFit ns (later_drives r)

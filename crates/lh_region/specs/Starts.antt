@@ -11,7 +11,7 @@ use Rattle.lh_term.specs.Tree.{Tree, constant}
 use Rattle.lh_term.specs.Types.{FitsTerm}
 use Rattle.lh_term.specs.Arena.{StandsForTree}
 use Rattle.lh_term.specs.declared.term.TermId.{TermId}
-use Rattle.lh_term.specs.declared.term.Node.{Node}
+use Rattle.lh_term.specs.declared.term.TermNode.{TermNode}
 use Rattle.lh_region_places.specs.declared.state.PlaceState.{PlaceState}
 use Rattle.lh_region_places.specs.Asked.{kept_by}
 
@@ -45,22 +45,22 @@ lines_left [] head = []
 lines_left (entry ∷ more) head = if nat_eq head 0 then [] else entry.insts
 
 -- the term is that one, if there is one
-abbrev pub StandsMaybe : List Node → Option TermId → Option Tree → Type 0
+abbrev pub StandsMaybe : List TermNode → Option TermId → Option Tree → Type 0
 StandsMaybe ns None None = Unit {0}
 StandsMaybe ns (Some t) (Some x) = StandsForTree ns t x
 StandsMaybe ns _ _ = ⊥
 
 -- a place at which these constants are known
-abbrev pub KnowsConstants : List Node → PlaceState → List FlatInst → Type 0
+abbrev pub KnowsConstants : List TermNode → PlaceState → List FlatInst → Type 0
 KnowsConstants ns p ls = (v : ℕ) → StandsMaybe ns (kept_by v p) (constant_given ls v)
 
 -- what is known once an instruction of the entry was taken
-abbrev pub IsTaken : List Node → Option Tree → (old new : Option TermId) → Type 0
+abbrev pub IsTaken : List TermNode → Option Tree → (old new : Option TermId) → Type 0
 IsTaken ns None old new = new ≡ old
 IsTaken ns (Some x) old new = (t : TermId) × (new ≡ Some t) × StandsForTree ns t x
 
 -- the place with the constant that the instruction is, if it is one
-pub record TakesConstant (ns : List Node) (p : PlaceState) (l : FlatInst) (q : PlaceState) : Type 0 where
+pub record TakesConstant (ns : List TermNode) (p : PlaceState) (l : FlatInst) (q : PlaceState) : Type 0 where
   pub block : q.block ≡ p.block
   pub edges : q.edges ≡ p.edges
   pub selectors : q.selectors ≡ p.selectors

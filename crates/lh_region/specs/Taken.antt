@@ -11,7 +11,7 @@ use Rattle.lh_term.specs.Types.{TakesTypes, types_of}
 use Rattle.lh_term.specs.Make.{make_operation}
 use Rattle.lh_term.specs.Arena.{StandsForTree}
 use Rattle.lh_term.specs.declared.term.TermId.{TermId}
-use Rattle.lh_term.specs.declared.term.Node.{Node}
+use Rattle.lh_term.specs.declared.term.TermNode.{TermNode}
 use Rattle.lh_region_joins.specs.declared.edge.Edge.{Edge}
 use Rattle.lh_region_joins.specs.Joins.{AreTerms}
 use Rattle.lh_region_places.specs.declared.state.PlaceState.{PlaceState}
@@ -28,18 +28,18 @@ abbrev pub AllThere : KnownTerms → List PlaceValue → Type 0
 AllThere told asks = Each (λ (a : PlaceValue). is_some (told_of told a) ≡ true) asks
 
 -- each is asked for at a place that is there, and something is told of it
-pub record CanAskAll (ns : List Node) (ps : List PlaceState) (asks : List PlaceValue) : Type 0 where
+pub record CanAskAll (ns : List TermNode) (ps : List PlaceState) (asks : List PlaceValue) : Type 0 where
   pub told : KnownTerms
   pub tells : Tells ns ps told
   pub within : Each (λ (a : PlaceValue). a.place < length ps) asks
   pub there : AllThere told asks
 
 -- What was told before is told still.
-abbrev pub StillToldAll : List Node → List PlaceState → List Node → List PlaceState → List PlaceValue → Type 0
+abbrev pub StillToldAll : List TermNode → List PlaceState → List TermNode → List PlaceState → List PlaceValue → Type 0
 StillToldAll ns ps ms qs asks = (told : KnownTerms) → Tells ns ps told → AllThere told asks → Tells ms qs told
 
 -- The terms are what is told of the values.
-abbrev pub AreTold : List Node → List PlaceState → List Node → List PlaceValue → List TermId → Type 0
+abbrev pub AreTold : List TermNode → List PlaceState → List TermNode → List PlaceValue → List TermId → Type 0
 AreTold ns ps ms asks ts = (told : KnownTerms) (ys : List Tree) → Tells ns ps told → map (told_of told) asks ≡ map Some ys → AreTerms ms ts ys
 
 -- ---- operations
@@ -52,7 +52,7 @@ abbrev pub asks_at : ℕ → List Typed → List PlaceValue
 asks_at i xs = map (ask_at i) xs
 
 -- these are told of the operands at a place, and the operation takes them
-pub record IsOperation (ns : List Node) (ps : List PlaceState) (i : ℕ) (o : Op) (xs : List Typed) : Type 0 where
+pub record IsOperation (ns : List TermNode) (ps : List PlaceState) (i : ℕ) (o : Op) (xs : List Typed) : Type 0 where
   pub told : KnownTerms
   pub tells : Tells ns ps told
   pub operands : List Tree
@@ -60,7 +60,7 @@ pub record IsOperation (ns : List Node) (ps : List PlaceState) (i : ℕ) (o : Op
   pub fits : TakesTypes o (types_of (tree_row operands))
 
 -- The term is the operation on what is told of the operands.
-abbrev pub IsOperated : List Node → List PlaceState → List Node → ℕ → Op → List Typed → TermId → Type 0
+abbrev pub IsOperated : List TermNode → List PlaceState → List TermNode → ℕ → Op → List Typed → TermId → Type 0
 IsOperated ns ps ms i o xs t = (told : KnownTerms) (ys : List Tree) → Tells ns ps told → map (told_of told) (asks_at i xs) ≡ map Some ys → StandsForTree ms t (make_operation o ys)
 
 -- ---- `phi`
@@ -77,7 +77,7 @@ abbrev pub NamesEach : List PhiEdge → List Edge → Type 0
 NamesEach operands es = Each (λ (e : Edge). is_some (operand_in e.block operands) ≡ true) es
 
 -- the values that a `phi` at a place names are told, and of one type
-pub record IsMerge (ns : List Node) (ps : List PlaceState) (i : ℕ) (operands : List PhiEdge) : Type 0 where
+pub record IsMerge (ns : List TermNode) (ps : List PlaceState) (i : ℕ) (operands : List PhiEdge) : Type 0 where
   pub told : KnownTerms
   pub tells : Tells ns ps told
   pub names : NamesEach operands (edges_at ps i)
@@ -87,7 +87,7 @@ pub record IsMerge (ns : List Node) (ps : List PlaceState) (i : ℕ) (operands :
   pub alike : AreOfOneType first others
 
 -- The term is what is told of the values that a `phi` at a place names, merged.
-abbrev pub IsMerged : List Node → List PlaceState → List Node → ℕ → List PhiEdge → TermId → Type 0
+abbrev pub IsMerged : List TermNode → List PlaceState → List TermNode → ℕ → List PhiEdge → TermId → Type 0
 IsMerged ns ps ms i operands t =
     (told : KnownTerms) (y : Tree) (ys : List Tree) → Tells ns ps told → map (told_of told) (phi_asks operands (edges_at ps i)) ≡ map Some (y ∷ ys)
     → StandsForTree ms t (joined_by ns (edges_at ps i) y ys)

@@ -5,7 +5,7 @@ ghost use Rattle.lh_region.specs.Ahead.{led_to, none_led, LeadsNowhere, IsLedAls
 
 use lh_region_joins::Edge;
 use lh_types::list::ListOf;
-use lh_types::ty::NoMemory;
+use lh_types::memory::NoMemory;
 use std::alloc::Global;
 
 /// Edges in the order of their sources.

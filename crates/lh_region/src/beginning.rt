@@ -5,7 +5,7 @@ ghost use Rattle.lh_region.specs.Begins.{IsBegun, BeginsJoined};
 use crate::ahead::EdgeList;
 use lh_region_places::places::Places;
 use lh_region_places::state::PlaceState;
-use lh_types::ty::NoMemory;
+use lh_types::memory::NoMemory;
 use std::alloc::Global;
 
 /// A place of a block begins, to which these edges lead. Its number is that of the places before it.

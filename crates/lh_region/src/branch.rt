@@ -10,8 +10,8 @@ use lh_region_places::asking::value_at;
 use lh_region_places::places::Places;
 use lh_term::term::TermId;
 use lh_term::terms::Terms;
+use lh_types::memory::NoMemory;
 use lh_types::op::Op;
-use lh_types::ty::NoMemory;
 use std::alloc::Global;
 
 /// On which conditions the two edges of a branch are taken.

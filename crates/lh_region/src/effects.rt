@@ -19,7 +19,7 @@ use lh_region_places::places::Places;
 use lh_term::part::Part;
 use lh_term::term::TermId;
 use lh_term::terms::Terms;
-use lh_types::ty::NoMemory;
+use lh_types::memory::NoMemory;
 use lh_unit::inst::{TypedList, ValueId};
 use std::alloc::Global;
 

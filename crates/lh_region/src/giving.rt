@@ -5,7 +5,7 @@ ghost use Rattle.lh_region.specs.Gives.{GivesTerm};
 
 use lh_region_places::places::Places;
 use lh_term::term::TermId;
-use lh_types::ty::NoMemory;
+use lh_types::memory::NoMemory;
 
 /// Gives a term to a value or variable at the place that is treated.
 pub fn give(places: &mut Places, at: usize, value: u32, term: TermId) -> Result<(), NoMemory>

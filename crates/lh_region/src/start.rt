@@ -8,7 +8,7 @@ ghost use Rattle.lh_region.specs.Starts.{GivenFits, lines_left, KnowsConstants, 
 use lh_flat::{Flat, FlatInst};
 use lh_region_places::state::PlaceState;
 use lh_term::terms::Terms;
-use lh_types::ty::NoMemory;
+use lh_types::memory::NoMemory;
 use lh_unit::inst::Inst;
 use std::alloc::Global;
 

@@ -10,8 +10,8 @@ use lh_region_places::asking::{merged_at, value_at};
 use lh_region_places::places::Places;
 use lh_term::term::{TermId, TermList};
 use lh_term::terms::Terms;
+use lh_types::memory::NoMemory;
 use lh_types::op::Op;
-use lh_types::ty::NoMemory;
 use lh_unit::inst::{OperandList, PhiEdge, Typed};
 use std::alloc::Global;
 

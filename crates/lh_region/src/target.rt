@@ -10,7 +10,7 @@ ghost use Rattle.lh_region.specs.Targets.{ways_of, target_by};
 use crate::rows::{EndRow, Rows, Way};
 use lh_term::part::PartList;
 use lh_term_cover::Cover;
-use lh_types::ty::NoMemory;
+use lh_types::memory::NoMemory;
 use std::alloc::Global;
 
 /// The block for which every end waits, where that is not the head, no end names a time, and all wait on the same bits.

@@ -12,7 +12,7 @@ use Rattle.lh_term.specs.Arena.{trees, tree_at, trees_at, ids_below, IsIn, AreIn
 use Rattle.lh_term.specs.Conjuncts.{conjuncts_of, conjunction_from, conjunction}
 use Rattle.lh_term.specs.SameTree.{same_tree, same_tree-is, same_tree-refl}
 use Rattle.lh_term.specs.declared.term.TermId.{TermId}
-use Rattle.lh_term.specs.declared.term.Node.{Node}
+use Rattle.lh_term.specs.declared.term.TermNode.{TermNode}
 use Rattle.lh_term.proofs.Swaps.{tree_grown, grows_on}
 use Rattle.lh_region_def.specs.Joins.{or_any, any_taken, in_each}
 use Rattle.lh_region_def.proofs.Merging.{bit-condition, or-condition, and-condition}
@@ -25,13 +25,13 @@ abbrev pub no_edge : Edge
 no_edge = record { from = 0; block = 0; cond = record { 0 = 0 } }
 
 -- some of the edges before these is taken where `any` is 1
-pub record AnySoFar (old now : List Node) (any : TermId) (rest all : List Edge) : Type 0 where
+pub record AnySoFar (old now : List TermNode) (any : TermId) (rest all : List Edge) : Type 0 where
   pub grows : Grows old now
   pub any_is : IsConditionAt now any
   pub conds : AreConditions old rest
   pub so_far : or_any (tree_at (trees now) any) (edges_on old rest) ≡ any_taken (edges_on old all)
 
-pub AnySoFar-none : (old now : List Node) (any : TermId) (all : List Edge) → Grows old now → StandsForTree now any (bit_of false) → AreConditions old all → AnySoFar old now any all all
+pub AnySoFar-none : (old now : List TermNode) (any : TermId) (all : List Edge) → Grows old now → StandsForTree now any (bit_of false) → AreConditions old all → AnySoFar old now any all all
 AnySoFar-none old now any all g s c = record {
   grows = g;
   any_is = stands-condition now any (bit_of false) s (bit-condition false);
@@ -39,10 +39,10 @@ AnySoFar-none old now any all g s c = record {
   so_far = ap (λ (x : Tree). or_any x (edges_on old all)) s.tree;
 }
 
-pub AnySoFar-first : (old now : List Node) (any : TermId) (rest all : List Edge) (e : Edge) (more : List Edge) → rest ≡ e ∷ more → AnySoFar old now any rest all → IsConditionAt now e.cond
+pub AnySoFar-first : (old now : List TermNode) (any : TermId) (rest all : List Edge) (e : Edge) (more : List Edge) → rest ≡ e ∷ more → AnySoFar old now any rest all → IsConditionAt now e.cond
 AnySoFar-first old now any rest all e more p s = condition-grown old now e.cond s.grows (subst (AreConditions old) p s.conds).0
 
-pub AnySoFar-next : (old now new : List Node) (any next : TermId) (rest all : List Edge) (e : Edge) (more : List Edge) → rest ≡ e ∷ more → Grows now new
+pub AnySoFar-next : (old now new : List TermNode) (any next : TermId) (rest all : List Edge) (e : Edge) (more : List Edge) → rest ≡ e ∷ more → Grows now new
     → StandsForTree new next (make_operation Or (tree_at (trees now) any ∷ tree_at (trees now) e.cond ∷ [])) → AnySoFar old now any rest all → AnySoFar old new next more all
 AnySoFar-next old now new any next rest all e more p g m s =
     let c = subst (AreConditions old) p s.conds in
@@ -63,13 +63,13 @@ abbrev pub no_id : TermId
 no_id = record { 0 = 0 }
 
 -- the conditions before these all hold where `all` is 1
-pub record AllSoFar (old now : List Node) (all : TermId) (rest conds : List TermId) : Type 0 where
+pub record AllSoFar (old now : List TermNode) (all : TermId) (rest conds : List TermId) : Type 0 where
   pub grows : Grows old now
   pub all_is : IsConditionAt now all
   pub each : Each (IsConditionAt old) rest
   pub so_far : conjunction_from (tree_at (trees now) all) (trees_at old rest) ≡ conjunction (trees_at old conds)
 
-pub AllSoFar-none : (old now : List Node) (all : TermId) (conds : List TermId) → Grows old now → StandsForTree now all (bit_of true) → Each (IsConditionAt old) conds → AllSoFar old now all conds conds
+pub AllSoFar-none : (old now : List TermNode) (all : TermId) (conds : List TermId) → Grows old now → StandsForTree now all (bit_of true) → Each (IsConditionAt old) conds → AllSoFar old now all conds conds
 AllSoFar-none old now all conds g s c = record {
   grows = g;
   all_is = stands-condition now all (bit_of true) s (bit-condition true);
@@ -77,10 +77,10 @@ AllSoFar-none old now all conds g s c = record {
   so_far = ap (λ (x : Tree). conjunction_from x (trees_at old conds)) s.tree;
 }
 
-pub AllSoFar-first : (old now : List Node) (all : TermId) (rest conds : List TermId) (t : TermId) (more : List TermId) → rest ≡ t ∷ more → AllSoFar old now all rest conds → IsConditionAt now t
+pub AllSoFar-first : (old now : List TermNode) (all : TermId) (rest conds : List TermId) (t : TermId) (more : List TermId) → rest ≡ t ∷ more → AllSoFar old now all rest conds → IsConditionAt now t
 AllSoFar-first old now all rest conds t more p s = condition-grown old now t s.grows (subst (Each (IsConditionAt old)) p s.each).0
 
-pub AllSoFar-next : (old now new : List Node) (all next : TermId) (rest conds : List TermId) (t : TermId) (more : List TermId) → rest ≡ t ∷ more → Grows now new
+pub AllSoFar-next : (old now new : List TermNode) (all next : TermId) (rest conds : List TermId) (t : TermId) (more : List TermId) → rest ≡ t ∷ more → Grows now new
     → StandsForTree new next (make_operation And (tree_at (trees now) all ∷ tree_at (trees now) t ∷ [])) → AllSoFar old now all rest conds → AllSoFar old new next more conds
 AllSoFar-next old now new all next rest conds t more p g m s =
     let c = subst (Each (IsConditionAt old)) p s.each in
@@ -118,7 +118,7 @@ raised-all n k b l = by (same_or k n) b
         ∙ ap (λ (x : Bool). x && b) (sym (nat_eq-other k n m))
 
 -- two terms of an arena are one where their numbers are
-same-id : (ns : List Node) (c t : TermId) → OneId ns → IsIn ns c → IsIn ns t → nat_eq c.0 t.0 ≡ same_tree (tree_at (trees ns) t) (tree_at (trees ns) c)
+same-id : (ns : List TermNode) (c t : TermId) → OneId ns → IsIn ns c → IsIn ns t → nat_eq c.0 t.0 ≡ same_tree (tree_at (trees ns) t) (tree_at (trees ns) c)
 same-id ns c t o i j = by (same_or c.0 t.0)
   where
     by : Same c.0 t.0 → nat_eq c.0 t.0 ≡ same_tree (tree_at (trees ns) t) (tree_at (trees ns) c)
@@ -131,7 +131,7 @@ same-id ns c t o i j = by (same_or c.0 t.0)
         apart false f = refl
         apart true f = let k : t ≡ c = o t c j i (same_tree-is (tree_at (trees ns) t) (tree_at (trees ns) c) f) in absurd (n (ap (λ (x : TermId). x.0) (sym k)))
 
-listed-same : (ns : List Node) (ts : List TermId) (t : TermId) → OneId ns → AreIn ns ts → IsIn ns t → is_listed ts t.0 ≡ list_any (same_tree (tree_at (trees ns) t)) (trees_at ns ts)
+listed-same : (ns : List TermNode) (ts : List TermId) (t : TermId) → OneId ns → AreIn ns ts → IsIn ns t → is_listed ts t.0 ≡ list_any (same_tree (tree_at (trees ns) t)) (trees_at ns ts)
 listed-same ns [] t o i j = refl
 listed-same ns (c ∷ ts) t o i j =
     let p = both-of (nat_lt c.0 (length ns)) (ids_below (length ns) ts) i in
@@ -143,10 +143,10 @@ listed-same ns (c ∷ ts) t o i j =
     both-of true b e = (refl, e)
     both-of false b e = cc
 
-pub Shared-none : (ns : List Node) (s : Shared) → s.edges ≡ 0 → ((q : ℕ) → count_of s.counts q ≡ 0) → IsShared ns [] s
+pub Shared-none : (ns : List TermNode) (s : Shared) → s.edges ≡ 0 → ((q : ℕ) → count_of s.counts q ≡ 0) → IsShared ns [] s
 Shared-none ns s e c = record { edges = e; below = λ q. omega (arith, c q); counts = λ t i. ap (λ (k : ℕ). nat_eq k 0) (c t.0) }
 
-pub Shared-next : (ns : List Node) (before : List Edge) (e : Edge) (s new : Shared) (ts : List TermId) → OneId ns → AreIn ns ts → trees_at ns ts ≡ conjuncts_of (tree_at (trees ns) e.cond)
+pub Shared-next : (ns : List TermNode) (before : List Edge) (e : Edge) (s new : Shared) (ts : List TermId) → OneId ns → AreIn ns ts → trees_at ns ts ≡ conjuncts_of (tree_at (trees ns) e.cond)
     → new.edges ≡ s.edges + 1 → ((q : ℕ) → count_of new.counts q ≡ raised s.edges (is_listed ts q) (count_of s.counts q)) → IsShared ns before s → IsShared ns (before ++ e ∷ []) new
 Shared-next ns before e s new ts o i c p q h = record {
   edges = p ∙ ap (λ (n : ℕ). n + 1) h.edges ∙ sym (length_push before e);
@@ -189,15 +189,15 @@ Shared-next ns before e s new ts o i c p q h = record {
 
 -- ---- the conjuncts that not all edges have
 
-pub record OthersSoFar (ns : List Node) (s : Shared) (others seen : List TermId) : Type 0 where
+pub record OthersSoFar (ns : List TermNode) (s : Shared) (others seen : List TermId) : Type 0 where
   pub within : AreIn ns others
   pub kept : (es : List Edge) → IsShared ns es s → trees_at ns others ≡ filter (λ (c : Tree). not (in_each (edges_on ns es) c)) (trees_at ns seen)
 
-trees-push : (ns : List Node) (ts : List TermId) (c : TermId) → trees_at ns (ts ++ c ∷ []) ≡ trees_at ns ts ++ tree_at (trees ns) c ∷ []
+trees-push : (ns : List TermNode) (ts : List TermId) (c : TermId) → trees_at ns (ts ++ c ∷ []) ≡ trees_at ns ts ++ tree_at (trees ns) c ∷ []
 trees-push ns [] c = refl
 trees-push ns (t ∷ ts) c = ap (λ (x : List Tree). tree_at (trees ns) t ∷ x) (trees-push ns ts c)
 
-in-push : (ns : List Node) (ts : List TermId) (c : TermId) → AreIn ns ts → IsIn ns c → AreIn ns (ts ++ c ∷ [])
+in-push : (ns : List TermNode) (ts : List TermId) (c : TermId) → AreIn ns ts → IsIn ns c → AreIn ns (ts ++ c ∷ [])
 in-push ns [] c i j = ap (λ (b : Bool). b && true) (lt-ltb c.0 (length ns) j)
 in-push ns (t ∷ ts) c i j = by (nat_lt t.0 (length ns)) (ids_below (length ns) ts) (ids_below (length ns) (ts ++ c ∷ [])) i (λ k. in-push ns ts c k j)
   where
@@ -212,14 +212,14 @@ nil-end : (xs : List Tree) → xs ++ [] ≡ xs
 nil-end [] = refl
 nil-end (x ∷ xs) = ap (λ (ys : List Tree). x ∷ ys) (nil-end xs)
 
-has-each : (ns : List Node) (s : Shared) (es : List Edge) (c : TermId) (b : Bool) → IsIn ns c → b ≡ nat_eq (count_of s.counts c.0) s.edges → IsShared ns es s
+has-each : (ns : List TermNode) (s : Shared) (es : List Edge) (c : TermId) (b : Bool) → IsIn ns c → b ≡ nat_eq (count_of s.counts c.0) s.edges → IsShared ns es s
     → in_each (edges_on ns es) (tree_at (trees ns) c) ≡ b
 has-each ns s es c b i e h = sym (h.counts c i) ∙ ap (nat_eq (count_of s.counts c.0)) (sym h.edges) ∙ sym e
 
-pub OthersSoFar-none : (ns : List Node) (s : Shared) → OthersSoFar ns s [] []
+pub OthersSoFar-none : (ns : List TermNode) (s : Shared) → OthersSoFar ns s [] []
 OthersSoFar-none ns s = record { within = refl; kept = λ es h. refl }
 
-pub OthersSoFar-skip : (ns : List Node) (s : Shared) (others seen after : List TermId) (c : TermId) → after ≡ seen ++ c ∷ [] → IsIn ns c → true ≡ nat_eq (count_of s.counts c.0) s.edges
+pub OthersSoFar-skip : (ns : List TermNode) (s : Shared) (others seen after : List TermId) (c : TermId) → after ≡ seen ++ c ∷ [] → IsIn ns c → true ≡ nat_eq (count_of s.counts c.0) s.edges
     → OthersSoFar ns s others seen → OthersSoFar ns s others after
 OthersSoFar-skip ns s others seen after c f i e o = subst (OthersSoFar ns s others) (sym f) (record {
   within = o.within;
@@ -229,7 +229,7 @@ OthersSoFar-skip ns s others seen after c f i e o = subst (OthersSoFar ns s othe
       ∙ nil-end (filter p (trees_at ns seen)));
 })
 
-pub OthersSoFar-push : (ns : List Node) (s : Shared) (others more seen after : List TermId) (c : TermId) → after ≡ seen ++ c ∷ [] → IsIn ns c → false ≡ nat_eq (count_of s.counts c.0) s.edges
+pub OthersSoFar-push : (ns : List TermNode) (s : Shared) (others more seen after : List TermId) (c : TermId) → after ≡ seen ++ c ∷ [] → IsIn ns c → false ≡ nat_eq (count_of s.counts c.0) s.edges
     → more ≡ others ++ c ∷ [] → OthersSoFar ns s others seen → OthersSoFar ns s more after
 OthersSoFar-push ns s others more seen after c f i e q o = subst (OthersSoFar ns s more) (sym f) (record {
   within = subst (AreIn ns) (sym q) (in-push ns others c o.within i);
@@ -240,7 +240,7 @@ OthersSoFar-push ns s others more seen after c f i e q o = subst (OthersSoFar ns
 })
 
 -- each listed term is one of the arena
-pub listed-in : (ns : List Node) (ts : List TermId) (i : ℕ) (d : TermId) → AreIn ns ts → i < length ts → IsIn ns (get_or ts i d)
+pub listed-in : (ns : List TermNode) (ts : List TermId) (i : ℕ) (d : TermId) → AreIn ns ts → i < length ts → IsIn ns (get_or ts i d)
 listed-in ns [] i d h l = absurd (omega arith)
 listed-in ns (t ∷ ts) zero d h l = ltb-true t.0 (length ns) (first (nat_lt t.0 (length ns)) (ids_below (length ns) ts) h)
   where

@@ -8,7 +8,7 @@ use Rattle.lh_term.specs.Make.{make_choice}
 use Rattle.lh_term.specs.Arena.{trees, tree_at, trees_at, ids_below, IsIn, AreIn, StandsForTree, Grows}
 use Rattle.lh_term.specs.Conjuncts.{conjuncts_of, conjunction}
 use Rattle.lh_term.specs.declared.term.TermId.{TermId}
-use Rattle.lh_term.specs.declared.term.Node.{Node}
+use Rattle.lh_term.specs.declared.term.TermNode.{TermNode}
 use Rattle.lh_term.proofs.Swaps.{tree_grown, in_grown, stands_grown, grows_on}
 use Rattle.lh_region_def.specs.Joins.{RegionEdge, in_each, selector}
 use Rattle.lh_region_def.specs.Typed.{IsCondition, IsOfType}
@@ -19,39 +19,39 @@ use Rattle.lh_region_joins.specs.declared.joins.Shared.{Shared}
 use Rattle.lh_region_joins.specs.Joins.{IsConditionAt, AreConditions, edge_on, edges_on, IsShared, after_first, AreTerms, AreOthers, chosen_by, CanChoose, CanMerge}
 use Rattle.lh_region_joins.proofs.Conditions.{condition-grown, grows-none}
 
-pub conditions-at : (ns : List Node) (es : List Edge) (i : ℕ) (d : Edge) → AreConditions ns es → i < length es → IsConditionAt ns (get_or es i d).cond
+pub conditions-at : (ns : List TermNode) (es : List Edge) (i : ℕ) (d : Edge) → AreConditions ns es → i < length es → IsConditionAt ns (get_or es i d).cond
 conditions-at ns [] i d h l = absurd (omega arith)
 conditions-at ns (e ∷ es) zero d h l = h.0
 conditions-at ns (e ∷ es) (suc i) d h l = conditions-at ns es i d h.1 (omega arith)
 
-pub conditions-later : (ns : List Node) (es : List Edge) → AreConditions ns es → AreConditions ns (after_first es)
+pub conditions-later : (ns : List TermNode) (es : List Edge) → AreConditions ns es → AreConditions ns (after_first es)
 conditions-later ns [] h = tt
 conditions-later ns (e ∷ es) h = h.1
 
-pub edges-later : (ns : List Node) (es : List Edge) → edges_on ns (after_first es) ≡ after_first (edges_on ns es)
+pub edges-later : (ns : List TermNode) (es : List Edge) → edges_on ns (after_first es) ≡ after_first (edges_on ns es)
 edges-later ns [] = refl
 edges-later ns (e ∷ es) = refl
 
 -- ---- the conjuncts of each edge that not all have
 
-pub record EachSoFar (ns : List Node) (s : Shared) (seen : List Edge) (lists : List (List TermId)) : Type 0 where
+pub record EachSoFar (ns : List TermNode) (s : Shared) (seen : List Edge) (lists : List (List TermId)) : Type 0 where
   pub each : (es : List Edge) → IsShared ns es s → AreOthers ns (edges_on ns es) (edges_on ns seen) lists
 
-others-push : (ns : List Node) (all xs : List RegionEdge) (lists : List (List TermId)) (e : RegionEdge) (ts : List TermId) → AreOthers ns all xs lists → AreIn ns ts
+others-push : (ns : List TermNode) (all xs : List RegionEdge) (lists : List (List TermId)) (e : RegionEdge) (ts : List TermId) → AreOthers ns all xs lists → AreIn ns ts
     → trees_at ns ts ≡ filter (λ (c : Tree). not (in_each all c)) (conjuncts_of e.cond) → AreOthers ns all (xs ++ e ∷ []) (lists ++ ts ∷ [])
 others-push ns all [] [] e ts h i k = (i, k, tt)
 others-push ns all [] (l ∷ ls) e ts h i k = absurd h
 others-push ns all (x ∷ xs) [] e ts h i k = absurd h
 others-push ns all (x ∷ xs) (l ∷ ls) e ts h i k = (h.0, h.1, others-push ns all xs ls e ts h.2 i k)
 
-edges-push : (ns : List Node) (es : List Edge) (e : Edge) → edges_on ns (es ++ e ∷ []) ≡ edges_on ns es ++ edge_on (tree_at (trees ns) e.cond) ∷ []
+edges-push : (ns : List TermNode) (es : List Edge) (e : Edge) → edges_on ns (es ++ e ∷ []) ≡ edges_on ns es ++ edge_on (tree_at (trees ns) e.cond) ∷ []
 edges-push ns [] e = refl
 edges-push ns (x ∷ es) e = ap (λ (ys : List RegionEdge). edge_on (tree_at (trees ns) x.cond) ∷ ys) (edges-push ns es e)
 
-pub EachSoFar-none : (ns : List Node) (s : Shared) → EachSoFar ns s [] []
+pub EachSoFar-none : (ns : List TermNode) (s : Shared) → EachSoFar ns s [] []
 EachSoFar-none ns s = record { each = λ es h. tt }
 
-pub EachSoFar-next : (ns : List Node) (s : Shared) (seen after : List Edge) (lists more : List (List TermId)) (e : Edge) (ts : List TermId) → after ≡ seen ++ e ∷ [] → more ≡ lists ++ ts ∷ []
+pub EachSoFar-next : (ns : List TermNode) (s : Shared) (seen after : List Edge) (lists more : List (List TermId)) (e : Edge) (ts : List TermId) → after ≡ seen ++ e ∷ [] → more ≡ lists ++ ts ∷ []
     → AreIn ns ts → ((es : List Edge) → IsShared ns es s → trees_at ns ts ≡ filter (λ (c : Tree). not (in_each (edges_on ns es) c)) (conjuncts_of (tree_at (trees ns) e.cond)))
     → EachSoFar ns s seen lists → EachSoFar ns s after more
 EachSoFar-next ns s seen after lists more e ts p q i k h = record {
@@ -64,7 +64,7 @@ EachSoFar-next ns s seen after lists more e ts p q i k h = record {
 
 -- ---- values that are merged
 
-pub record MergeSoFar (old now : List Node) (first merged : TermId) (ss vs all_ss all_vs : List TermId) : Type 0 where
+pub record MergeSoFar (old now : List TermNode) (first merged : TermId) (ss vs all_ss all_vs : List TermId) : Type 0 where
   pub grows : Grows old now
   pub merged_in : IsIn now merged
   pub merged_is : IsOfType (type_of (tree_at (trees old) first)) (tree_at (trees now) merged)
@@ -73,7 +73,7 @@ pub record MergeSoFar (old now : List Node) (first merged : TermId) (ss vs all_s
   pub alike : Each (λ (v : TermId). IsIn old v × IsTyped (tree_at (trees old) v) × (type_of (tree_at (trees old) first) ≡ type_of (tree_at (trees old) v))) vs
   pub so_far : chosen_by (trees_at old ss) (tree_at (trees now) merged) (trees_at old vs) ≡ chosen_by (trees_at old all_ss) (tree_at (trees old) first) (trees_at old all_vs)
 
-pub MergeSoFar-none : (ns : List Node) (first : TermId) (ss vs : List TermId) → CanMerge ns ss first vs → MergeSoFar ns ns first first ss vs ss vs
+pub MergeSoFar-none : (ns : List TermNode) (first : TermId) (ss vs : List TermId) → CanMerge ns ss first vs → MergeSoFar ns ns first first ss vs ss vs
 MergeSoFar-none ns first ss vs c = record {
   grows = grows-none ns;
   merged_in = c.first_in;
@@ -84,7 +84,7 @@ MergeSoFar-none ns first ss vs c = record {
   so_far = refl;
 }
 
-pub MergeSoFar-can : (old now : List Node) (first merged : TermId) (ss vs all_ss all_vs : List TermId) (s v : TermId) (ms mv : List TermId) → ss ≡ s ∷ ms → vs ≡ v ∷ mv
+pub MergeSoFar-can : (old now : List TermNode) (first merged : TermId) (ss vs all_ss all_vs : List TermId) (s v : TermId) (ms mv : List TermId) → ss ≡ s ∷ ms → vs ≡ v ∷ mv
     → MergeSoFar old now first merged ss vs all_ss all_vs → CanChoose now s merged v
 MergeSoFar-can old now first merged ss vs all_ss all_vs s v ms mv p q h =
     let c = (subst (Each (IsConditionAt old)) p h.conds).0 in
@@ -98,7 +98,7 @@ MergeSoFar-can old now first merged ss vs all_ss all_vs s v ms mv p q h =
       alike = h.merged_is.type ∙ a.2 ∙ ap type_of (sym same);
     }
 
-pub MergeSoFar-next : (old now new : List Node) (first merged next : TermId) (ss vs all_ss all_vs : List TermId) (s v : TermId) (ms mv : List TermId) → ss ≡ s ∷ ms → vs ≡ v ∷ mv → Grows now new
+pub MergeSoFar-next : (old now new : List TermNode) (first merged next : TermId) (ss vs all_ss all_vs : List TermId) (s v : TermId) (ms mv : List TermId) → ss ≡ s ∷ ms → vs ≡ v ∷ mv → Grows now new
     → StandsForTree new next (make_choice (tree_at (trees now) s) (tree_at (trees now) merged) (tree_at (trees now) v)) → MergeSoFar old now first merged ss vs all_ss all_vs
     → MergeSoFar old new first next ms mv all_ss all_vs
 MergeSoFar-next old now new first merged next ss vs all_ss all_vs s v ms mv p q g m h =
@@ -125,26 +125,26 @@ MergeSoFar-next old now new first merged next ss vs all_ss all_vs s v ms mv p q 
     one-less : suc (length ms) ≡ suc (length mv) → length ms ≡ length mv
     one-less e = omega arith
 
-pub MergeSoFar-end : (old now : List Node) (first merged : TermId) (ss vs all_ss all_vs : List TermId) → ss ≡ [] → MergeSoFar old now first merged ss vs all_ss all_vs
+pub MergeSoFar-end : (old now : List TermNode) (first merged : TermId) (ss vs all_ss all_vs : List TermId) → ss ≡ [] → MergeSoFar old now first merged ss vs all_ss all_vs
     → StandsForTree now merged (chosen_by (trees_at old all_ss) (tree_at (trees old) first) (trees_at old all_vs))
 MergeSoFar-end old now first merged ss vs all_ss all_vs p h = record
     { is_in = h.merged_in; tree = ap (λ (x : List TermId). chosen_by (trees_at old x) (tree_at (trees now) merged) (trees_at old vs)) (sym p) ∙ h.so_far }
 
 -- ---- selectors
 
-pub terms-grown : (old new : List Node) (ts : List TermId) (xs : List Tree) → Grows old new → AreTerms old ts xs → AreTerms new ts xs
+pub terms-grown : (old new : List TermNode) (ts : List TermId) (xs : List Tree) → Grows old new → AreTerms old ts xs → AreTerms new ts xs
 terms-grown old new [] [] g h = tt
 terms-grown old new [] (x ∷ xs) g h = h
 terms-grown old new (t ∷ ts) [] g h = h
 terms-grown old new (t ∷ ts) (x ∷ xs) g h = (stands_grown old new g t x h.0, terms-grown old new ts xs g h.1)
 
-pub terms-push : (ns : List Node) (ts : List TermId) (xs : List Tree) (t : TermId) (x : Tree) → AreTerms ns ts xs → StandsForTree ns t x → AreTerms ns (ts ++ t ∷ []) (xs ++ x ∷ [])
+pub terms-push : (ns : List TermNode) (ts : List TermId) (xs : List Tree) (t : TermId) (x : Tree) → AreTerms ns ts xs → StandsForTree ns t x → AreTerms ns (ts ++ t ∷ []) (xs ++ x ∷ [])
 terms-push ns [] [] t x h s = (s, tt)
 terms-push ns [] (y ∷ xs) t x h s = absurd h
 terms-push ns (u ∷ ts) [] t x h s = absurd h
 terms-push ns (u ∷ ts) (y ∷ xs) t x h s = (h.0, terms-push ns ts xs t x h.1 s)
 
-pub trees-grown : (old new : List Node) (ts : List TermId) → Grows old new → AreIn old ts → trees_at new ts ≡ trees_at old ts
+pub trees-grown : (old new : List TermNode) (ts : List TermId) → Grows old new → AreIn old ts → trees_at new ts ≡ trees_at old ts
 trees-grown old new [] g i = refl
 trees-grown old new (t ∷ ts) g i =
     let p = both-of (nat_lt t.0 (length old)) (ids_below (length old) ts) i in
@@ -156,7 +156,7 @@ trees-grown old new (t ∷ ts) g i =
     both-of true b e = (refl, e)
     both-of false b e = cc
 
-each-cond : (ns : List Node) (es : List Edge) → AreConditions ns es → EachCondition (edges_on ns es)
+each-cond : (ns : List TermNode) (es : List Edge) → AreConditions ns es → EachCondition (edges_on ns es)
 each-cond ns [] h = tt
 each-cond ns (e ∷ es) h = (h.0.cond, each-cond ns es h.1)
 
@@ -164,7 +164,7 @@ later-cond : (es : List RegionEdge) → EachCondition es → EachCondition (afte
 later-cond [] h = tt
 later-cond (e ∷ es) h = h.1
 
-pub record SelectorsSoFar (old now : List Node) (all : List RegionEdge) (ids : List TermId) (rest : List (List TermId)) : Type 0 where
+pub record SelectorsSoFar (old now : List TermNode) (all : List RegionEdge) (ids : List TermId) (rest : List (List TermId)) : Type 0 where
   pub grows : Grows old now
   pub done : List RegionEdge
   pub left : List RegionEdge
@@ -173,7 +173,7 @@ pub record SelectorsSoFar (old now : List Node) (all : List RegionEdge) (ids : L
   pub others : AreOthers old all left rest
   pub conds : EachCondition left
 
-pub SelectorsSoFar-none : (ns : List Node) (es : List Edge) (rest : List (List TermId)) → AreConditions ns es → AreOthers ns (edges_on ns es) (after_first (edges_on ns es)) rest
+pub SelectorsSoFar-none : (ns : List TermNode) (es : List Edge) (rest : List (List TermId)) → AreConditions ns es → AreOthers ns (edges_on ns es) (after_first (edges_on ns es)) rest
     → SelectorsSoFar ns ns (edges_on ns es) [] rest
 SelectorsSoFar-none ns es rest c o = record {
   grows = grows-none ns;
@@ -185,7 +185,7 @@ SelectorsSoFar-none ns es rest c o = record {
   conds = later-cond (edges_on ns es) (each-cond ns es c);
 }
 
-pub bits-conditions : (ns : List Node) (ts : List TermId) → AreIn ns ts → AllBits (trees_at ns ts) → Each (IsConditionAt ns) ts
+pub bits-conditions : (ns : List TermNode) (ts : List TermId) → AreIn ns ts → AllBits (trees_at ns ts) → Each (IsConditionAt ns) ts
 bits-conditions ns [] i b = tt
 bits-conditions ns (t ∷ ts) i b =
     let p = both-of (nat_lt t.0 (length ns)) (ids_below (length ns) ts) i in
@@ -195,12 +195,12 @@ bits-conditions ns (t ∷ ts) i b =
     both-of true b e = (refl, e)
     both-of false b e = cc
 
-each-grown : (old new : List Node) (ts : List TermId) → Grows old new → Each (IsConditionAt old) ts → Each (IsConditionAt new) ts
+each-grown : (old new : List TermNode) (ts : List TermId) → Grows old new → Each (IsConditionAt old) ts → Each (IsConditionAt new) ts
 each-grown old new [] g h = tt
 each-grown old new (t ∷ ts) g h = (condition-grown old new t g h.0, each-grown old new ts g h.1)
 
 -- the next edge, with its conjuncts
-record NextOthers (old : List Node) (all left : List RegionEdge) (conds : List TermId) (more : List (List TermId)) : Type 0 where
+record NextOthers (old : List TermNode) (all left : List RegionEdge) (conds : List TermId) (more : List (List TermId)) : Type 0 where
   edge : RegionEdge
   edges : List RegionEdge
   parts : left ≡ edge ∷ edges
@@ -210,14 +210,14 @@ record NextOthers (old : List Node) (all left : List RegionEdge) (conds : List T
   cond : IsCondition edge.cond
   each_cond : EachCondition edges
 
-next-others : (old : List Node) (all left : List RegionEdge) (rest : List (List TermId)) (conds : List TermId) (more : List (List TermId)) → rest ≡ conds ∷ more → AreOthers old all left rest
+next-others : (old : List TermNode) (all left : List RegionEdge) (rest : List (List TermId)) (conds : List TermId) (more : List (List TermId)) → rest ≡ conds ∷ more → AreOthers old all left rest
     → EachCondition left → NextOthers old all left conds more
 next-others old all [] rest conds more e o c = absurd (subst (AreOthers old all []) e o)
 next-others old all (x ∷ xs) rest conds more e o c =
     let p = subst (AreOthers old all (x ∷ xs)) e o in
     record { edge = x; edges = xs; parts = refl; within = p.0; trees = p.1; others = p.2; cond = c.0; each_cond = c.1 }
 
-pub SelectorsSoFar-conds : (old now : List Node) (all : List RegionEdge) (ids : List TermId) (rest : List (List TermId)) (conds : List TermId) (more : List (List TermId)) → rest ≡ conds ∷ more
+pub SelectorsSoFar-conds : (old now : List TermNode) (all : List RegionEdge) (ids : List TermId) (rest : List (List TermId)) (conds : List TermId) (more : List (List TermId)) → rest ≡ conds ∷ more
     → SelectorsSoFar old now all ids rest → Each (IsConditionAt now) conds
 SelectorsSoFar-conds old now all ids rest conds more e s =
     let n = next-others old all s.left rest conds more e s.others s.conds in
@@ -232,7 +232,7 @@ map-one : (f : RegionEdge → Tree) (xs : List RegionEdge) (y : RegionEdge) → 
 map-one f [] y = refl
 map-one f (x ∷ xs) y = ap (λ (zs : List Tree). f x ∷ zs) (map-one f xs y)
 
-pub SelectorsSoFar-next : (old now new : List Node) (all : List RegionEdge) (ids longer : List TermId) (rest : List (List TermId)) (conds : List TermId) (more : List (List TermId)) (t : TermId)
+pub SelectorsSoFar-next : (old now new : List TermNode) (all : List RegionEdge) (ids longer : List TermId) (rest : List (List TermId)) (conds : List TermId) (more : List (List TermId)) (t : TermId)
     → rest ≡ conds ∷ more → longer ≡ ids ++ t ∷ [] → Grows now new → StandsForTree new t (conjunction (trees_at now conds)) → SelectorsSoFar old now all ids rest
     → SelectorsSoFar old new all longer more
 SelectorsSoFar-next old now new all ids longer rest conds more t e q g m s =
@@ -251,7 +251,7 @@ SelectorsSoFar-next old now new all ids longer rest conds more t e q g m s =
       conds = n.each_cond;
     }
 
-pub SelectorsSoFar-end : (old now : List Node) (all : List RegionEdge) (ids : List TermId) (rest : List (List TermId)) → rest ≡ [] → SelectorsSoFar old now all ids rest
+pub SelectorsSoFar-end : (old now : List TermNode) (all : List RegionEdge) (ids : List TermId) (rest : List (List TermId)) → rest ≡ [] → SelectorsSoFar old now all ids rest
     → AreTerms now ids (map (selector all) (after_first all))
 SelectorsSoFar-end old now all ids rest e s = subst (λ (x : List RegionEdge). AreTerms now ids (map (selector all) x))
     (sym (s.parts ∙ ap (λ (x : List RegionEdge). s.done ++ x) (none s.left (subst (AreOthers old all s.left) e s.others)) ∙ nil s.done)) s.made

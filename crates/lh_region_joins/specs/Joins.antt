@@ -9,7 +9,7 @@ use Rattle.lh_term.specs.Conjuncts.{conjuncts_of}
 use Rattle.lh_term.specs.Make.{make_choice}
 use Rattle.lh_term.specs.Types.{IsTyped, type_of}
 use Rattle.lh_term.specs.declared.term.TermId.{TermId}
-use Rattle.lh_term.specs.declared.term.Node.{Node}
+use Rattle.lh_term.specs.declared.term.TermNode.{TermNode}
 use Rattle.lh_region_def.specs.Known.{nothing_known}
 use Rattle.lh_region_def.specs.Joins.{RegionEdge, any_taken, in_each, selector, merged}
 use Rattle.lh_region_def.specs.Typed.{IsCondition}
@@ -17,19 +17,19 @@ use Rattle.lh_region_joins.specs.declared.edge.Edge.{Edge}
 use Rattle.lh_region_joins.specs.declared.joins.Shared.{Shared}
 
 -- the term is one of the arena, and of one bit
-pub record IsConditionAt (ns : List Node) (t : TermId) : Type 0 where
+pub record IsConditionAt (ns : List TermNode) (t : TermId) : Type 0 where
   pub is_in : IsIn ns t
   pub cond : IsCondition (tree_at (trees ns) t)
 
 -- each condition is so
-abbrev pub AreConditions : List Node → List Edge → Type 0
+abbrev pub AreConditions : List TermNode → List Edge → Type 0
 AreConditions ns es = Each (λ (e : Edge). IsConditionAt ns e.cond) es
 
 -- an edge on this condition, wherever it comes from and leads
 abbrev pub edge_on : Tree → RegionEdge
 edge_on c = record { to = record { turns = 0; block = 0 }; from = []; cond = c; known = nothing_known }
 
-abbrev pub edges_on : List Node → List Edge → List RegionEdge
+abbrev pub edges_on : List TermNode → List Edge → List RegionEdge
 edges_on ns es = map (λ (e : Edge). edge_on (tree_at (trees ns) e.cond)) es
 
 -- ---- which conjuncts all of some edges have
@@ -46,7 +46,7 @@ abbrev pub raised : (all : ℕ) → (is_one : Bool) → (count : ℕ) → ℕ
 raised all b n = if nat_eq n all && b then all + 1 else n
 
 -- a term is counted as often as there are edges where all of them have it as a conjunct, and less often where not
-pub record IsShared (ns : List Node) (es : List Edge) (s : Shared) : Type 0 where
+pub record IsShared (ns : List TermNode) (es : List Edge) (s : Shared) : Type 0 where
   pub edges : s.edges ≡ length es
   pub below : (q : ℕ) → count_of s.counts q ≤ length es
   pub counts : (t : TermId) → IsIn ns t → nat_eq (count_of s.counts t.0) (length es) ≡ in_each (edges_on ns es) (tree_at (trees ns) t)
@@ -58,13 +58,13 @@ after_first [] = []
 after_first (x ∷ more) = more
 
 -- each id stands for its tree
-abbrev pub AreTerms : List Node → List TermId → List Tree → Type 0
+abbrev pub AreTerms : List TermNode → List TermId → List Tree → Type 0
 AreTerms ns [] [] = Unit {0}
 AreTerms ns (t ∷ ts) (x ∷ xs) = StandsForTree ns t x × AreTerms ns ts xs
 AreTerms ns _ _ = ⊥
 
 -- the conjuncts of each of these edges that not all have
-abbrev pub AreOthers : List Node → (all : List RegionEdge) → List RegionEdge → List (List TermId) → Type 0
+abbrev pub AreOthers : List TermNode → (all : List RegionEdge) → List RegionEdge → List (List TermId) → Type 0
 AreOthers ns all [] [] = Unit {0}
 AreOthers ns all (e ∷ es) (ts ∷ more) = AreIn ns ts × (trees_at ns ts ≡ filter (λ c. not (in_each all c)) (conjuncts_of e.cond)) × AreOthers ns all es more
 AreOthers ns all _ _ = ⊥
@@ -75,7 +75,7 @@ chosen_by (s ∷ ss) t (v ∷ vs) = chosen_by ss (make_choice s t v) vs
 chosen_by _ t _ = t
 
 -- a condition, and two terms of one type
-pub record CanChoose (ns : List Node) (s t v : TermId) : Type 0 where
+pub record CanChoose (ns : List TermNode) (s t v : TermId) : Type 0 where
   pub selector : IsConditionAt ns s
   pub first_in : IsIn ns t
   pub second_in : IsIn ns v
@@ -83,7 +83,7 @@ pub record CanChoose (ns : List Node) (s t v : TermId) : Type 0 where
   pub alike : type_of (tree_at (trees ns) t) ≡ type_of (tree_at (trees ns) v)
 
 -- a condition for each value after the first, and values of one type
-pub record CanMerge (ns : List Node) (selectors : List TermId) (first : TermId) (others : List TermId) : Type 0 where
+pub record CanMerge (ns : List TermNode) (selectors : List TermId) (first : TermId) (others : List TermId) : Type 0 where
   pub long : length selectors ≡ length others
   pub conds : Each (IsConditionAt ns) selectors
   pub first_in : IsIn ns first

@@ -15,7 +15,7 @@ use crate::logic::{and, bit, or};
 use lh_term::term::{TermId, TermList};
 use lh_term::terms::Terms;
 use lh_types::list::ListOf;
-use lh_types::ty::NoMemory;
+use lh_types::memory::NoMemory;
 use std::alloc::Global;
 use std::collections::HashMap;
 

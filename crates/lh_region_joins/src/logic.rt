@@ -7,8 +7,8 @@ ghost use Rattle.lh_region_joins.specs.Joins.{IsConditionAt};
 
 use lh_term::term::{Term, TermId};
 use lh_term::terms::Terms;
+use lh_types::memory::NoMemory;
 use lh_types::op::Op;
-use lh_types::ty::NoMemory;
 use lh_types::val::Val;
 
 /// A condition that always holds, or never does.

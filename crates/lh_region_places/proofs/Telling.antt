@@ -12,7 +12,7 @@ use Rattle.lh_term.specs.Types.{IsTyped, type_of}
 use Rattle.lh_term.specs.Make.{make_choice}
 use Rattle.lh_term.specs.Arena.{trees, tree_at, trees_at, IsIn, StandsForTree, Grows}
 use Rattle.lh_term.specs.declared.term.TermId.{TermId}
-use Rattle.lh_term.specs.declared.term.Node.{Node}
+use Rattle.lh_term.specs.declared.term.TermNode.{TermNode}
 use Rattle.lh_types.specs.Same.{and_both}
 use Rattle.lh_term.proofs.Arenas.{map_length}
 use Rattle.lh_term.proofs.Swaps.{tree_grown, in_grown, stands_grown}
@@ -32,23 +32,23 @@ use Rattle.lh_region_places.proofs.Placing.{kept-at, edges-of, replaced-here, re
 
 -- ---- an arena that grows
 
-pub selectors-grown : (ns ms : List Node) (es : List Edge) → Grows ns ms → AreConditions ns es → selectors_on ms es ≡ selectors_on ns es
+pub selectors-grown : (ns ms : List TermNode) (es : List Edge) → Grows ns ms → AreConditions ns es → selectors_on ms es ≡ selectors_on ns es
 selectors-grown ns ms es g c = ap (λ (xs : List RegionEdge). map (selector xs) (after_first xs)) (edges-grown ns ms es g c)
 
-pub join-grown : (ns ms : List Node) (p : PlaceState) → Grows ns ms → IsJoin ns p → IsJoin ms p
+pub join-grown : (ns ms : List TermNode) (p : PlaceState) → Grows ns ms → IsJoin ns p → IsJoin ms p
 join-grown ns ms p g j = record {
   conds = conditions-grown ns ms p.edges.items g j.conds;
   selectors = λ ts e. subst (AreTerms ms ts) (sym (selectors-grown ns ms p.edges.items g j.conds)) (terms-grown ns ms ts (selectors_on ns p.edges.items) g (j.selectors ts e));
 }
 
-pub conds-at : (ns : List Node) (ps : List PlaceState) → ((i : ℕ) (p : PlaceState) → slice_get ps i ≡ Some p → IsJoin ns p) → (i : ℕ) → AreConditions ns (edges_at ps i)
+pub conds-at : (ns : List TermNode) (ps : List PlaceState) → ((i : ℕ) (p : PlaceState) → slice_get ps i ≡ Some p → IsJoin ns p) → (i : ℕ) → AreConditions ns (edges_at ps i)
 conds-at ns ps h i = by (slice_get ps i) refl
   where
     by : (o : Option PlaceState) → slice_get ps i ≡ o → AreConditions ns (edges_at ps i)
     by None e = subst (AreConditions ns) (sym (ap (λ (o : Option PlaceState). option_map_or (λ (x : PlaceState). x.edges.items) o []) e)) tt
     by (Some p) e = subst (AreConditions ns) (sym (edges-of ps i p e)) (h i p e).conds
 
-joins-grown : (ns ms : List Node) (told : KnownTerms) (v : ℕ) (es : List Edge) (x : Tree) → Grows ns ms → AreConditions ns es → Joins ns told v es x → Joins ms told v es x
+joins-grown : (ns ms : List TermNode) (told : KnownTerms) (v : ℕ) (es : List Edge) (x : Tree) → Grows ns ms → AreConditions ns es → Joins ns told v es x → Joins ms told v es x
 joins-grown ns ms told v es x g c j = record {
   first = j.first;
   others = j.others;
@@ -57,7 +57,7 @@ joins-grown ns ms told v es x g c j = record {
   gives = j.gives ∙ ap (λ (ss : List Tree). chosen_by ss j.first j.others) (sym (selectors-grown ns ms es g c));
 }
 
-pub tells-grown : (ns ms : List Node) (ps : List PlaceState) (told : KnownTerms) → Grows ns ms → Tells ns ps told → Tells ms ps told
+pub tells-grown : (ns ms : List TermNode) (ps : List PlaceState) (told : KnownTerms) → Grows ns ms → Tells ns ps told → Tells ms ps told
 tells-grown ns ms ps told g t = record {
   earlier = t.earlier;
   places = λ i p e. join-grown ns ms p g (t.places i p e);
@@ -67,7 +67,7 @@ tells-grown ns ms ps told g t = record {
 
 -- ---- selectors that are kept
 
-selected-kept : (ms : List Node) (ps qs : List PlaceState) (i : ℕ) → IsSelectedAt ms ps i qs → (w j : ℕ) → kept_at qs w j ≡ kept_at ps w j
+selected-kept : (ms : List TermNode) (ps qs : List PlaceState) (i : ℕ) → IsSelectedAt ms ps i qs → (w j : ℕ) → kept_at qs w j ≡ kept_at ps w j
 selected-kept ms ps qs i a w j = by (same_or i j)
   where
     here : i ≡ j → kept_at qs w j ≡ kept_at ps w j
@@ -80,11 +80,11 @@ selected-kept ms ps qs i a w j = by (same_or i j)
     by (same e) = here e
     by (other n) = ap (λ (o : Option PlaceState). option_and_then (kept_by w) o) (replaced-other ps i j a.old a.new qs a.replaced n)
 
-pub selected-same : (ms : List Node) (ps qs : List PlaceState) (i : ℕ) → IsSelectedAt ms ps i qs → SamePlaces ps qs
+pub selected-same : (ms : List TermNode) (ps qs : List PlaceState) (i : ℕ) → IsSelectedAt ms ps i qs → SamePlaces ps qs
 selected-same ms ps qs i a = replaced-same ps i a.old a.new qs a.replaced (λ k. (a.selected.block k, (a.selected.edges k).items))
 
 -- the places, one of which is replaced by one that is as good
-pub places-replaced : (ms : List Node) (ps qs : List PlaceState) (i : ℕ) (p q : PlaceState) → IsReplaced ps i p q qs → IsJoin ms q → ((j : ℕ) (x : PlaceState) → slice_get ps j ≡ Some x → IsJoin ms x)
+pub places-replaced : (ms : List TermNode) (ps qs : List PlaceState) (i : ℕ) (p q : PlaceState) → IsReplaced ps i p q qs → IsJoin ms q → ((j : ℕ) (x : PlaceState) → slice_get ps j ≡ Some x → IsJoin ms x)
     → (j : ℕ) (x : PlaceState) → slice_get qs j ≡ Some x → IsJoin ms x
 places-replaced ms ps qs i p q r h f j x e = by (same_or i j)
   where
@@ -95,7 +95,7 @@ places-replaced ms ps qs i p q r h f j x e = by (same_or i j)
     by (same k) = here k
     by (other n) = f j x (sym (replaced-other ps i j p q qs r n) ∙ e)
 
-pub tells-selected : (ms : List Node) (ps qs : List PlaceState) (i : ℕ) (told : KnownTerms) → IsSelectedAt ms ps i qs → Tells ms ps told → Tells ms qs told
+pub tells-selected : (ms : List TermNode) (ps qs : List PlaceState) (i : ℕ) (told : KnownTerms) → IsSelectedAt ms ps i qs → Tells ms ps told → Tells ms qs told
 tells-selected ms ps qs i told a t =
     let k = selected-kept ms ps qs i a in
     let s = selected-same ms ps qs i a in
@@ -108,13 +108,13 @@ tells-selected ms ps qs i told a t =
 
 -- ---- a term that is kept
 
-pub with-join : (ms : List Node) (p q : PlaceState) (v : ℕ) (t : TermId) → IsWith p v t q → IsJoin ms p → IsJoin ms q
+pub with-join : (ms : List TermNode) (p q : PlaceState) (v : ℕ) (t : TermId) → IsWith p v t q → IsJoin ms p → IsJoin ms q
 with-join ms p q v t w j = record {
   conds = subst (AreConditions ms) (λ k. (sym w.edges k).items) j.conds;
   selectors = λ ts e. subst (λ (es : List Edge). AreTerms ms ts (selectors_on ms es)) (λ k. (sym w.edges k).items) (j.selectors ts (sym w.selectors ∙ e));
 }
 
-pub tells-with : (ms : List Node) (ps qs : List PlaceState) (i v : ℕ) (k : TermId) (told : KnownTerms) (x : Tree) → IsWithAt ps i v k qs → told i v ≡ Some x → StandsForTree ms k x → Tells ms ps told
+pub tells-with : (ms : List TermNode) (ps qs : List PlaceState) (i v : ℕ) (k : TermId) (told : KnownTerms) (x : Tree) → IsWithAt ps i v k qs → told i v ≡ Some x → StandsForTree ms k x → Tells ms ps told
     → Tells ms qs told
 tells-with ms ps qs i v k told x a h s t =
     let m = with-same ps qs v i k a in
@@ -160,12 +160,12 @@ told-sources told v (e ∷ es) (y ∷ ys) h =
     (ap is_some a, told-sources told v es ys b)
 
 -- where something is told of a value that a place lacks, so it is where edges to the place come from
-pub told-passes : (ns : List Node) (ps : List PlaceState) (told : KnownTerms) (v : ℕ) → Tells ns ps told → (i : ℕ) → is_some (told i v) ≡ true → keeps ps v i ≡ false → AreTold told v (sources ps i)
+pub told-passes : (ns : List TermNode) (ps : List PlaceState) (told : KnownTerms) (v : ℕ) → Tells ns ps told → (i : ℕ) → is_some (told i v) ≡ true → keeps ps v i ≡ false → AreTold told v (sources ps i)
 told-passes ns ps told v t i h e = let (x, f) = some-of (told i v) h in let j = t.joins i v x e f in told-sources told v (edges_at ps i) (j.first ∷ j.others) j.each
 
 -- ---- the values of a gap
 
-made-of-kept : (ns : List Node) (ps : List PlaceState) (told : KnownTerms) (v : ℕ) → Tells ns ps told → (is : List ℕ) (ts : List TermId) (ys : List Tree) → AreKept ps v is ts
+made-of-kept : (ns : List TermNode) (ps : List PlaceState) (told : KnownTerms) (v : ℕ) → Tells ns ps told → (is : List ℕ) (ts : List TermId) (ys : List Tree) → AreKept ps v is ts
     → map (λ (i : ℕ). told i v) is ≡ map Some ys → AreTerms ns ts ys
 made-of-kept ns ps told v t [] [] [] k h = tt
 made-of-kept ns ps told v t [] [] (y ∷ ys) k h = absurd cc
@@ -186,19 +186,19 @@ told-from : (told : KnownTerms) (v : ℕ) (es : List Edge) → map (λ (i : ℕ)
 told-from told v [] = refl
 told-from told v (e ∷ es) = let h = told-from told v es in λ i. told e.from v ∷ h i
 
-pub made-trees : (ns : List Node) (ts : List TermId) (xs : List Tree) → AreTerms ns ts xs → trees_at ns ts ≡ xs
+pub made-trees : (ns : List TermNode) (ts : List TermId) (xs : List Tree) → AreTerms ns ts xs → trees_at ns ts ≡ xs
 made-trees ns [] [] m = refl
 made-trees ns [] (x ∷ xs) m = absurd m
 made-trees ns (t ∷ ts) [] m = absurd m
 made-trees ns (t ∷ ts) (x ∷ xs) m = let a = m.0.tree in let b = made-trees ns ts xs m.1 in λ i. a i ∷ b i
 
-pub made-in : (ns : List Node) (ts : List TermId) (xs : List Tree) → AreTerms ns ts xs → Each (IsIn ns) ts
+pub made-in : (ns : List TermNode) (ts : List TermId) (xs : List Tree) → AreTerms ns ts xs → Each (IsIn ns) ts
 made-in ns [] [] m = tt
 made-in ns [] (x ∷ xs) m = absurd m
 made-in ns (t ∷ ts) [] m = absurd m
 made-in ns (t ∷ ts) (x ∷ xs) m = (m.0.is_in, made-in ns ts xs m.1)
 
-pub can-join : (ns : List Node) (p : PlaceState) (ts : List TermId) (x : Tree) (xs : List Tree) → AreTerms ns ts (x ∷ xs) → AreOfOneType x xs → length ts ≡ length p.edges.items → CanJoin ns p ts
+pub can-join : (ns : List TermNode) (p : PlaceState) (ts : List TermId) (x : Tree) (xs : List Tree) → AreTerms ns ts (x ∷ xs) → AreOfOneType x xs → length ts ≡ length p.edges.items → CanJoin ns p ts
 can-join ns p [] x xs m a l = absurd m
 can-join ns p (t ∷ ts) x xs m a l = record {
   first = t;
@@ -220,7 +220,7 @@ same-long ps told v g s =
 
 -- ---- a gap is filled
 
-module _ (ns : List Node) (ps : List PlaceState) (v : ℕ) (g : Gap) (ts : List TermId) (lacks : keeps ps v g.place ≡ false) (kept : AreKept ps v g.from.items ts) where
+module _ (ns : List TermNode) (ps : List PlaceState) (v : ℕ) (g : Gap) (ts : List TermId) (lacks : keeps ps v g.place ≡ false) (kept : AreKept ps v g.from.items ts) where
   made-by : (told : KnownTerms) → Tells ns ps told → TellSame ps told v g → (ys : List Tree) → map (λ (e : Edge). told e.from v) (edges_at ps g.place) ≡ map Some ys → AreTerms ns ts ys
   made-by told tells alike ys h = made-of-kept ns ps told v tells g.from.items ts ys kept (sym alike ∙ told-from told v (edges_at ps g.place) ∙ h)
 
@@ -231,7 +231,7 @@ module _ (ns : List Node) (ps : List PlaceState) (v : ℕ) (g : Gap) (ts : List 
       let long = kept-length ps v g.from.items ts kept ∙ same-long ps a.told v g a.same ∙ ap length (edges-of ps g.place p e) in
       (a.tells.places g.place p e, can-join ns p ts j.first j.others (made-by a.told a.tells a.same (j.first ∷ j.others) j.each) j.alike long)
 
-  pub merge-still : (ms : List Node) (qs rs : List PlaceState) (t : TermId) → Grows ns ms → IsSelectedAt ms ps g.place qs → IsJoined ns (edges_at ps g.place) ts ms t → IsWithAt qs g.place v t rs
+  pub merge-still : (ms : List TermNode) (qs rs : List PlaceState) (t : TermId) → Grows ns ms → IsSelectedAt ms ps g.place qs → IsJoined ns (edges_at ps g.place) ts ms t → IsWithAt qs g.place v t rs
       → StillToldBy ns ps ms rs v g
   merge-still ms qs rs t w s i a told tells there alike =
       let (x, f) = some-of (told g.place v) there in
@@ -240,10 +240,10 @@ module _ (ns : List Node) (ps : List PlaceState) (v : ℕ) (g : Gap) (ts : List 
       let h = i j.first j.others (made-trees ns ts (j.first ∷ j.others) m) in
       tells-with ms qs rs g.place v t told x a f (subst (StandsForTree ms t) (sym j.gives) h) (tells-selected ms ps qs g.place told s (tells-grown ns ms ps told w tells))
 
-pub merge-also : (ms : List Node) (ps qs rs : List PlaceState) (v at : ℕ) (t : TermId) → IsSelectedAt ms ps at qs → IsWithAt qs at v t rs → IsKeptAlso ps v at rs
+pub merge-also : (ms : List TermNode) (ps qs rs : List PlaceState) (v at : ℕ) (t : TermId) → IsSelectedAt ms ps at qs → IsWithAt qs at v t rs → IsKeptAlso ps v at rs
 merge-also ms ps qs rs v at t s w j = kept-also qs rs at v t w j ∙ ap (λ (o : Option TermId). nat_eq at j || is_some o) (selected-kept ms ps qs at s v j)
 
-pub merge-same : (ms : List Node) (ps qs rs : List PlaceState) (v at : ℕ) (t : TermId) → IsSelectedAt ms ps at qs → IsWithAt qs at v t rs → SamePlaces ps rs
+pub merge-same : (ms : List TermNode) (ps qs rs : List PlaceState) (v at : ℕ) (t : TermId) → IsSelectedAt ms ps at qs → IsWithAt qs at v t rs → SamePlaces ps rs
 merge-same ms ps qs rs v at t s w = with-same qs rs v at t w ∙ selected-same ms ps qs at s
 
 -- ---- values that are the same
@@ -253,7 +253,7 @@ same-chosen [] x xs h = refl
 same-chosen (s ∷ ss) x [] h = refl
 same-chosen (s ∷ ss) x (y ∷ ys) h = ap (λ (z : Tree). chosen_by ss z ys) (ap (make_choice s x) h.0 ∙ choice-same s x) ∙ same-chosen ss x ys h.1
 
-same-trees : (ns : List Node) (t : TermId) (ts : List TermId) → list_all (λ (u : TermId). nat_eq t.0 u.0) ts ≡ true → Each (λ (y : Tree). y ≡ tree_at (trees ns) t) (trees_at ns ts)
+same-trees : (ns : List TermNode) (t : TermId) (ts : List TermId) → list_all (λ (u : TermId). nat_eq t.0 u.0) ts ≡ true → Each (λ (y : Tree). y ≡ tree_at (trees ns) t) (trees_at ns ts)
 same-trees ns t [] e = tt
 same-trees ns t (u ∷ ts) e =
     let f = and_both (nat_eq t.0 u.0) (list_all (λ (u : TermId). nat_eq t.0 u.0) ts) e in
@@ -261,7 +261,7 @@ same-trees ns t (u ∷ ts) e =
     (λ i. tree_at (trees ns) (record { 0 = sym k i }), same-trees ns t ts f.1)
 
 -- one term for all the edges is what they give
-pub same-joined : (ns : List Node) (es : List Edge) (vs : List TermId) (t : TermId) (ts : List TermId) → vs ≡ t ∷ ts → IsIn ns t → list_all (λ (u : TermId). nat_eq t.0 u.0) ts ≡ true
+pub same-joined : (ns : List TermNode) (es : List Edge) (vs : List TermId) (t : TermId) (ts : List TermId) → vs ≡ t ∷ ts → IsIn ns t → list_all (λ (u : TermId). nat_eq t.0 u.0) ts ≡ true
     → IsJoined ns es vs ns t
 same-joined ns es vs t ts e i a x xs h =
     let g : tree_at (trees ns) t ∷ trees_at ns ts ≡ x ∷ xs = ap (trees_at ns) (sym e) ∙ h in
@@ -275,45 +275,45 @@ same-joined ns es vs t ts e i a x xs h =
 
 -- ---- selectors of conditions
 
-edge-conditions : (ns : List Node) (all : List RegionEdge) (es : List Edge) → AreConditions ns es → Each (λ (s : Tree). IsCondition s) (map (selector all) (edges_on ns es))
+edge-conditions : (ns : List TermNode) (all : List RegionEdge) (es : List Edge) → AreConditions ns es → Each (λ (s : Tree). IsCondition s) (map (selector all) (edges_on ns es))
 edge-conditions ns all [] c = tt
 edge-conditions ns all (e ∷ es) c = (selector-condition all (edge_on (tree_at (trees ns) e.cond)) c.0.cond, edge-conditions ns all es c.1)
 
-pub selectors-conditions : (ns : List Node) (es : List Edge) → AreConditions ns es → Each (λ (s : Tree). IsCondition s) (selectors_on ns es)
+pub selectors-conditions : (ns : List TermNode) (es : List Edge) → AreConditions ns es → Each (λ (s : Tree). IsCondition s) (selectors_on ns es)
 selectors-conditions ns [] c = tt
 selectors-conditions ns (e ∷ es) c = edge-conditions ns (edges_on ns (e ∷ es)) es c.1
 
-conditions-made : (ns : List Node) (ts : List TermId) (xs : List Tree) → AreTerms ns ts xs → Each (λ (s : Tree). IsCondition s) xs → Each (IsConditionAt ns) ts
+conditions-made : (ns : List TermNode) (ts : List TermId) (xs : List Tree) → AreTerms ns ts xs → Each (λ (s : Tree). IsCondition s) xs → Each (IsConditionAt ns) ts
 conditions-made ns [] [] m h = tt
 conditions-made ns [] (x ∷ xs) m h = absurd m
 conditions-made ns (t ∷ ts) [] m h = absurd m
 conditions-made ns (t ∷ ts) (x ∷ xs) m h = (stands-condition ns t x m.0 h.0, conditions-made ns ts xs m.1 h.1)
 
-pub made-length : (ns : List Node) (ts : List TermId) (xs : List Tree) → AreTerms ns ts xs → length ts ≡ length xs
+pub made-length : (ns : List TermNode) (ts : List TermId) (xs : List Tree) → AreTerms ns ts xs → length ts ≡ length xs
 made-length ns [] [] m = refl
 made-length ns [] (x ∷ xs) m = absurd m
 made-length ns (t ∷ ts) [] m = absurd m
 made-length ns (t ∷ ts) (x ∷ xs) m = ap suc (made-length ns ts xs m.1)
 
-later-length : (ns : List Node) (es : List Edge) (n : ℕ) → suc n ≡ length es → length (selectors_on ns es) ≡ n
+later-length : (ns : List TermNode) (es : List Edge) (n : ℕ) → suc n ≡ length es → length (selectors_on ns es) ≡ n
 later-length ns [] n e = absurd (omega (arith, e))
 later-length ns (x ∷ es) n e = map_length (selector (edges_on ns (x ∷ es))) (edges_on ns es) ∙ map_length (λ (e : Edge). edge_on (tree_at (trees ns) e.cond)) es ∙ omega (arith, e)
 
-each-alike : (ns : List Node) (x : Tree) (ts : List TermId) → Each (IsIn ns) ts → Each (λ (y : Tree). IsTyped y × (type_of x ≡ type_of y)) (trees_at ns ts)
+each-alike : (ns : List TermNode) (x : Tree) (ts : List TermId) → Each (IsIn ns) ts → Each (λ (y : Tree). IsTyped y × (type_of x ≡ type_of y)) (trees_at ns ts)
     → Each (λ (v : TermId). IsIn ns v × IsTyped (tree_at (trees ns) v) × (type_of x ≡ type_of (tree_at (trees ns) v))) ts
 each-alike ns x [] i h = tt
 each-alike ns x (t ∷ ts) i h = ((i.0, h.0.0, h.0.1), each-alike ns x ts i.1 h.1)
 
-in-grown : (ns ms : List Node) (ts : List TermId) → Grows ns ms → Each (IsIn ns) ts → Each (IsIn ms) ts
+in-grown : (ns ms : List TermNode) (ts : List TermId) → Grows ns ms → Each (IsIn ns) ts → Each (IsIn ms) ts
 in-grown ns ms [] g h = tt
 in-grown ns ms (t ∷ ts) g h = (in_grown ns ms g t h.0, in-grown ns ms ts g h.1)
 
-trees-grown : (ns ms : List Node) (ts : List TermId) → Grows ns ms → Each (IsIn ns) ts → trees_at ms ts ≡ trees_at ns ts
+trees-grown : (ns ms : List TermNode) (ts : List TermId) → Grows ns ms → Each (IsIn ns) ts → trees_at ms ts ≡ trees_at ns ts
 trees-grown ns ms [] g h = refl
 trees-grown ns ms (t ∷ ts) g h = let a = tree_grown ns ms g t h.0 in let b = trees-grown ns ms ts g h.1 in λ i. a i ∷ b i
 
 -- the values of the edges can be merged by the selectors that the place keeps
-module _ (ns ms : List Node) (p q : PlaceState) (vs : List TermId) (g : Grows ns ms) (c : CanJoin ns p vs) (s : IsSelected ms p q) (ss : List TermId) (k : q.selectors ≡ Some ss) (t : TermId)
+module _ (ns ms : List TermNode) (p q : PlaceState) (vs : List TermId) (g : Grows ns ms) (c : CanJoin ns p vs) (s : IsSelected ms p q) (ss : List TermId) (k : q.selectors ≡ Some ss) (t : TermId)
     (ts : List TermId) (e : vs ≡ t ∷ ts) where
   first-is : c.first ≡ t
   first-is = let f : c.first ∷ c.others ≡ t ∷ ts = sym c.are ∙ e in cc
@@ -351,7 +351,7 @@ module _ (ns ms : List Node) (p q : PlaceState) (vs : List TermId) (g : Grows ns
     alike = each-alike ms (tree_at (trees ms) t) ts (in-grown ns ms ts g ts-in) alike-now.others;
   }
 
-  pub merged-by : IsJoin ns p → (os : List Node) (r : TermId) → StandsForTree os r (chosen_by (trees_at ms ss) (tree_at (trees ms) t) (trees_at ms ts)) → IsJoined ns p.edges.items vs os r
+  pub merged-by : IsJoin ns p → (os : List TermNode) (r : TermId) → StandsForTree os r (chosen_by (trees_at ms ss) (tree_at (trees ms) t) (trees_at ms ts)) → IsJoined ns p.edges.items vs os r
   merged-by j os r m x xs h =
       let f : tree_at (trees ns) t ∷ trees_at ns ts ≡ x ∷ xs = ap (trees_at ns) (sym e) ∙ h in
       let a : tree_at (trees ns) t ≡ x = cc in
@@ -364,7 +364,7 @@ module _ (ns ms : List Node) (p q : PlaceState) (vs : List TermId) (g : Grows ns
 
 -- ---- selectors are made
 
-pub select-made : (ns ms : List Node) (p q : PlaceState) (ts : List TermId) (es : List Edge) → Grows ns ms → IsJoin ns p → es ≡ p.edges.items → AreTerms ms ts (selectors_on ns es) → q.block ≡ p.block
+pub select-made : (ns ms : List TermNode) (p q : PlaceState) (ts : List TermId) (es : List Edge) → Grows ns ms → IsJoin ns p → es ≡ p.edges.items → AreTerms ms ts (selectors_on ns es) → q.block ≡ p.block
     → q.edges ≡ p.edges → q.known ≡ p.known → q.selectors ≡ Some ts → IsSelected ms p q
 select-made ns ms p q ts es g j e m b f k s = record {
   block = b;
@@ -381,7 +381,7 @@ select-made ns ms p q ts es g j e m b f k s = record {
   };
 }
 
-pub selected-grown : (ms os : List Node) (p q : PlaceState) → Grows ms os → IsSelected ms p q → IsSelected os p q
+pub selected-grown : (ms os : List TermNode) (p q : PlaceState) → Grows ms os → IsSelected ms p q → IsSelected os p q
 selected-grown ms os p q g s = record { block = s.block; edges = s.edges; known = s.known; join = join-grown ms os q g s.join }
 
 -- ---- a list by its first item
@@ -393,7 +393,7 @@ pub head-tail : {X : Type 0} (d : X) (xs : List X) → 1 ≤ length xs → xs �
 head-tail d [] l = absurd (omega (arith, l))
 head-tail d (x ∷ xs) l = ap (λ (ys : List _). x ∷ ys) (sym (whole x xs))
 
-pub join-first : (ns : List Node) (p : PlaceState) (vs : List TermId) (t : TermId) (ts : List TermId) → CanJoin ns p vs → vs ≡ t ∷ ts → IsIn ns t
+pub join-first : (ns : List TermNode) (p : PlaceState) (vs : List TermId) (t : TermId) (ts : List TermId) → CanJoin ns p vs → vs ≡ t ∷ ts → IsIn ns t
 join-first ns p vs t ts c e = let f : c.first ∷ c.others ≡ t ∷ ts = sym c.are ∙ e in let g : c.first ≡ t = cc in subst (IsIn ns) g c.first_in
 
 -- ---- results

@@ -8,7 +8,7 @@ use Rattle.lh_term.specs.Tree.{Tree}
 use Rattle.lh_term.specs.Types.{IsTyped, type_of}
 use Rattle.lh_term.specs.Arena.{trees, tree_at, trees_at, IsIn, StandsForTree}
 use Rattle.lh_term.specs.declared.term.TermId.{TermId}
-use Rattle.lh_term.specs.declared.term.Node.{Node}
+use Rattle.lh_term.specs.declared.term.TermNode.{TermNode}
 use Rattle.lh_region_def.specs.Joins.{selector}
 use Rattle.lh_region_joins.specs.declared.edge.Edge.{Edge}
 use Rattle.lh_region_joins.specs.Joins.{AreConditions, edges_on, after_first, AreTerms, chosen_by}
@@ -57,11 +57,11 @@ abbrev pub KnownTerms : Type 0
 KnownTerms = (i v : ℕ) → Option Tree
 
 -- what tells the edges after the first from the others
-abbrev pub selectors_on : List Node → List Edge → List Tree
+abbrev pub selectors_on : List TermNode → List Edge → List Tree
 selectors_on ns es = map (selector (edges_on ns es)) (after_first (edges_on ns es))
 
 -- the value of the edge that is taken, of the first and the others
-abbrev pub joined_by : List Node → List Edge → Tree → List Tree → Tree
+abbrev pub joined_by : List TermNode → List Edge → Tree → List Tree → Tree
 joined_by ns es x xs = chosen_by (selectors_on ns es) x xs
 
 -- terms of one type
@@ -70,7 +70,7 @@ pub record AreOfOneType (x : Tree) (xs : List Tree) : Type 0 where
   pub others : Each (λ (y : Tree). IsTyped y × (type_of x ≡ type_of y)) xs
 
 -- the term is what these edges give of v, merged
-pub record Joins (ns : List Node) (told : KnownTerms) (v : ℕ) (es : List Edge) (x : Tree) : Type 0 where
+pub record Joins (ns : List TermNode) (told : KnownTerms) (v : ℕ) (es : List Edge) (x : Tree) : Type 0 where
   pub first : Tree
   pub others : List Tree
   pub each : map (λ (e : Edge). told e.from v) es ≡ map Some (first ∷ others)
@@ -78,19 +78,19 @@ pub record Joins (ns : List Node) (told : KnownTerms) (v : ℕ) (es : List Edge)
   pub gives : x ≡ joined_by ns es first others
 
 -- The conditions of a place's edges are of the arena, and the selectors that it keeps are those of its edges.
-pub record IsJoin (ns : List Node) (p : PlaceState) : Type 0 where
+pub record IsJoin (ns : List TermNode) (p : PlaceState) : Type 0 where
   pub conds : AreConditions ns p.edges.items
   pub selectors : (ts : List TermId) → p.selectors ≡ Some ts → AreTerms ns ts (selectors_on ns p.edges.items)
 
 -- What is kept at each place is what is told there; what is not kept is merged from its edges, which come from earlier places.
-pub record Tells (ns : List Node) (ps : List PlaceState) (told : KnownTerms) : Type 0 where
+pub record Tells (ns : List TermNode) (ps : List PlaceState) (told : KnownTerms) : Type 0 where
   pub earlier : ComeEarlier ps
   pub places : (i : ℕ) (p : PlaceState) → slice_get ps i ≡ Some p → IsJoin ns p
   pub kept : (i v : ℕ) (t : TermId) → kept_at ps v i ≡ Some t → (x : Tree) × (told i v ≡ Some x) × StandsForTree ns t x
   pub joins : (i v : ℕ) (x : Tree) → keeps ps v i ≡ false → told i v ≡ Some x → Joins ns told v (edges_at ps i) x
 
 -- something is told of value v at a place
-pub record CanAsk (ns : List Node) (ps : List PlaceState) (v i : ℕ) : Type 0 where
+pub record CanAsk (ns : List TermNode) (ps : List PlaceState) (v i : ℕ) : Type 0 where
   pub told : KnownTerms
   pub tells : Tells ns ps told
   pub there : is_some (told i v) ≡ true
@@ -125,17 +125,17 @@ pub record IsWithAt (ps : List PlaceState) (i v : ℕ) (t : TermId) (qs : List P
   pub with_term : IsWith old v t new
 
 -- What was told before of value v at a place is so still, and places keep only more of v.
-abbrev pub StillTold : List Node → List PlaceState → List Node → List PlaceState → (v i : ℕ) → Type 0
+abbrev pub StillTold : List TermNode → List PlaceState → List TermNode → List PlaceState → (v i : ℕ) → Type 0
 StillTold ns ps ms qs v i = (told : KnownTerms) → Tells ns ps told → is_some (told i v) ≡ true → Tells ms qs told
 
 -- The term is what is told of value v at a place.
-abbrev pub IsTold : List Node → List PlaceState → List Node → (v i : ℕ) → TermId → Type 0
+abbrev pub IsTold : List TermNode → List PlaceState → List TermNode → (v i : ℕ) → TermId → Type 0
 IsTold ns ps ms v i t = (told : KnownTerms) → Tells ns ps told → is_some (told i v) ≡ true → (x : Tree) × (told i v ≡ Some x) × StandsForTree ms t x
 
 -- ---- merging values
 
 -- one term for each edge to a place, all of one type
-pub record CanJoin (ns : List Node) (p : PlaceState) (vs : List TermId) : Type 0 where
+pub record CanJoin (ns : List TermNode) (p : PlaceState) (vs : List TermId) : Type 0 where
   pub first : TermId
   pub others : List TermId
   pub are : vs ≡ first ∷ others
@@ -145,18 +145,18 @@ pub record CanJoin (ns : List Node) (p : PlaceState) (vs : List TermId) : Type 0
   pub alike : AreOfOneType (tree_at (trees ns) first) (trees_at ns others)
 
 -- the term stands for those of the edges, merged
-abbrev pub IsJoined : List Node → List Edge → List TermId → List Node → TermId → Type 0
+abbrev pub IsJoined : List TermNode → List Edge → List TermId → List TermNode → TermId → Type 0
 IsJoined ns es vs ms t = (x : Tree) (xs : List Tree) → trees_at ns vs ≡ x ∷ xs → StandsForTree ms t (joined_by ns es x xs)
 
 -- the place with selectors, perhaps, that are those of its edges
-pub record IsSelected (ms : List Node) (p q : PlaceState) : Type 0 where
+pub record IsSelected (ms : List TermNode) (p q : PlaceState) : Type 0 where
   pub block : q.block ≡ p.block
   pub edges : q.edges ≡ p.edges
   pub known : q.known ≡ p.known
   pub join : IsJoin ms q
 
 -- the same, in place of the place of this number
-pub record IsSelectedAt (ms : List Node) (ps : List PlaceState) (i : ℕ) (qs : List PlaceState) : Type 0 where
+pub record IsSelectedAt (ms : List TermNode) (ps : List PlaceState) (i : ℕ) (qs : List PlaceState) : Type 0 where
   pub old : PlaceState
   pub new : PlaceState
   pub replaced : IsReplaced ps i old new qs

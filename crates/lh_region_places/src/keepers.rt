@@ -3,7 +3,7 @@ ghost use Rattle.std.specs.Prelude.{◌≡◌, ℕ, ◌≤◌, true, OnOk};
 ghost use Rattle.lh_region_places.specs.declared.keepers.Keeper.{Keeper};
 ghost use Rattle.lh_region_places.specs.Keepers.{has, keeper};
 
-use lh_types::ty::NoMemory;
+use lh_types::memory::NoMemory;
 use std::collections::BTreeSet;
 
 /// A place that keeps a value or variable; in the order of the values, then of the places.

@@ -8,7 +8,7 @@ use lh_region_joins::Edge;
 use lh_region_joins::joins::{are_same, merge, selectors};
 use lh_term::term::{TermId, TermList};
 use lh_term::terms::Terms;
-use lh_types::ty::NoMemory;
+use lh_types::memory::NoMemory;
 use std::alloc::Global;
 use std::collections::HashMap;
 

@@ -8,7 +8,7 @@ use Rattle.lh_flat.specs.Flat.{FlatText}
 use Rattle.lh_flat.specs.Reads.{flat_text}
 use Rattle.lh_term.specs.Tree.{now_of}
 use Rattle.lh_term.specs.Arena.{Grows}
-use Rattle.lh_term.specs.declared.term.Node.{Node}
+use Rattle.lh_term.specs.declared.term.TermNode.{TermNode}
 use Rattle.lh_region_def.specs.Rows as text
 use Rattle.lh_region_def.specs.Regions as texts
 use Rattle.lh_region_def.specs.Regions.{lines_at, RegionRefusal, head_phi, Course, comes_to, first_region, second_region, one_target, no_regions, with_first, with_second, second_if, regions_of}
@@ -39,13 +39,13 @@ block-read (c ∷ bs) (suc k) b l e = block-read bs k b (omega (arith, l)) e
 
 -- ---- the head begins with a `phi`
 
-pub answer-phi : (ns : List Node) (t : Flat) (b : FlatBlock) → HasForm t → slice_get t.blocks (head_in t.blocks) ≡ Some b → begins_with_phi b ≡ true → (f : Naming) → Names t f
+pub answer-phi : (ns : List TermNode) (t : Flat) (b : FlatBlock) → HasForm t → slice_get t.blocks (head_in t.blocks) ≡ Some b → begins_with_phi b ≡ true → (f : Naming) → Names t f
     → RegionsOrReason ns (regions_of (flat_text f t)) (Err fault.HeadPhi)
 answer-phi ns t b h e p f n =
     ap (λ (x : Bool). if x then no_regions head_phi else with_first (flat_text f t) (first_region (flat_text f t) now_of))
     (ap (λ k. texts.begins_with_phi (lines_at (flat_text f t).blocks k)) (head-is f (f.unit_name 0) t h.below n) ∙ phi-agrees f t (head_in t.blocks) b e ∙ p)
 
-pub answer-memory : (ns : List Node) (t : Flat) (e : RegionFault) → e ≡ fault.OutOfMemory → (f : Naming) → Names t f → RegionsOrReason ns (regions_of (flat_text f t)) (Err e)
+pub answer-memory : (ns : List TermNode) (t : Flat) (e : RegionFault) → e ≡ fault.OutOfMemory → (f : Naming) → Names t f → RegionsOrReason ns (regions_of (flat_text f t)) (Err e)
 answer-memory ns t e q f n = subst (λ x. IsRefused (regions_of (flat_text f t)) (refusal_of x)) (sym q) tt
 
 -- ---- a region
@@ -69,12 +69,12 @@ module _ (r : Region) (h : IsHere r) where
   refused-first f (Some y) k = ap (with_first (t f)) k
 
   -- the first region stops
-  pub answer-first : (ns : List Node) (e : RegionFault) → FirstStops r e → (f : Naming) → Names r.flat.now f → RegionsOrReason ns (regions_of (t f)) (Err e)
+  pub answer-first : (ns : List TermNode) (e : RegionFault) → FirstStops r e → (f : Naming) → Names r.flat.now f → RegionsOrReason ns (regions_of (t f)) (Err e)
   answer-first ns e k f n =
       subst (λ x. IsRefused x (refusal_of e)) (sym (by-first f n)) (refused-first f (refusal_of e)
       (subst (λ (b : Bool). StopsFor (first_region (t f) (probed b)) (refusal_of e)) h.now (k f (is-region r h f n))))
 
-  module _ (ns : List Node) (w : Walk) (first : GoesFirst r ns w) where
+  module _ (ns : List TermNode) (w : Walk) (first : GoesFirst r ns w) where
     record Gone (f : Naming) : Type 0 where
       course : Course
       is : first_region (t f) now_of ≡ comes_to course
@@ -105,7 +105,7 @@ module _ (r : Region) (h : IsHere r) where
     second-of f n o e = by-first f n ∙ ap (with_first (t f)) (gone f n).is ∙ ap (second_if (t f) (gone f n).course.rows) (target-is f n o e)
 
     -- there is no second region
-    pub answer-one : (ms : List Node) (a : Regions) (o : Option ℕ) → o ≡ target_by (ways_of w.rows.ends) → o ≡ None → Grows ns ms → a.first ≡ w.rows → a.second ≡ None → (f : Naming)
+    pub answer-one : (ms : List TermNode) (a : Regions) (o : Option ℕ) → o ≡ target_by (ways_of w.rows.ends) → o ≡ None → Grows ns ms → a.first ≡ w.rows → a.second ≡ None → (f : Naming)
         → Names r.flat.now f → RegionsOrReason ms (regions_of (t f)) (Ok a)
     answer-one ms a o e none g first_is second_is f n = (
       record { first = (gone f n).course.rows; second = None },
@@ -116,7 +116,7 @@ module _ (r : Region) (h : IsHere r) where
       },
     )
 
-    pub fit-one : (ms : List Node) (a : Regions) → Grows ns ms → a.first ≡ w.rows → a.second ≡ None → RegionsFit ms a
+    pub fit-one : (ms : List TermNode) (a : Regions) → Grows ns ms → a.first ≡ w.rows → a.second ≡ None → RegionsFit ms a
     fit-one ms a g first_is second_is = record {
       first = subst (λ x. DrivesFit ms x.drives) (sym first_is) (fit-grown ns ms w.rows.drives g (gone h.form.naming h.form.names).fit);
       second = subst (λ x. DrivesFit ms (option_map_or (λ (s : Rows). s.drives) x [])) (sym second_is) tt;
@@ -130,7 +130,7 @@ module _ (r : Region) (h : IsHere r) where
       has-target = record { naming = h.form.naming; region = is-region r h h.form.naming h.form.names; is = is-target h.form.naming h.form.names }
 
       -- the second region stops
-      pub answer-stops : (ms : List Node) (z : RegionFault) → SecondStops r target z → (f : Naming) → Names r.flat.now f → RegionsOrReason ms (regions_of (t f)) (Err z)
+      pub answer-stops : (ms : List TermNode) (z : RegionFault) → SecondStops r target z → (f : Naming) → Names r.flat.now f → RegionsOrReason ms (regions_of (t f)) (Err z)
       answer-stops ms z k f n =
           subst (λ x. IsRefused x (refusal_of z)) (sym (second-of f n o e ∙ ap (second_if (t f) (gone f n).course.rows) some)) (by (refusal_of z) (k f (is-region r h f n) (is-target f n)))
         where
@@ -138,7 +138,7 @@ module _ (r : Region) (h : IsHere r) where
           by None s = tt
           by (Some y) s = ap (with_second (gone f n).course.rows) s
 
-      pub answer-both : (ms : List Node) (a : Regions) (rows : Rows) → SecondRows r target ms rows → Grows ns ms → a.first ≡ w.rows → a.second ≡ Some rows → (f : Naming) → Names r.flat.now f
+      pub answer-both : (ms : List TermNode) (a : Regions) (rows : Rows) → SecondRows r target ms rows → Grows ns ms → a.first ≡ w.rows → a.second ≡ Some rows → (f : Naming) → Names r.flat.now f
           → RegionsOrReason ms (regions_of (t f)) (Ok a)
       answer-both ms a rows k g first_is second_is f n =
           let x = k f (is-region r h f n) (is-target f n) in (
@@ -150,7 +150,7 @@ module _ (r : Region) (h : IsHere r) where
             },
           )
 
-      pub fit-both : (ms : List Node) (a : Regions) (rows : Rows) → SecondRows r target ms rows → Grows ns ms → a.first ≡ w.rows → a.second ≡ Some rows → RegionsFit ms a
+      pub fit-both : (ms : List TermNode) (a : Regions) (rows : Rows) → SecondRows r target ms rows → Grows ns ms → a.first ≡ w.rows → a.second ≡ Some rows → RegionsFit ms a
       fit-both ms a rows k g first_is second_is =
           let f = h.form.naming in
           record {

@@ -14,7 +14,7 @@ use Rattle.lh_term.specs.Tree.{Tree}
 use Rattle.lh_term.specs.Types.{IsTyped, type_of}
 use Rattle.lh_term.specs.Arena.{Grows}
 use Rattle.lh_term.specs.declared.term.TermId.{TermId}
-use Rattle.lh_term.specs.declared.term.Node.{Node}
+use Rattle.lh_term.specs.declared.term.TermNode.{TermNode}
 use Rattle.lh_region_def.specs.Known.{known_value, Knowledge, value_known, with_given}
 use Rattle.lh_region_def.specs.Joins.{RegionEdge, selector, merged, on_each, merged_by, phi_on}
 use Rattle.lh_region_def.specs.Typed.{IsOfType, PhiKnown}
@@ -48,7 +48,7 @@ operand-below n b (o ∷ ops) v h e = by (operand-below n b ops v h.1) (nat_eq b
     by rec true f = subst (λ (u : ValueId). u.0 < n) (some_inj o.value v f) h.0
     by rec false f = rec f
 
-module _ (ns : List Node) (s : Story) (ops : List PhiEdge) (labels : LabelsDiffer s.naming s.blocks) (from : AreFrom s.blocks ops) (below : Each (λ (e : PhiEdge). e.value.0 < s.values) ops) where
+module _ (ns : List TermNode) (s : Story) (ops : List PhiEdge) (labels : LabelsDiffer s.naming s.blocks) (from : AreFrom s.blocks ops) (below : Each (λ (e : PhiEdge). e.value.0 < s.values) ops) where
   abbrev texts : List EdgeText
   texts = map (edge_text s.naming) ops
 
@@ -150,7 +150,7 @@ labels-on s r c d = subst (λ (f : Naming). LabelsDiffer f r.blocks) (sym c.nami
 -- ---- a `phi` that is taken
 
 -- what a `phi` asks for is told, and of one type
-pub phi-merges : (ns : List Node) (ps : List PlaceState) (i v : ℕ) (ops : List PhiEdge) → CanTakePhi ns ps i v ops → IsMerge ns ps i ops
+pub phi-merges : (ns : List TermNode) (ps : List PlaceState) (i v : ℕ) (ops : List PhiEdge) → CanTakePhi ns ps i v ops → IsMerge ns ps i ops
 phi-merges ns ps i v ops c =
     let m = c.merging in
     let s = m.now in
@@ -169,10 +169,10 @@ phi-merges ns ps i v ops c =
     }
 
 -- the place before which the `phi` is taken is the last one
-pub phi-within : (ns : List Node) (ps : List PlaceState) (i v : ℕ) (ops : List PhiEdge) → CanTakePhi ns ps i v ops → i < length ps
+pub phi-within : (ns : List TermNode) (ps : List PlaceState) (i v : ℕ) (ops : List PhiEdge) → CanTakePhi ns ps i v ops → i < length ps
 phi-within ns ps i v ops c = let m = c.merging in omega (arith, m.is, m.places)
 
-module _ (ns ms : List Node) (ps qs rs : List PlaceState) (i v : ℕ) (ops : List PhiEdge) (t : TermId) (grows : Grows ns ms) (same : SamePlaces ps qs)
+module _ (ns ms : List TermNode) (ps qs rs : List PlaceState) (i v : ℕ) (ops : List PhiEdge) (t : TermId) (grows : Grows ns ms) (same : SamePlaces ps qs)
     (still : StillToldAll ns ps ms qs (phi_asks ops (edges_at ps i))) (made : IsMerged ns ps ms i ops t) (put : IsWithAt qs i v t rs) (gives : GivesTerm qs i v t rs) where
   same-now : SamePlaces ps rs
   same-now = with-same qs rs v i t put ∙ same

@@ -25,7 +25,7 @@ use Rattle.lh_flat_parts.specs.Steps.{is_result}
 use Rattle.lh_term.specs.Tree.{Tree, constant}
 use Rattle.lh_term.specs.Arena.{StandsForTree}
 use Rattle.lh_term.specs.declared.term.TermId.{TermId}
-use Rattle.lh_term.specs.declared.term.Node.{Node}
+use Rattle.lh_term.specs.declared.term.TermNode.{TermNode}
 use Rattle.lh_region_joins.specs.Joins.{AreConditions}
 use Rattle.lh_region_def.specs.Known.{known_value, known_part, Knowledge, nothing_known, with_known, with_given, with_arguments}
 use Rattle.lh_term.specs.Parts.{whole_argument}
@@ -176,17 +176,17 @@ no_story f t = record { naming = f; values = t.values; blocks = length t.blocks;
 abbrev pub first_story : Naming → Flat → Story
 first_story f t = with_place (no_story f t) (known_first (flat_text f t))
 
-stands-some : (ns : List Node) (o : Option TermId) (c : Option Tree) (k : TermId) → o ≡ Some k → StandsMaybe ns o c → (x : Tree) × (c ≡ Some x) × StandsForTree ns k x
+stands-some : (ns : List TermNode) (o : Option TermId) (c : Option Tree) (k : TermId) → o ≡ Some k → StandsMaybe ns o c → (x : Tree) × (c ≡ Some x) × StandsForTree ns k x
 stands-some ns None c k e s = absurd (none-some k e)
 stands-some ns (Some j) None k e s = absurd s
 stands-some ns (Some j) (Some x) k e s = (x, refl, subst (λ (i : TermId). StandsForTree ns i x) (same_Some j k e) s)
 
-kept-some : (ns : List Node) (o : Option TermId) (c : Option Tree) (x : Tree) → c ≡ Some x → StandsMaybe ns o c → is_some o ≡ true
+kept-some : (ns : List TermNode) (o : Option TermId) (c : Option Tree) (x : Tree) → c ≡ Some x → StandsMaybe ns o c → is_some o ≡ true
 kept-some ns None None x e s = absurd (none-some x e)
 kept-some ns None (Some y) x e s = absurd s
 kept-some ns (Some j) c x e s = refl
 
-module _ (f : Naming) (t : Flat) (names : Names t f) (below : IdsBelow t) (head : ℕ) (is : head_of (flat_text f t).blocks ≡ head) (ns : List Node) (p : PlaceState) (edges : p.edges.items ≡ [])
+module _ (f : Naming) (t : Flat) (names : Names t f) (below : IdsBelow t) (head : ℕ) (is : head_of (flat_text f t).blocks ≡ head) (ns : List TermNode) (p : PlaceState) (edges : p.edges.items ≡ [])
     (selectors : p.selectors ≡ None) (known : KnowsConstants ns p (lines_left t.blocks head)) where
   abbrev ps : List PlaceState
   ps = p ∷ []

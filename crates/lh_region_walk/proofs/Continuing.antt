@@ -3,7 +3,7 @@ use Rattle.std.proofs.Common.{◌≡◌, ℕ, ◌+◌, ◌<◌, List, [], ◌∷
 use Rattle.lh_unit.specs.Naming.{Naming}
 use Rattle.lh_term.specs.Tree.{Tree}
 use Rattle.lh_term.specs.Arena.{Grows}
-use Rattle.lh_term.specs.declared.term.Node.{Node}
+use Rattle.lh_term.specs.declared.term.TermNode.{TermNode}
 use Rattle.lh_region_def.specs.Known.{Known, Knowledge}
 use Rattle.lh_region_def.specs.Rows as text
 use Rattle.lh_region_def.specs.Joins.{RegionEdge}
@@ -35,7 +35,7 @@ continues-on s r q a b = record {
 }
 
 -- the place that is treated gives a term: what was told at the places before it is told still
-pub continues-given : (ns : List Node) (qs : List PlaceState) (before now : Story) (i v : ℕ) (k : Knowledge) (a : Known) (x : Tree) → before.places ≡ i → ContinuesStory before now
+pub continues-given : (ns : List TermNode) (qs : List PlaceState) (before now : Story) (i v : ℕ) (k : Knowledge) (a : Known) (x : Tree) → before.places ≡ i → ContinuesStory before now
     → TellsGiven ns qs now i v k a x → ContinuesStory before (with_term now i v x)
 continues-given ns qs before now i v k a x p c g = record {
   naming = c.naming;
@@ -47,7 +47,7 @@ continues-given ns qs before now i v k a x p c g = record {
 
 -- ---- edges
 
-edge-on : (ns : List Node) (s r : Story) (e : Edge) (x : RegionEdge) → ContinuesStory s r → IsEdge ns s e x → IsEdge ns r e x
+edge-on : (ns : List TermNode) (s r : Story) (e : Edge) (x : RegionEdge) → ContinuesStory s r → IsEdge ns s e x → IsEdge ns r e x
 edge-on ns s r e x c h = record {
   within = omega (arith, h.within, c.places);
   of_text = subst (λ (n : ℕ). e.block < n) (sym c.blocks) h.of_text;
@@ -56,23 +56,23 @@ edge-on ns s r e x c h = record {
   told = c.known e.from x.known h.within h.told;
 }
 
-pub edges-on : (ns : List Node) (s r : Story) → ContinuesStory s r → (es : List Edge) (xs : List RegionEdge) → AreEdges ns s es xs → AreEdges ns r es xs
+pub edges-on : (ns : List TermNode) (s r : Story) → ContinuesStory s r → (es : List Edge) (xs : List RegionEdge) → AreEdges ns s es xs → AreEdges ns r es xs
 edges-on ns s r c [] [] h = tt
 edges-on ns s r c [] (x ∷ xs) h = absurd h
 edges-on ns s r c (e ∷ es) [] h = absurd h
 edges-on ns s r c (e ∷ es) (x ∷ xs) h = (edge-on ns s r e x c h.0, edges-on ns s r c es xs h.1)
 
-pub ahead-on : (ns : List Node) (s r : Story) (turns block : ℕ) (a : Ahead) (xs : List RegionEdge) → ContinuesStory s r → AreAhead ns s turns block a xs → AreAhead ns r turns block a xs
+pub ahead-on : (ns : List TermNode) (s r : Story) (turns block : ℕ) (a : Ahead) (xs : List RegionEdge) → ContinuesStory s r → AreAhead ns s turns block a xs → AreAhead ns r turns block a xs
 ahead-on ns s r turns block a xs c h = record {
   here = λ b l. edges-on ns s r c (led_to a.here.items b) (edges_to (place_of turns b) xs) (h.here b l);
   next = λ b. edges-on ns s r c (led_to a.next.items b) (edges_to (place_of (turns + 1) b) xs) (h.next b);
   last = h.last;
 }
 
-pub sources-on : (ns : List Node) (s r : Story) (es : List Edge) (xs : List text.RegionEnd) → ContinuesStory s r → AreSources ns s es xs → AreSources ns r es xs
+pub sources-on : (ns : List TermNode) (s r : Story) (es : List Edge) (xs : List text.RegionEnd) → ContinuesStory s r → AreSources ns s es xs → AreSources ns r es xs
 sources-on ns s r es xs c h = edges-on ns s r c es (edges_of_ends 0 xs) h
 
-pub so-far-on : (ns : List Node) (f : Naming) (r : Region) (w : Walk) (turns block : ℕ) (s q : Story) (c : Course) → ContinuesStory s q → IsSoFar ns f r w turns block s c
+pub so-far-on : (ns : List TermNode) (f : Naming) (r : Region) (w : Walk) (turns block : ℕ) (s q : Story) (c : Course) → ContinuesStory s q → IsSoFar ns f r w turns block s c
     → IsSoFar ns f r w turns block q c
 so-far-on ns f r w turns block s q c t h = record {
   naming = t.naming ∙ h.naming;
@@ -89,10 +89,10 @@ so-far-on ns f r w turns block s q c t h = record {
 
 -- ---- an arena that grows
 
-pub sources-grown : (ns ms : List Node) (s : Story) (es : List Edge) (xs : List text.RegionEnd) → Grows ns ms → AreSources ns s es xs → AreSources ms s es xs
+pub sources-grown : (ns ms : List TermNode) (s : Story) (es : List Edge) (xs : List text.RegionEnd) → Grows ns ms → AreSources ns s es xs → AreSources ms s es xs
 sources-grown ns ms s es xs g h = edges-grown ns ms s es (edges_of_ends 0 xs) g h
 
-pub so-far-grown : (ns ms : List Node) (f : Naming) (r : Region) (w : Walk) (turns block : ℕ) (s : Story) (c : Course) → Grows ns ms → IsSoFar ns f r w turns block s c
+pub so-far-grown : (ns ms : List TermNode) (f : Naming) (r : Region) (w : Walk) (turns block : ℕ) (s : Story) (c : Course) → Grows ns ms → IsSoFar ns f r w turns block s c
     → IsSoFar ms f r w turns block s c
 so-far-grown ns ms f r w turns block s c g h = record {
   naming = h.naming;

@@ -9,7 +9,7 @@ use Rattle.lh_term.specs.Make.{is_zero}
 use Rattle.lh_term.specs.Arena.{trees, tree_at, StandsForTree, Grows}
 use Rattle.lh_term.specs.declared.part.Part.{Part}
 use Rattle.lh_term.specs.declared.term.TermId.{TermId}
-use Rattle.lh_term.specs.declared.term.Node.{Node}
+use Rattle.lh_term.specs.declared.term.TermNode.{TermNode}
 use Rattle.lh_flat_parts.specs.Steps.{part_at}
 use Rattle.lh_region_def.specs.Rows as text
 use Rattle.lh_region_def.specs.Joins.{RegionPlace, RegionEdge}
@@ -47,7 +47,7 @@ ends-edges [] x = refl
 ends-edges (y ∷ ys) x = ap (λ (zs : List RegionEdge). edge_into 0 y.from y.cond y.known ∷ zs) (ends-edges ys x)
 
 -- the edge by which an end of the place goes on
-module _ (ns : List Node) (f : Naming) (r : Region) (w : Walk) (at : WalkPoint) (s : Story) (h : Here) (insts : ℕ) (m : Midst) (i : IsLeaving ns f r w at s h insts m) (cond : TermId) (c : Tree)
+module _ (ns : List TermNode) (f : Naming) (r : Region) (w : Walk) (at : WalkPoint) (s : Story) (h : Here) (insts : ℕ) (m : Midst) (i : IsLeaving ns f r w at s h insts m) (cond : TermId) (c : Tree)
     (st : StandsForTree ns cond c) where
   edge-is : (x : RegionEdge) → x.from ≡ h.label → x.cond ≡ c → x.known ≡ m.known → IsEdge ns s (edge_from at cond) x
   edge-is x a b k = record {
@@ -149,7 +149,7 @@ still-many g h c n m t = by (is_zero c) (block_number n g.blocks)
 abbrev turns_of : WalkPoint → ℕ → ℕ
 turns_of at to = (next_place (place_of at.turns at.block) to).turns
 
-module _ (ns : List Node) (r : Region) (w q : Walk) (at : WalkPoint) (cond : TermId) (to : ℕ) (can : CanLead w.ahead to) where
+module _ (ns : List TermNode) (r : Region) (w q : Walk) (at : WalkPoint) (cond : TermId) (to : ℕ) (can : CanLead w.ahead to) where
   -- an edge that is never taken
   pub leads-nowhere : is_zero (tree_at (trees ns) cond) ≡ true → LeadsThere ns r w at cond to w
   leads-nowhere z f s h insts m c i st = subst (IsLeaving ns f r w at s h insts) (sym (leads-never (region_text f r) h c (f.label_name to) m (ap is_zero (sym st.tree) ∙ z))) i
@@ -215,7 +215,7 @@ module _ (ns : List Node) (r : Region) (w q : Walk) (at : WalkPoint) (cond : Ter
       )
 
 -- what `lead` says, of an edge that is this one
-module _ (ns : List Node) (r : Region) (w q : Walk) (at : WalkPoint) (cond : TermId) (to : ℕ) (can : CanLead w.ahead to) (z : is_zero (tree_at (trees ns) cond) ≡ false)
+module _ (ns : List TermNode) (r : Region) (w q : Walk) (at : WalkPoint) (cond : TermId) (to : ℕ) (can : CanLead w.ahead to) (z : is_zero (tree_at (trees ns) cond) ≡ false)
     (e : (r.ends_at_head && nat_eq to r.head) ≡ false) (edge : Edge) (is : edge ≡ edge_from at cond) where
   pub led-edge : q.places.items ≡ w.places.items → q.insts ≡ w.insts → q.rows ≡ w.rows → q.sources ≡ w.sources → {A E : Type 0} (x : Result A E)
       → OnOk x (length q.ahead.here.items ≡ length w.ahead.here.items) → OnOk x (length q.ahead.next.items ≡ length w.ahead.next.items)
@@ -234,7 +234,7 @@ module _ (ns : List Node) (r : Region) (w q : Walk) (at : WalkPoint) (cond : Ter
 -- ---- a branch
 
 -- the conditions of its edges were made
-module _ (ns ms : List Node) (r : Region) (w p : Walk) (at : WalkPoint) (v first second : ℕ) (lo hi : TermId) (gr : Grows ns ms) (same : SamePlaces w.places.items p.places.items)
+module _ (ns ms : List TermNode) (r : Region) (w p : Walk) (at : WalkPoint) (v first second : ℕ) (lo hi : TermId) (gr : Grows ns ms) (same : SamePlaces w.places.items p.places.items)
     (still : StillTold ns w.places.items ms p.places.items v at.place)
     (ea : p.ahead ≡ w.ahead) (en : p.insts ≡ w.insts) (er : p.rows ≡ w.rows) (es : p.sources ≡ w.sources)
     (low : IsAndNot ns w.places.items ms v at.place (tree_at (trees ns) at.cond) lo) (high : IsAnd ns w.places.items ms v at.place (tree_at (trees ns) at.cond) hi) where
@@ -301,12 +301,12 @@ module _ (ns ms : List Node) (r : Region) (w p : Walk) (at : WalkPoint) (v first
         more f s h insts (leads (region_text f r) h (both h.cond (negation x)) (f.label_name first) m) (both h.cond x) (led-low f s h insts m x i st e) (high-stands f s h insts m x i st e)
 
 -- the conditions are such
-pub low-condition : (ns ms : List Node) (ps : List PlaceState) (v i : ℕ) (cond lo : TermId) → IsConditionAt ns cond → CanTest ns ps v i → IsAndNot ns ps ms v i (tree_at (trees ns) cond) lo
+pub low-condition : (ns ms : List TermNode) (ps : List PlaceState) (v i : ℕ) (cond lo : TermId) → IsConditionAt ns cond → CanTest ns ps v i → IsAndNot ns ps ms v i (tree_at (trees ns) cond) lo
     → IsConditionAt ms lo
 low-condition ns ms ps v i cond lo c t low = stands-condition ms lo (both (tree_at (trees ns) cond) (negation t.cond)) (low t.told t.cond t.tells t.is)
     (and-condition (tree_at (trees ns) cond) (negation t.cond) c.cond (not-condition t.cond t.condition))
 
-pub high-condition : (ns ms : List Node) (ps : List PlaceState) (v i : ℕ) (cond hi : TermId) → IsConditionAt ns cond → CanTest ns ps v i → IsAnd ns ps ms v i (tree_at (trees ns) cond) hi
+pub high-condition : (ns ms : List TermNode) (ps : List PlaceState) (v i : ℕ) (cond hi : TermId) → IsConditionAt ns cond → CanTest ns ps v i → IsAnd ns ps ms v i (tree_at (trees ns) cond) hi
     → IsConditionAt ms hi
 high-condition ns ms ps v i cond hi c t high = stands-condition ms hi (both (tree_at (trees ns) cond) t.cond) (high t.told t.cond t.tells t.is)
     (and-condition (tree_at (trees ns) cond) t.cond c.cond t.condition)

@@ -30,7 +30,7 @@ use Rattle.lh_flat.specs.Flat.{FlatBlockText, as_block}
 use Rattle.lh_flat.specs.Reads.{flat_line_text, flat_block_text}
 use Rattle.lh_term.specs.Tree.{Tree}
 use Rattle.lh_term.specs.declared.part.Part.{Part}
-use Rattle.lh_term.specs.declared.term.Node.{Node}
+use Rattle.lh_term.specs.declared.term.TermNode.{TermNode}
 use Rattle.lh_flat_parts.specs.Steps.{part_at}
 use Rattle.lh_region_joins.specs.Joins.{IsConditionAt}
 use Rattle.lh_region_joins.proofs.Conditions.{stands-condition}
@@ -62,7 +62,7 @@ maybe-some f (Some v) = refl
 
 -- ---- in the midst of a place, before its last line
 
-module _ (ns : List Node) (f : Naming) (name : UnitName) (r : Region) (w : Walk) (at : WalkPoint) (before : Story) (h : Here) (insts : ℕ) (b : FlatBlock) (l : FlatInst) (done rest : List LineText)
+module _ (ns : List TermNode) (f : Naming) (name : UnitName) (r : Region) (w : Walk) (at : WalkPoint) (before : Story) (h : Here) (insts : ℕ) (b : FlatBlock) (l : FlatInst) (done rest : List LineText)
     (m : Midst) (i : IsBetween ns f name r w at before h insts b done (flat_line_text f l ∷ rest) m) where
   abbrev u : UnitText
   u = process_by name f r.flat.now
@@ -152,7 +152,7 @@ module _ (ns : List Node) (f : Naming) (name : UnitName) (r : Region) (w : Walk)
 
 -- ---- what each terminator does
 
-module _ (ns : List Node) (r : Region) (w : Walk) (at : WalkPoint) (l : FlatInst) where
+module _ (ns : List TermNode) (r : Region) (w : Walk) (at : WalkPoint) (l : FlatInst) where
   pub br-ends : (to : BlockId) (q : Walk) → l.inst ≡ inst.Br to → LeadsThere ns r w at at.cond to.0 q → EndsLine ns r w at l ns q
   br-ends to q e x f name before h insts b done rest m i =
       let s = i.midst.now in
@@ -172,7 +172,7 @@ module _ (ns : List Node) (r : Region) (w : Walk) (at : WalkPoint) (l : FlatInst
     branch-below : (c : ValueId) (first second : BlockId) → l.inst ≡ inst.Branch c first second → c.0 < r.flat.now.values
     branch-below c first second e = (subst (λ (j : Inst). ValuesBelow r.flat.now.values (values_used j)) e below.used).0
 
-    pub branch-ends : (c : ValueId) (first second : BlockId) (ms : List Node) (q : Walk) → l.inst ≡ inst.Branch c first second → Branches ns r w at c.0 first.0 second.0 ms q
+    pub branch-ends : (c : ValueId) (first second : BlockId) (ms : List TermNode) (q : Walk) → l.inst ≡ inst.Branch c first second → Branches ns r w at c.0 first.0 second.0 ms q
         → EndsLine ns r w at l ms q
     branch-ends c first second ms q e x f name before h insts b done rest m i =
         let s = i.midst.now in

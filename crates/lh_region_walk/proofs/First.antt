@@ -14,7 +14,7 @@ use Rattle.lh_flat.specs.Flat.{FlatBlockText, FlatText, flat_unit, as_block}
 use Rattle.lh_flat.specs.Reads.{flat_block_text, flat_text}
 use Rattle.lh_term.specs.Make.{bit_of}
 use Rattle.lh_term.specs.Arena.{StandsForTree, Grows}
-use Rattle.lh_term.specs.declared.term.Node.{Node}
+use Rattle.lh_term.specs.declared.term.TermNode.{TermNode}
 use Rattle.lh_region_def.specs.Known.{Known, known_value, known_cell, known_part, as_value, as_cell, as_part}
 use Rattle.lh_region_def.specs.Joins.{RegionEdge, merged, first_one, joined}
 use Rattle.lh_region_def.specs.Regions as rows
@@ -93,7 +93,7 @@ module _ (f : Naming) (name : UnitName) (r : Region) (h : IsRegion f r) where
       (subst (λ (b : FlatBlockText). JoinEdge u (as_block b) (edge_into (head_of t.blocks) [] (bit_of true) (known_first t))) same (Start.first-joins name t formed plain))
 
   -- the region starts at a place at which the constants of the entry are known
-  pub first-start : (ns : List Node) (ps : List PlaceState) (p : PlaceState) (at : WalkPoint) → ps ≡ p ∷ [] → p.edges.items ≡ [] → p.selectors ≡ None
+  pub first-start : (ns : List TermNode) (ps : List PlaceState) (p : PlaceState) (at : WalkPoint) → ps ≡ p ∷ [] → p.edges.items ≡ [] → p.selectors ≡ None
       → KnowsConstants ns p (lines_left r.flat.now.blocks r.head) → at.place ≡ 0 → at.block ≡ r.head → at.turns ≡ 0 → StandsForTree ns at.cond (bit_of true)
       → IsStart ns f name r ps at (no_story f r.flat.now) (first_story f r.flat.now) head-block.block first_edge []
   first-start ns ps p at one edges selectors known place block turns cond = record {
@@ -122,11 +122,11 @@ module _ (f : Naming) (name : UnitName) (r : Region) (h : IsRegion f r) where
         (edge_into (sym head-same i) [] (bit_of true) (known_first t) ∷ [])
 
 -- the constants are known as terms are made
-pub constants-grown : (ns ms : List Node) (p : PlaceState) (ls : List FlatInst) → Grows ns ms → KnowsConstants ns p ls → KnowsConstants ms p ls
+pub constants-grown : (ns ms : List TermNode) (p : PlaceState) (ls : List FlatInst) → Grows ns ms → KnowsConstants ns p ls → KnowsConstants ms p ls
 constants-grown ns ms p ls g k = λ v. maybe-grown ns ms (kept_by v p) (constant_given ls v) g (k v)
 
 -- the places with which the first region starts
-pub record IsHeadPlace (r : Region) (ns : List Node) (ps : List PlaceState) (at : WalkPoint) : Type 0 where
+pub record IsHeadPlace (r : Region) (ns : List TermNode) (ps : List PlaceState) (at : WalkPoint) : Type 0 where
   pub start : PlaceState
   pub one : ps ≡ start ∷ []
   pub edges : start.edges.items ≡ []
@@ -137,7 +137,7 @@ pub record IsHeadPlace (r : Region) (ns : List Node) (ps : List PlaceState) (at 
   pub turns : at.turns ≡ 0
   pub cond : StandsForTree ns at.cond (bit_of true)
 
-module _ (r : Region) (ns : List Node) (ps : List PlaceState) (at : WalkPoint) (k : IsHeadPlace r ns ps at) where
+module _ (r : Region) (ns : List TermNode) (ps : List PlaceState) (at : WalkPoint) (k : IsHeadPlace r ns ps at) where
   starts : (f : Naming) (name : UnitName) (h : IsRegion f r) → IsStart ns f name r ps at (no_story f r.flat.now) (first_story f r.flat.now) (head-block f name r h).block (first_edge f name r h) []
   starts f name h = first-start f name r h ns ps k.start at k.one k.edges k.selectors k.known k.place k.block k.turns k.cond
 
@@ -157,7 +157,7 @@ module _ (r : Region) (ns : List Node) (ps : List PlaceState) (at : WalkPoint) (
     start = starts h.naming (any_name h.naming) h.region;
   }
 
-  pub goes-first : r.ends_at_head ≡ false → (ms : List Node) (w : Walk) → GoesThrough ns r ps at ms w → GoesFirst r ms w
+  pub goes-first : r.ends_at_head ≡ false → (ms : List TermNode) (w : Walk) → GoesThrough ns r ps at ms w → GoesFirst r ms w
   goes-first stays ms w g f name h =
       let x = g f name (no_story f r.flat.now) (first_story f r.flat.now) (head-block f name r h).block (first_edge f name r h) [] (starts f name h) in
       (x.0, (x.1.0, x.1.1, sym (first-is f name r h stays) ∙ ap (λ b. region_from (region_text f r) b (first_edge f name r h ∷ [])) (sym k.block) ∙ x.1.2, x.1.3))

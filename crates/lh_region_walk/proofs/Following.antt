@@ -15,7 +15,7 @@ use Rattle.lh_flat_parts.specs.Steps.{IsPartTable}
 use Rattle.lh_term.specs.Tree.{past_of, now_of}
 use Rattle.lh_term.specs.Make.{bit_of}
 use Rattle.lh_term.specs.Arena.{StandsForTree, Grows}
-use Rattle.lh_term.specs.declared.term.Node.{Node}
+use Rattle.lh_term.specs.declared.term.TermNode.{TermNode}
 use Rattle.lh_region_def.specs.Rows as text
 use Rattle.lh_region_def.specs.Joins.{RegionEdge, joined}
 use Rattle.lh_region_def.specs.Regions.{begins_with_phi, lines_at, head_of, edges_of_ends, waits_for, RegionRefusal, Course, Coursed, comes_to, then_course, region_from, first_region, second_region}
@@ -49,7 +49,7 @@ use Rattle.lh_region_walk.proofs.Fitting.{drives-fit}
 use Rattle.lh_region_walk.proofs.NamedCourse.{named-ends}
 
 -- edges by ids are those of the ends, into whatever block
-into-block : (ns : List Node) (s : Story) (es : List Edge) (xs : List text.RegionEnd) (i j : ℕ) → AreEdges ns s es (edges_of_ends i xs) → AreEdges ns s es (edges_of_ends j xs)
+into-block : (ns : List TermNode) (s : Story) (es : List Edge) (xs : List text.RegionEnd) (i j : ℕ) → AreEdges ns s es (edges_of_ends i xs) → AreEdges ns s es (edges_of_ends j xs)
 into-block ns s [] [] i j h = tt
 into-block ns s [] (x ∷ xs) i j h = absurd h
 into-block ns s (e ∷ es) [] i j h = absurd h
@@ -124,7 +124,7 @@ module _ (f : Naming) (name : UnitName) (r : Region) (h : IsRegion f r) (target 
   xs = target-of.first ∷ target-of.more
 
   -- the second region starts at one more place, to which the ends lead
-  pub second-start : (past again : Region) → again.flat ≡ r.flat → again.parts ≡ r.parts → again.head ≡ r.head → past.flat ≡ r.flat → (ns ms : List Node) (w : Walk) (turns : ℕ) (s : Story)
+  pub second-start : (past again : Region) → again.flat ≡ r.flat → again.parts ≡ r.parts → again.head ≡ r.head → past.flat ≡ r.flat → (ns ms : List TermNode) (w : Walk) (turns : ℕ) (s : Story)
       → IsWalk ns f name past w turns 0 s d → Grows ns ms
       → (qs : List PlaceState) (at : WalkPoint) → IsBegun w.places.items target w.sources qs → BeginsJoined w.places.items w.sources qs → at.place ≡ length w.places.items → at.block ≡ target
       → at.turns ≡ 0 → StandsForTree ms at.cond (bit_of true)
@@ -168,7 +168,7 @@ module _ (f : Naming) (name : UnitName) (r : Region) (h : IsRegion f r) (target 
 -- ---- all names
 
 -- the place with which the second region starts, behind the places of the first one
-pub record IsNextPlace (past again r : Region) (target : ℕ) (ns ms : List Node) (w : Walk) (qs : List PlaceState) (at : WalkPoint) : Type 0 where
+pub record IsNextPlace (past again r : Region) (target : ℕ) (ns ms : List TermNode) (w : Walk) (qs : List PlaceState) (at : WalkPoint) : Type 0 where
   pub flat : again.flat ≡ r.flat
   pub parts : again.parts ≡ r.parts
   pub head : again.head ≡ r.head
@@ -188,7 +188,7 @@ past-of r = record { flat = r.flat; parts = r.parts; head = r.head; is_past = tr
 abbrev pub again-of : Region → Region
 again-of r = record { flat = r.flat; parts = r.parts; head = r.head; is_past = r.is_past; ends_at_head = true }
 
-pub next-place : (r : Region) (target : ℕ) (ns ms : List Node) (w : Walk) (qs : List PlaceState) (at : WalkPoint) → r.is_past ≡ false → Grows ns ms → IsBehind w target ms qs at → IsNextPlace (past-of r) (again-of r) r target ns ms w qs at
+pub next-place : (r : Region) (target : ℕ) (ns ms : List TermNode) (w : Walk) (qs : List PlaceState) (at : WalkPoint) → r.is_past ≡ false → Grows ns ms → IsBehind w target ms qs at → IsNextPlace (past-of r) (again-of r) r target ns ms w qs at
 next-place r target ns ms w qs at now g b = record {
   flat = refl;
   parts = refl;
@@ -203,7 +203,7 @@ next-place r target ns ms w qs at now g b = record {
   behind = b;
 }
 
-module _ (past again r : Region) (target : ℕ) (ns ms : List Node) (w : Walk) (qs : List PlaceState) (at : WalkPoint) (k : IsNextPlace past again r target ns ms w qs at)
+module _ (past again r : Region) (target : ℕ) (ns ms : List TermNode) (w : Walk) (qs : List PlaceState) (at : WalkPoint) (k : IsNextPlace past again r target ns ms w qs at)
     (first : GoesFirst past ns w) where
   -- the first region by the values before
   record Walked (f : Naming) (name : UnitName) (h : IsRegion f r) : Type 0 where
@@ -260,7 +260,7 @@ module _ (past again r : Region) (target : ℕ) (ns ms : List Node) (w : Walk) (
       second-is f name r h target it x.course x.is again k.flat k.head k.now k.ends_there
       ∙ ap (λ b. region_from (region_text f again) b ((target_in f name h it).first ∷ (target_in f name h it).more)) (sym k.behind.block)
 
-  pub second-through : (os : List Node) (z : Walk) → GoesThrough ms again qs at os z → SecondRows r target os z.rows
+  pub second-through : (os : List TermNode) (z : Walk) → GoesThrough ms again qs at os z → SecondRows r target os z.rows
   second-through os z g f h it =
       let name = any_name f in
       let x = walked f name h in

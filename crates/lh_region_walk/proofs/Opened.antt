@@ -23,7 +23,7 @@ use Rattle.lh_flat.specs.Below.{ValuesBelow, InstBelow, EdgeBelow, MaybeBelow, B
 use Rattle.lh_flat.specs.Flat.{MergeText, FlatBlockText, with_merge, as_block}
 use Rattle.lh_flat.specs.Reads.{merge_edge_text, merge_text, flat_line_text, flat_block_text, flat_blocks_text}
 use Rattle.lh_term.specs.Arena.{Grows}
-use Rattle.lh_term.specs.declared.term.Node.{Node}
+use Rattle.lh_term.specs.declared.term.TermNode.{TermNode}
 use Rattle.lh_term.proofs.Swaps.{stands_grown}
 use Rattle.lh_region_def.specs.Known.{Knowledge}
 use Rattle.lh_region_def.specs.Joins.{RegionEdge, joined, with_phi, with_phis, known_at}
@@ -136,7 +136,7 @@ module _ (f : Naming) (n m : ℕ) (s : Story) (naming : s.naming ≡ f) (values 
 
 -- ---- a walk of which only the places change
 
-pub so-far-same : (ns : List Node) (f : Naming) (r : Region) (w q : Walk) (turns block : ℕ) (s : Story) (c : Course) → q.ahead ≡ w.ahead → q.insts ≡ w.insts → q.rows ≡ w.rows → q.sources ≡ w.sources
+pub so-far-same : (ns : List TermNode) (f : Naming) (r : Region) (w q : Walk) (turns block : ℕ) (s : Story) (c : Course) → q.ahead ≡ w.ahead → q.insts ≡ w.insts → q.rows ≡ w.rows → q.sources ≡ w.sources
     → IsSoFar ns f r w turns block s c → IsSoFar ns f r q turns block s c
 so-far-same ns f r w q turns block s c a n b d h =
     subst (λ (p : Walk). IsSoFar ns f r p turns block s c) (λ i. record { places = q.places; ahead = sym a i; insts = sym n i; rows = sym b i; sources = sym d i })
@@ -164,7 +164,7 @@ merge-there : (u : UnitText) (b : BlockText) (o : Option MergeText) (ls : List L
 merge-there u b None ls k t p = (t, p)
 merge-there u b (Some m) ls k t p = (there-past u b [] (merge_line m) k k t (λ n z. z) (λ n ty v w q. p.0 n q), p.1)
 
-module _ (ns : List Node) (f : Naming) (name : UnitName) (r : Region) (w : Walk) (at : WalkPoint) (before : Story) (h : Here) (b : FlatBlock) (x : RegionEdge) (xs : List RegionEdge) (c : Course)
+module _ (ns : List TermNode) (f : Naming) (name : UnitName) (r : Region) (w : Walk) (at : WalkPoint) (before : Story) (h : Here) (b : FlatBlock) (x : RegionEdge) (xs : List RegionEdge) (c : Course)
     (o : IsOpened ns f name r w at before h b x xs c) where
   abbrev text : FlatBlockText
   text = flat_block_text f at.block b
@@ -231,7 +231,7 @@ module _ (ns : List Node) (f : Naming) (name : UnitName) (r : Region) (w : Walk)
       }
 
   -- the place once its block was merged
-  pub merged-between : (ms : List Node) (q : Walk) → Grows ns ms → q.ahead ≡ w.ahead → q.insts ≡ w.insts → q.rows ≡ w.rows → q.sources ≡ w.sources → (k : Knowledge)
+  pub merged-between : (ms : List TermNode) (q : Walk) → Grows ns ms → q.ahead ≡ w.ahead → q.insts ≡ w.insts → q.rows ≡ w.rows → q.sources ≡ w.sources → (k : Knowledge)
       → k ≡ (midst_at f at b (x ∷ xs) c).known → IsMerging ms q.places.items at.place before x xs k
       → IsBetween ms f name r q at before h c.insts b (merge_lines text.merge) text.lines (midst_at f at b (x ∷ xs) c)
   merged-between ms q g a n d e k is m = record {
@@ -269,7 +269,7 @@ module _ (ns : List Node) (f : Naming) (name : UnitName) (r : Region) (w : Walk)
     pub lines-before : CanTakeLines ns w.places.items at.place ls
     lines-before = record { before = before; first = x; more = xs; knows = joined (x ∷ xs); merging = merging; fits = fit-lines }
 
-    module _ (ms : List Node) (qs : List PlaceState) (t : TakesPhis ns w.places.items at.place ls ms qs) where
+    module _ (ms : List TermNode) (qs : List PlaceState) (t : TakesPhis ns w.places.items at.place ls ms qs) where
       pub merge-before : CanTakeMerge ms qs at.place d.merge
       merge-before = record {
         before = before;
@@ -280,7 +280,7 @@ module _ (ns : List Node) (f : Naming) (name : UnitName) (r : Region) (w : Walk)
         fits = fit-merge;
       }
 
-      pub merges-taken : (os : List Node) (q : Walk) → Grows ns os → q.ahead ≡ w.ahead → q.insts ≡ w.insts → q.rows ≡ w.rows → q.sources ≡ w.sources
+      pub merges-taken : (os : List TermNode) (q : Walk) → Grows ns os → q.ahead ≡ w.ahead → q.insts ≡ w.insts → q.rows ≡ w.rows → q.sources ≡ w.sources
           → TakesMerge ms qs at.place d.merge os q.places.items
           → IsBetween os f name r q at before h c.insts b (merge_lines text.merge) text.lines (midst_at f at b (x ∷ xs) c)
       merges-taken os q g a n u e p =

@@ -10,7 +10,7 @@ use Rattle.lh_flat.specs.declared.flat.FlatBlock.{FlatBlock}
 use Rattle.lh_flat.specs.Flat.{FlatBlockText, as_block}
 use Rattle.lh_flat.specs.Reads.{flat_block_text}
 use Rattle.lh_term.specs.Arena.{StandsForTree, Grows}
-use Rattle.lh_term.specs.declared.term.Node.{Node}
+use Rattle.lh_term.specs.declared.term.TermNode.{TermNode}
 use Rattle.lh_region_def.specs.Joins.{RegionPlace, RegionEdge, any_taken, joined}
 use Rattle.lh_region_def.specs.Places.{Region as RegionText, Here}
 use Rattle.lh_region_def.specs.Regions.{RegionRefusal, Course, Coursed, stops, comes_to, then_course, max_turns, through_block, edges_to, through_reached, through_all}
@@ -58,7 +58,7 @@ pub edges-last : (ps qs : List PlaceState) (block : ℕ) (es : List Edge) → Is
 edges-last ps qs block es b = edges-of qs (length ps) b.new (ap (λ (xs : List PlaceState). slice_get xs (length ps)) b.put ∙ get_last ps b.new) ∙ b.edges_are
 
 -- what is so far where a place was reached
-pub so-far-reached : (ns : List Node) (f : Naming) (r : Region) (w q : Walk) (turns block : ℕ) (s : Story) (c : Course) → IsSoFar ns f r w turns block s c
+pub so-far-reached : (ns : List TermNode) (f : Naming) (r : Region) (w q : Walk) (turns block : ℕ) (s : Story) (c : Course) → IsSoFar ns f r w turns block s c
     → IsReached w.ahead.here.items block q.ahead.here.items → q.ahead.next ≡ w.ahead.next → q.insts ≡ w.insts → q.rows ≡ w.rows → q.sources ≡ w.sources → IsSoFar ns f r q turns (block + 1) s c
 so-far-reached ns f r w q turns block s c h reached next insts rows sources = record {
   naming = h.naming;
@@ -74,7 +74,7 @@ so-far-reached ns f r w q turns block s c h reached next insts rows sources = re
 }
 
 -- no edge leads to the place
-pub reached-none : (ns : List Node) (r : Region) (w q : Walk) (turns block : ℕ) → led_to w.ahead.here.items block ≡ [] → q.places ≡ w.places → IsReached w.ahead.here.items block q.ahead.here.items
+pub reached-none : (ns : List TermNode) (r : Region) (w q : Walk) (turns block : ℕ) → led_to w.ahead.here.items block ≡ [] → q.places ≡ w.places → IsReached w.ahead.here.items block q.ahead.here.items
     → q.ahead.next ≡ w.ahead.next → q.insts ≡ w.insts → q.rows ≡ w.rows → q.sources ≡ w.sources
     → Passes (walks_at ns r w turns block) r (place_of turns block ∷ []) ns q turns (block + 1)
 reached-none ns r w q turns block none places reached next insts rows sources f name s c h =
@@ -98,7 +98,7 @@ reached-none ns r w q turns block none places reached next insts rows sources f 
 -- ---- some edges lead to the place
 
 -- a place that begins: its edges, and the condition on which control is there
-pub record PlaceBegins (ns ms : List Node) (w q : Walk) (turns block : ℕ) (at : WalkPoint) : Type 0 where
+pub record PlaceBegins (ns ms : List TermNode) (w q : Walk) (turns block : ℕ) (at : WalkPoint) : Type 0 where
   pub some : led_to w.ahead.here.items block ≡ [] → ⊥
   pub reached : IsReached w.ahead.here.items block q.ahead.here.items
   pub next : q.ahead.next ≡ w.ahead.next
@@ -113,7 +113,7 @@ pub record PlaceBegins (ns ms : List Node) (w q : Walk) (turns block : ℕ) (at 
   pub of_turns : at.turns ≡ turns
   pub cond : StandsForTree ms at.cond (any_taken (edges_on ns (led_to w.ahead.here.items block)))
 
-module _ (ns : List Node) (f : Naming) (name : UnitName) (r : Region) (w : Walk) (turns block : ℕ) (s : Story) (c : Course) (h : IsWalk ns f name r w turns block s c)
+module _ (ns : List TermNode) (f : Naming) (name : UnitName) (r : Region) (w : Walk) (turns block : ℕ) (s : Story) (c : Course) (h : IsWalk ns f name r w turns block s c)
     (l : block < length r.flat.now.blocks) (some : led_to w.ahead.here.items block ≡ [] → ⊥) where
   abbrev u : UnitText
   u = process_by name f r.flat.now
@@ -177,7 +177,7 @@ module _ (ns : List Node) (f : Naming) (name : UnitName) (r : Region) (w : Walk)
   abbrev pub here : Here
   here = record { place = p; label = f.label_name block; cond = any_taken xs }
 
-  module _ (ms : List Node) (q : Walk) (at : WalkPoint) (b : PlaceBegins ns ms w q turns block at) (lt : turns ≤ max_turns) where
+  module _ (ms : List TermNode) (q : Walk) (at : WalkPoint) (b : PlaceBegins ns ms w q turns block at) (lt : turns ≤ max_turns) where
     edges-still : AreEdges ms s es xs
     edges-still = edges-grown ns ms s es xs b.grows there.edges
 
@@ -224,7 +224,7 @@ module _ (ns : List Node) (f : Naming) (name : UnitName) (r : Region) (w : Walk)
     treated-is = λ i. through_block g p (any_taken xs) xs c (flat_block_text f (b.of_block i) there.block_is)
 
     -- the place is treated
-    pub passes-place : (os : List Node) (z : Walk) → Treats ms r q at os z → Comes os f name r z turns (block + 1) (through_all g (p ∷ []) c)
+    pub passes-place : (os : List TermNode) (z : Walk) → Treats ms r q at os z → Comes os f name r z turns (block + 1) (through_all g (p ∷ []) c)
     passes-place os z t =
         let y = t f name s here there.block_is there.first there.more c opened in
         let e : through_block g p (any_taken xs) xs c (flat_block_text f block there.block_is) ≡ comes_to y.1 = sym treated-is ∙ y.2 in
@@ -255,23 +255,23 @@ module _ (ns : List Node) (f : Naming) (name : UnitName) (r : Region) (w : Walk)
 
 -- ---- any walk
 
-module _ (ns : List Node) (r : Region) (w : Walk) (turns block : ℕ) (l : block < length r.flat.now.blocks) (some : led_to w.ahead.here.items block ≡ [] → ⊥) where
+module _ (ns : List TermNode) (r : Region) (w : Walk) (turns block : ℕ) (l : block < length r.flat.now.blocks) (some : led_to w.ahead.here.items block ≡ [] → ⊥) where
   -- the conditions of the edges are terms
   pub edges-can : CanWalk ns r w turns block → AreConditions ns (led_to w.ahead.here.items block)
   edges-can a = edge-conditions ns a.naming a.name r w turns block a.story a.course a.walk l some
 
-  module _ (ms : List Node) (q : Walk) (at : WalkPoint) (b : PlaceBegins ns ms w q turns block at) (lt : turns ≤ max_turns) where
+  module _ (ms : List TermNode) (q : Walk) (at : WalkPoint) (b : PlaceBegins ns ms w q turns block at) (lt : turns ≤ max_turns) where
     pub treat-can : CanWalk ns r w turns block → CanTreat ms r q at
     treat-can a = can-treat ns a.naming a.name r w turns block a.story a.course a.walk l some ms q at b lt
 
-    pub passes-block : (os : List Node) (z : Walk) → Treats ms r q at os z → Passes (walks_at ns r w turns block) r (place_of turns block ∷ []) os z turns (block + 1)
+    pub passes-block : (os : List TermNode) (z : Walk) → Treats ms r q at os z → Passes (walks_at ns r w turns block) r (place_of turns block ∷ []) os z turns (block + 1)
     passes-block os z t f name s c h = passes-place ns f name r w turns block s c h l some ms q at b lt os z t
 
     pub stops-block : (e : RegionFault) → TreatsNot ms r q at e → Stops (walks_at ns r w turns block) r (place_of turns block ∷ []) e
     stops-block e t f name s c h = stops-place ns f name r w turns block s c h l some ms q at b lt e t
 
 -- what begins is the place to which these edges lead
-pub begins-by : (ns ms : List Node) (w q : Walk) (turns block : ℕ) (at : WalkPoint) (into fs : List Edge) → into ≡ led_to w.ahead.here.items block → fs ≡ into → (led_to w.ahead.here.items block ≡ [] → ⊥)
+pub begins-by : (ns ms : List TermNode) (w q : Walk) (turns block : ℕ) (at : WalkPoint) (into fs : List Edge) → into ≡ led_to w.ahead.here.items block → fs ≡ into → (led_to w.ahead.here.items block ≡ [] → ⊥)
     → IsReached w.ahead.here.items block q.ahead.here.items → q.ahead.next ≡ w.ahead.next → q.insts ≡ w.insts → q.rows ≡ w.rows → q.sources ≡ w.sources → Grows ns ms
     → IsBegun w.places.items block into q.places.items → BeginsJoined w.places.items into q.places.items → at.place ≡ length w.places.items → at.block ≡ block → at.turns ≡ turns
     → StandsForTree ms at.cond (any_taken (edges_on ns fs)) → PlaceBegins ns ms w q turns block at

@@ -47,7 +47,7 @@ use Rattle.lh_term.specs.Types.{IsTyped, FitsTerm}
 use Rattle.lh_term.specs.Make.{make_operation}
 use Rattle.lh_term.specs.Arena.{trees, tree_at, StandsForTree, Grows}
 use Rattle.lh_term.specs.declared.term.TermId.{TermId}
-use Rattle.lh_term.specs.declared.term.Node.{Node}
+use Rattle.lh_term.specs.declared.term.TermNode.{TermNode}
 use Rattle.lh_term.specs.declared.part.Part.{Part}
 use Rattle.lh_term.proofs.Swaps.{stands_grown, grows_on}
 use Rattle.lh_flat_parts.specs.declared.step.PartStep.{PartStep as StepOf}
@@ -178,7 +178,7 @@ alone-other f g h _ r m e nc np nv nl = refl
 
 -- ---- between two lines
 
-module _ (ns : List Node) (f : Naming) (name : UnitName) (r : Region) (w : Walk) (at : WalkPoint) (before : Story) (h : Here) (insts : ℕ) (b : FlatBlock) (done rest : List LineText) (m : Midst)
+module _ (ns : List TermNode) (f : Naming) (name : UnitName) (r : Region) (w : Walk) (at : WalkPoint) (before : Story) (h : Here) (insts : ℕ) (b : FlatBlock) (done rest : List LineText) (m : Midst)
     (l : FlatInst)
     (i : IsBetween ns f name r w at before h insts b done (flat_line_text f l ∷ rest) m) where
   abbrev u : UnitText
@@ -243,7 +243,7 @@ module _ (ns : List Node) (f : Naming) (name : UnitName) (r : Region) (w : Walk)
     pub sources : q.sources ≡ w.sources
 
   -- what is right of the places and rows after the line
-  pub record Did (ms : List Node) (q : Walk) (m' : Midst) : Type 0 where
+  pub record Did (ms : List TermNode) (q : Walk) (m' : Midst) : Type 0 where
     pub story : Story
     pub continues : ContinuesStory before story
     pub is : story.places ≡ at.place + 1
@@ -252,7 +252,7 @@ module _ (ns : List Node) (f : Naming) (name : UnitName) (r : Region) (w : Walk)
     pub known : TellsKnown story at.place m'.known
     pub rows : AreRows ms q.rows m'.rows
 
-  pub next : (ms : List Node) (q : Walk) → Grows ns ms → leads_nowhere l.inst ≡ true → Keeps q → Did ms q (takes_line f r h l m)
+  pub next : (ms : List TermNode) (q : Walk) → Grows ns ms → leads_nowhere l.inst ≡ true → Keeps q → Did ms q (takes_line f r h l m)
       → IsBetween ms f name r q at before h insts b (done ++ lt ∷ []) rest (takes_line f r h l m)
   next ms q grows inner y d =
       let m' : Midst = takes_line f r h l m in
@@ -295,7 +295,7 @@ module _ (ns : List Node) (f : Naming) (name : UnitName) (r : Region) (w : Walk)
       }
 
   -- a term is given
-  pub given-next : (ms : List Node) (q : Walk) (P : Story → Tree → Type 0) (v : ℕ) (a : Known) (x : Tree) → Grows ns ms → leads_nowhere l.inst ≡ true → Keeps q
+  pub given-next : (ms : List TermNode) (q : Walk) (P : Story → Tree → Type 0) (v : ℕ) (a : Known) (x : Tree) → Grows ns ms → leads_nowhere l.inst ≡ true → Keeps q
       → SamePlaces w.places.items q.places.items → v < r.flat.now.values → P s x → as_term a ≡ Some x
       → GivesWhere P ns w.places.items at.place v ms q.places.items → (takes_line f r h l m).known ≡ with_known m.known (f.value_name v) a → AreRows ms q.rows (takes_line f r h l m).rows
       → IsBetween ms f name r q at before h insts b (done ++ lt ∷ []) rest (takes_line f r h l m)
@@ -312,7 +312,7 @@ module _ (ns : List Node) (f : Naming) (name : UnitName) (r : Region) (w : Walk)
       })
 
   -- the rows stay
-  rows-stay : (ms : List Node) (q : Walk) → Grows ns ms → q.rows ≡ w.rows → (takes_line f r h l m).rows ≡ m.rows → AreRows ms q.rows (takes_line f r h l m).rows
+  rows-stay : (ms : List TermNode) (q : Walk) → Grows ns ms → q.rows ≡ w.rows → (takes_line f r h l m).rows ≡ m.rows → AreRows ms q.rows (takes_line f r h l m).rows
   rows-stay ms q grows e k =
       subst (λ (x : Rows). AreRows ms x (takes_line f r h l m).rows) (sym e)
       (subst (λ (x : text.Rows). AreRows ms w.rows x) (sym k) (rows-grown ns ms w.rows m.rows grows i.midst.so_far.rows))
@@ -381,10 +381,10 @@ module _ (ns : List Node) (f : Naming) (name : UnitName) (r : Region) (w : Walk)
   low-used j low e = used-low r.flat.now.values (length r.flat.now.blocks) l j low e
 
   -- what comes of the line
-  abbrev pub Next : List Node → Walk → Type 0
+  abbrev pub Next : List TermNode → Walk → Type 0
   Next ms q = IsBetween ms f name r q at before h insts b (done ++ lt ∷ []) rest (takes_line f r h l m)
 
-  pub const-next : (ms : List Node) (q : Walk) (d : Datum) (v : ValueId) → l.inst ≡ inst.Const d → l.result ≡ Some v → Low → Grows ns ms → Keeps q → q.rows ≡ w.rows
+  pub const-next : (ms : List TermNode) (q : Walk) (d : Datum) (v : ValueId) → l.inst ≡ inst.Const d → l.result ≡ Some v → Low → Grows ns ms → Keeps q → q.rows ≡ w.rows
       → SamePlaces w.places.items q.places.items
       → GivesWhere (IsThat (constant d)) ns w.places.items at.place v.0 ms q.places.items → Next ms q
   const-next ms q d v e k low grows y rows same gives =
@@ -392,7 +392,7 @@ module _ (ns : List Node) (f : Naming) (name : UnitName) (r : Region) (w : Walk)
       (known-by (inst.Const d) v (known_value (constant d)) e k refl) (rows-stay ms q grows rows (rows-by (inst.Const d) e refl))
 
   -- a value that is given becomes known as this
-  value-next : (ms : List Node) (q : Walk) (j : Inst) (o v : ℕ) (a : Known) (x : Tree) → l.inst ≡ j → leads_nowhere j ≡ true → v < r.flat.now.values → Grows ns ms → Keeps q → q.rows ≡ w.rows
+  value-next : (ms : List TermNode) (q : Walk) (j : Inst) (o v : ℕ) (a : Known) (x : Tree) → l.inst ≡ j → leads_nowhere j ≡ true → v < r.flat.now.values → Grows ns ms → Keeps q → q.rows ≡ w.rows
       → SamePlaces w.places.items q.places.items → s.told at.place o ≡ Some x → as_term a ≡ Some x
       → (takes_line f r h l m).known ≡ with_known m.known (f.value_name v) a → (takes g h (inst_text f j) (maybe_text f l.result) m).rows ≡ m.rows
       → GivesWhere (IsToldOf at.place o) ns w.places.items at.place v ms q.places.items → Next ms q
@@ -405,7 +405,7 @@ module _ (ns : List Node) (f : Naming) (name : UnitName) (r : Region) (w : Walk)
       let z = Taking.var-known u g region at.block bt block-is h i.stands.label i.midst.condition done lt rest site m i.knows.typed i.knows.there (operand_text f of) k.row k.there in
       (z.1, z.3, told-value of.value.0 z.1 (low-used (inst.Var of) low e).0 z.3)
 
-  var-next : (ms : List Node) (q : Walk) (of : Typed) (v : ValueId) → l.inst ≡ inst.Var of → l.result ≡ Some v → Low → Grows ns ms → Keeps q → q.rows ≡ w.rows
+  var-next : (ms : List TermNode) (q : Walk) (of : Typed) (v : ValueId) → l.inst ≡ inst.Var of → l.result ≡ Some v → Low → Grows ns ms → Keeps q → q.rows ≡ w.rows
       → SamePlaces w.places.items q.places.items
       → GivesWhere (IsToldOf at.place of.value.0) ns w.places.items at.place v.0 ms q.places.items → Next ms q
   var-next ms q of v e k low grows y rows same gives =
@@ -419,7 +419,7 @@ module _ (ns : List Node) (f : Naming) (name : UnitName) (r : Region) (w : Walk)
       let z = Taking.ld-known u g region at.block bt block-is h i.stands.label i.midst.condition done lt rest site m i.knows.typed i.knows.there (operand_text f of) k.row k.there in
       (z.1, z.3, told-cell of.value.0 z.1 (low-used (inst.Ld of) low e).0 z.3)
 
-  ld-next : (ms : List Node) (q : Walk) (of : Typed) (v : ValueId) → l.inst ≡ inst.Ld of → l.result ≡ Some v → Low → Grows ns ms → Keeps q → q.rows ≡ w.rows → SamePlaces w.places.items q.places.items
+  ld-next : (ms : List TermNode) (q : Walk) (of : Typed) (v : ValueId) → l.inst ≡ inst.Ld of → l.result ≡ Some v → Low → Grows ns ms → Keeps q → q.rows ≡ w.rows → SamePlaces w.places.items q.places.items
       → GivesWhere (IsToldOf at.place of.value.0) ns w.places.items at.place v.0 ms q.places.items → Next ms q
   ld-next ms q of v e k low grows y rows same gives =
       let z = ld-told of e low in
@@ -433,7 +433,7 @@ module _ (ns : List Node) (f : Naming) (name : UnitName) (r : Region) (w : Walk)
       k.there in
       (z.2, z.4, told-value value.0 z.2 (low-used (inst.St to value) low e).1.0 z.4)
 
-  pub st-next : (ms : List Node) (q : Walk) (to : Typed) (value : ValueId) → l.inst ≡ inst.St to value → Low → Grows ns ms → Keeps q → q.rows ≡ w.rows → SamePlaces w.places.items q.places.items
+  pub st-next : (ms : List TermNode) (q : Walk) (to : Typed) (value : ValueId) → l.inst ≡ inst.St to value → Low → Grows ns ms → Keeps q → q.rows ≡ w.rows → SamePlaces w.places.items q.places.items
       → GivesWhere (IsToldOf at.place value.0) ns w.places.items at.place to.value.0 ms q.places.items → Next ms q
   st-next ms q to value e low grows y rows same gives =
       let z = st-told to value e low in
@@ -489,7 +489,7 @@ module _ (ns : List Node) (f : Naming) (name : UnitName) (r : Region) (w : Walk)
         fits = (z.typed t.0 (sym (ap (λ (x : Inst). result_type (inst_text f x)) e) ∙ t.2)).1;
       }
 
-  pub pure-next : (ms : List Node) (q : Walk) (o : Op) (args : List Typed) (v : ValueId) → l.inst ≡ inst.Pure o args → l.result ≡ Some v → Low → step_on o args ≡ None → Grows ns ms → Keeps q
+  pub pure-next : (ms : List TermNode) (q : Walk) (o : Op) (args : List Typed) (v : ValueId) → l.inst ≡ inst.Pure o args → l.result ≡ Some v → Low → step_on o args ≡ None → Grows ns ms → Keeps q
       → q.rows ≡ w.rows → SamePlaces w.places.items q.places.items
       → GivesWhere (IsOperationOn at.place o args) ns w.places.items at.place v.0 ms q.places.items → Next ms q
   pure-next ms q o args v e k low none grows y rows same gives =
@@ -548,14 +548,14 @@ module _ (ns : List Node) (f : Naming) (name : UnitName) (r : Region) (w : Walk)
   probe-is : (of : Typed) (e : l.inst ≡ inst.Prb of) (low : Low) → takes_line f r h l m ≡ probes g m lt.result (Some (probed-part of e low).part)
   probe-is of e low = ap (λ (x : Inst). takes g h (inst_text f x) lt.result m) e ∙ ap (probes g m lt.result) (probed-part of e low).known
 
-  pub probe-rows : (ms : List Node) (q : Walk) (of : Typed) (e : l.inst ≡ inst.Prb of) (low : Low) (p : Part) → part_at r.parts.now.parts.items of.value.0 ≡ Some p → IsProbed ns w.rows ms q.rows p
+  pub probe-rows : (ms : List TermNode) (q : Walk) (of : Typed) (e : l.inst ≡ inst.Prb of) (low : Low) (p : Part) → part_at r.parts.now.parts.items of.value.0 ≡ Some p → IsProbed ns w.rows ms q.rows p
       → AreRows ms q.rows (takes_line f r h l m).rows
   probe-rows ms q of e low p is probed' =
       let z = probed-part of e low in
       let same : p ≡ z.part = same_Some p z.part (sym is ∙ z.is) in
       subst (λ (x : Midst). AreRows ms q.rows x.rows) (sym (probe-is of e low)) (subst (λ (x : Part). IsProbed ns w.rows ms q.rows x) same probed' g lt.result m i.midst.so_far.rows)
 
-  pub prb-next : (ms : List Node) (q : Walk) (of : Typed) (v : ValueId) (p : Part) → l.inst ≡ inst.Prb of → l.result ≡ Some v → Low → part_at r.parts.now.parts.items of.value.0 ≡ Some p → Grows ns ms
+  pub prb-next : (ms : List TermNode) (q : Walk) (of : Typed) (v : ValueId) (p : Part) → l.inst ≡ inst.Prb of → l.result ≡ Some v → Low → part_at r.parts.now.parts.items of.value.0 ≡ Some p → Grows ns ms
       → Keeps q → SamePlaces w.places.items q.places.items
       → GivesWhere (IsThat (probed r.is_past p)) ns w.places.items at.place v.0 ms q.places.items → IsProbed ns w.rows ms q.rows p → Next ms q
   prb-next ms q of v p e k low is grows y same gives rows =
@@ -567,7 +567,7 @@ module _ (ns : List Node) (f : Naming) (name : UnitName) (r : Region) (w : Walk)
       (probe-rows ms q of e low p is rows)
 
   -- no name is given to the value
-  pub prb-none : (ms : List Node) (q : Walk) (of : Typed) (p : Part) → l.inst ≡ inst.Prb of → l.result ≡ None → Low → part_at r.parts.now.parts.items of.value.0 ≡ Some p → Grows ns ms → Keeps q
+  pub prb-none : (ms : List TermNode) (q : Walk) (of : Typed) (p : Part) → l.inst ≡ inst.Prb of → l.result ≡ None → Low → part_at r.parts.now.parts.items of.value.0 ≡ Some p → Grows ns ms → Keeps q
       → q.places ≡ w.places → IsProbed ns w.rows ms q.rows p → Next ms q
   prb-none ms q of p e k low is grows y same rows =
       let z = probed-part of e low in
@@ -646,7 +646,7 @@ module _ (ns : List Node) (f : Naming) (name : UnitName) (r : Region) (w : Walk)
   may-test (Some v) when c = record { told = s.told; tells = i.midst.tells; cond = c.0; is = c.1; condition = c.2 }
 
   -- the condition of the drive by ids
-  module _ (ms : List Node) (qs : List PlaceState) (cond : Option ValueId) (when : Tree) (c : CondTold cond when) where
+  module _ (ms : List TermNode) (qs : List PlaceState) (cond : Option ValueId) (when : Tree) (c : CondTold cond when) where
     pub tested : StillTested ns w.places.items ms qs cond at.place → Tells ms qs s.told
     tested still = by cond c still
       where
@@ -661,7 +661,7 @@ module _ (ns : List Node) (f : Naming) (name : UnitName) (r : Region) (w : Walk)
         by None k d = subst (StandsForTree ms t) (i.midst.cond.tree ∙ sym k) d
         by (Some v) k d = subst (StandsForTree ms t) (ap (λ (x : Tree). both x k.0) i.midst.cond.tree ∙ sym k.3) (d s.told k.0 i.midst.tells k.1)
 
-  module _ (to : Typed) (value after : ValueId) (cond : Option ValueId) (d : DriveTold to value after cond) (ms : List Node) (qs : List PlaceState) (tells : Tells ms qs s.told) (t : TermId)
+  module _ (to : Typed) (value after : ValueId) (cond : Option ValueId) (d : DriveTold to value after cond) (ms : List TermNode) (qs : List PlaceState) (tells : Tells ms qs s.told) (t : TermId)
       (st : StandsForTree ms t d.when) where
     abbrev at-drive : DriveAt
     at-drive = record { place = at.place; cond = t; value = value.0; after = after.0 }
@@ -672,7 +672,7 @@ module _ (ns : List Node) (f : Naming) (name : UnitName) (r : Region) (w : Walk)
     pub can-drive : CanDrive ms qs at-drive
     can-drive = record { told = s.told; tells = tells; value = ap is_some d.value_told; delay = ap is_some d.delay_told }
 
-    pub drive-next : (os : List Node) (q : Walk) (p : Part) → l.inst ≡ inst.Drv to value after cond → part_at r.parts.now.parts.items to.value.0 ≡ Some p → Grows ns ms → Grows ms os → Keeps q
+    pub drive-next : (os : List TermNode) (q : Walk) (p : Part) → l.inst ≡ inst.Drv to value after cond → part_at r.parts.now.parts.items to.value.0 ≡ Some p → Grows ns ms → Grows ms os → Keeps q
         → SamePlaces w.places.items qs → SamePlaces qs q.places.items
         → StillDriven ms qs os q.places.items at-drive → IsDriven ms qs w.rows os q.rows at-drive p → Next os q
     drive-next os q p e is g1 g2 y same1 same2 still rows =
@@ -716,7 +716,7 @@ module _ (ns : List Node) (f : Naming) (name : UnitName) (r : Region) (w : Walk)
       each-in [] = tt
       each-in (x ∷ xs) = (in-place, each-in xs)
 
-  pub assert-next : (ms : List Node) (q : Walk) (v : UnitId) (ty : TypeTree) (args : List Typed) → l.inst ≡ inst.Call v ty args → Low → Grows ns ms → Keeps q → SamePlaces w.places.items q.places.items
+  pub assert-next : (ms : List TermNode) (q : Walk) (v : UnitId) (ty : TypeTree) (args : List Typed) → l.inst ≡ inst.Call v ty args → Low → Grows ns ms → Keeps q → SamePlaces w.places.items q.places.items
       → StillToldAll ns w.places.items ms q.places.items (asks_at at.place args) → AreAsserted ns w.places.items w.rows ms q.rows at.place args → Next ms q
   assert-next ms q v ty args e low grows y same still rows =
       let a = assert-told v ty args e low in
@@ -750,7 +750,7 @@ module _ (ns : List Node) (f : Naming) (name : UnitName) (r : Region) (w : Walk)
   either-told of (inl e) low = let z = var-told of e low in can-ask of.value.0 z.0 z.2
   either-told of (inr e) low = let z = ld-told of e low in can-ask of.value.0 z.0 z.2
 
-  pub either-next : (ms : List Node) (q : Walk) (of : Typed) (v : ValueId) → (l.inst ≡ inst.Var of) ⊎ (l.inst ≡ inst.Ld of) → l.result ≡ Some v → Low → Grows ns ms → Keeps q → q.rows ≡ w.rows
+  pub either-next : (ms : List TermNode) (q : Walk) (of : Typed) (v : ValueId) → (l.inst ≡ inst.Var of) ⊎ (l.inst ≡ inst.Ld of) → l.result ≡ Some v → Low → Grows ns ms → Keeps q → q.rows ≡ w.rows
       → SamePlaces w.places.items q.places.items
       → GivesWhere (IsToldOf at.place of.value.0) ns w.places.items at.place v.0 ms q.places.items → Next ms q
   either-next ms q of v (inl e) k low grows y rows same gives = var-next ms q of v e k low grows y rows same gives

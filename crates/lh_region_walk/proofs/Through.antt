@@ -11,7 +11,7 @@ use Rattle.lh_flat.specs.Flat.{FlatBlockText}
 use Rattle.lh_flat.specs.Reads.{flat_block_text}
 use Rattle.lh_flat.proofs.Placing.{read-long}
 use Rattle.lh_term.specs.Make.{bit_of}
-use Rattle.lh_term.specs.declared.term.Node.{Node}
+use Rattle.lh_term.specs.declared.term.TermNode.{TermNode}
 use Rattle.lh_region_def.specs.Joins.{RegionPlace, RegionEdge}
 use Rattle.lh_region_def.specs.Places.{Region as RegionText, next_place}
 use Rattle.lh_region_def.specs.Regions.{RegionRefusal, Course, no_course, Coursed, comes_to, then_course, through_block, is_place, edges_to, through_all, all_places, region_from}
@@ -71,7 +71,7 @@ module _ (u : UnitText) (g : RegionText) (k b : ℕ) (l : b < k + 1) where
       let z = not-there e h.0 (is_place e.to (place_of 0 b)) refl in
       ap (λ (x : Bool). if x then e ∷ edges_to (place_of 0 b) es else edges_to (place_of 0 b) es) z ∙ none-there es h.1
 
-module _ (ns : List Node) (f : Naming) (name : UnitName) (r : Region) (ps : List PlaceState) (at : WalkPoint) (before now : Story) (b : FlatBlock) (x : RegionEdge) (xs : List RegionEdge)
+module _ (ns : List TermNode) (f : Naming) (name : UnitName) (r : Region) (ps : List PlaceState) (at : WalkPoint) (before now : Story) (b : FlatBlock) (x : RegionEdge) (xs : List RegionEdge)
     (h : IsStart ns f name r ps at before now b x xs) where
   abbrev u : UnitText
   u = process_by name f r.flat.now
@@ -143,7 +143,7 @@ module _ (ns : List Node) (f : Naming) (name : UnitName) (r : Region) (ps : List
   from-is : region_from g at.block (x ∷ xs) ≡ then_course (through_block g p (bit_of true) (x ∷ xs) no_course bt) (through_all g (all_places (length r.flat.now.blocks)))
   from-is = region-is g at.block bt (x ∷ xs) bat.at ∙ ap (λ n. then_course (through_block g p (bit_of true) (x ∷ xs) no_course bt) (through_all g (all_places n))) (read-long f 0 r.flat.now.blocks)
 
-  module _ (w : Walk) (k : IsFresh r ps w) (ms : List Node) (q : Walk) (t : Treats ns r w at ms q) where
+  module _ (w : Walk) (k : IsFresh r ps w) (ms : List TermNode) (q : Walk) (t : Treats ns r w at ms q) where
     -- the course after the first place
     pub record Placed : Type 0 where
       pub story : Story
@@ -183,14 +183,14 @@ module _ (ns : List Node) (f : Naming) (name : UnitName) (r : Region) (ps : List
     from-placed = from-is ∙ ap (λ (y : Coursed). then_course y (through_all g (all_places (length r.flat.now.blocks)))) placed.is
 
 -- the first place, and then all turns
-pub goes-through : (ns : List Node) (r : Region) (ps : List PlaceState) (at : WalkPoint) (w : Walk) → IsFresh r ps w → (ms : List Node) (q : Walk) → Treats ns r w at ms q → (os : List Node) (z : Walk)
+pub goes-through : (ns : List TermNode) (r : Region) (ps : List PlaceState) (at : WalkPoint) (w : Walk) → IsFresh r ps w → (ms : List TermNode) (q : Walk) → Treats ns r w at ms q → (os : List TermNode) (z : Walk)
     → PassesAll (turns_at ms r q 0 (at.block + 1)) r os z → GoesThrough ns r ps at os z
 goes-through ns r ps at w k ms q t os z a f name before now b x xs h =
     let d = placed ns f name r ps at before now b x xs h w k ms q t in
     let y = a f name d.story d.course d.turn in
     (y.0, (y.1.0, y.1.1, from-placed ns f name r ps at before now b x xs h w k ms q t ∙ y.1.2, y.1.3))
 
-pub goes-not-first : (ns : List Node) (r : Region) (ps : List PlaceState) (at : WalkPoint) (w : Walk) → IsFresh r ps w → (e : RegionFault) → TreatsNot ns r w at e → GoesNot ns r ps at e
+pub goes-not-first : (ns : List TermNode) (r : Region) (ps : List PlaceState) (at : WalkPoint) (w : Walk) → IsFresh r ps w → (e : RegionFault) → TreatsNot ns r w at e → GoesNot ns r ps at e
 goes-not-first ns r ps at w k e t f name before now b x xs h =
     by (refusal_of e) (t f name before (start_here f at) b x xs no_course (start-opened ns f name r ps at before now b x xs h w k))
   where
@@ -198,7 +198,7 @@ goes-not-first ns r ps at w k e t f name before now b x xs h =
     by None s = tt
     by (Some y) s = from-is ns f name r ps at before now b x xs h ∙ ap (λ (c : Coursed). then_course c (through_all (region_text f r) (all_places (length r.flat.now.blocks)))) s
 
-pub goes-not-later : (ns : List Node) (r : Region) (ps : List PlaceState) (at : WalkPoint) (w : Walk) → IsFresh r ps w → (ms : List Node) (q : Walk) → Treats ns r w at ms q → (e : RegionFault)
+pub goes-not-later : (ns : List TermNode) (r : Region) (ps : List PlaceState) (at : WalkPoint) (w : Walk) → IsFresh r ps w → (ms : List TermNode) (q : Walk) → Treats ns r w at ms q → (e : RegionFault)
     → Stops (turns_at ms r q 0 (at.block + 1)) r (all_places (length r.flat.now.blocks)) e → GoesNot ns r ps at e
 goes-not-later ns r ps at w k ms q t e a f name before now b x xs h =
     let d = placed ns f name r ps at before now b x xs h w k ms q t in
@@ -206,10 +206,10 @@ goes-not-later ns r ps at w k ms q t e a f name before now b x xs h =
 
 -- ---- some start
 
-pub start-can : (ns : List Node) (r : Region) (ps : List PlaceState) (at : WalkPoint) (w : Walk) → IsFresh r ps w → CanStart ns r ps at → CanTreat ns r w at
+pub start-can : (ns : List TermNode) (r : Region) (ps : List PlaceState) (at : WalkPoint) (w : Walk) → IsFresh r ps w → CanStart ns r ps at → CanTreat ns r w at
 start-can ns r ps at w k a = start-treat ns a.naming a.name r ps at a.before a.now a.block a.first a.more a.start w k
 
-pub start-turn : (ns : List Node) (r : Region) (ps : List PlaceState) (at : WalkPoint) (w : Walk) → IsFresh r ps w → CanStart ns r ps at → (ms : List Node) (q : Walk) → Treats ns r w at ms q
+pub start-turn : (ns : List TermNode) (r : Region) (ps : List PlaceState) (at : WalkPoint) (w : Walk) → IsFresh r ps w → CanStart ns r ps at → (ms : List TermNode) (q : Walk) → Treats ns r w at ms q
     → CanTurn ms r q 0 (at.block + 1)
 start-turn ns r ps at w k a ms q t = placed-turn ns a.naming a.name r ps at a.before a.now a.block a.first a.more a.start w k ms q t
 
@@ -218,7 +218,7 @@ get-within [] k b e = absurd (none-some b e)
 get-within (c ∷ bs) zero b e = omega arith
 get-within (c ∷ bs) (suc k) b e = omega (arith, get-within bs k b e)
 
-pub start-within : (ns : List Node) (r : Region) (ps : List PlaceState) (at : WalkPoint) → CanStart ns r ps at → at.block + 1 ≤ length r.flat.now.blocks
+pub start-within : (ns : List TermNode) (r : Region) (ps : List PlaceState) (at : WalkPoint) → CanStart ns r ps at → at.block + 1 ≤ length r.flat.now.blocks
 start-within ns r ps at a = get-within r.flat.now.blocks at.block a.block a.start.block
 
 pub fresh : (r : Region) (ps : List PlaceState) (w : Walk) (n : ℕ) → n ≡ length r.flat.now.blocks → w.places.items ≡ ps → LeadsNowhere n w.ahead.here.items → LeadsNowhere n w.ahead.next.items

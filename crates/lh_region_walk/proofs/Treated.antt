@@ -19,7 +19,7 @@ use Rattle.lh_flat.specs.Below.{InstBelow}
 use Rattle.lh_flat.specs.Flat.{MergeText, with_merge, as_block}
 use Rattle.lh_flat.specs.Reads.{merge_text, flat_line_text, flat_block_text, flat_blocks_text}
 use Rattle.lh_term.specs.Arena.{Grows}
-use Rattle.lh_term.specs.declared.term.Node.{Node}
+use Rattle.lh_term.specs.declared.term.TermNode.{TermNode}
 use Rattle.lh_term.proofs.Arenas.{map_length}
 use Rattle.lh_term.proofs.Swaps.{grows_on}
 use Rattle.lh_region_joins.proofs.Conditions.{grows-none}
@@ -50,7 +50,7 @@ with_insts w n = record { places = w.places; ahead = w.ahead; insts = n; rows = 
 abbrev counted_to : ℕ → Course → Course
 counted_to n c = record { insts = n; edges = c.edges; rows = c.rows }
 
-pub opened-counted : (ns : List Node) (f : Naming) (name : UnitName) (r : Region) (w : Walk) (at : WalkPoint) (before : Story) (h : Here) (b : FlatBlock) (x : RegionEdge) (xs : List RegionEdge)
+pub opened-counted : (ns : List TermNode) (f : Naming) (name : UnitName) (r : Region) (w : Walk) (at : WalkPoint) (before : Story) (h : Here) (b : FlatBlock) (x : RegionEdge) (xs : List RegionEdge)
     (c : Course) (n : ℕ) → IsOpened ns f name r w at before h b x xs c
     → IsOpened ns f name r (with_insts w n) at before h b x xs (counted_to n c)
 opened-counted ns f name r w at before h b x xs c n o =
@@ -86,7 +86,7 @@ opened-counted ns f name r w at before h b x xs c n o =
       join = o.join;
     }
 
-pub can-treat-counted : (ns : List Node) (r : Region) (w : Walk) (at : WalkPoint) (n : ℕ) → CanTreat ns r w at → CanTreat ns r (with_insts w n) at
+pub can-treat-counted : (ns : List TermNode) (r : Region) (w : Walk) (at : WalkPoint) (n : ℕ) → CanTreat ns r w at → CanTreat ns r (with_insts w n) at
 can-treat-counted ns r w at n c = record {
   naming = c.naming;
   name = c.name;
@@ -116,7 +116,7 @@ ends-once None ls e l more q = (e, λ p. let z : [] ≡ l ∷ more = sym p ∙ q
 ends-once (Some m) [] e l more q = cc
 ends-once (Some m) (k ∷ ls) e l more q = (e.1, λ p. cc)
 
-pub opened-ends : (ns : List Node) (f : Naming) (name : UnitName) (r : Region) (w : Walk) (at : WalkPoint) (before : Story) (h : Here) (b : FlatBlock) (x : RegionEdge) (xs : List RegionEdge)
+pub opened-ends : (ns : List TermNode) (f : Naming) (name : UnitName) (r : Region) (w : Walk) (at : WalkPoint) (before : Story) (h : Here) (b : FlatBlock) (x : RegionEdge) (xs : List RegionEdge)
     (c : Course) → IsOpened ns f name r w at before h b x xs c → EndsLast b.insts
 opened-ends ns f name r w at before h b x xs c o =
     let text = flat_block_text f at.block b in
@@ -155,17 +155,17 @@ done-lines : (f : Naming) (done : List LineText) (seen : List FlatInst) (l : Fla
     ++ map (flat_line_text f) (seen ++ l ∷ [])
 done-lines f done seen l = append_assoc done (map (flat_line_text f) seen) (flat_line_text f l ∷ []) ∙ ap (λ (ys : List LineText). done ++ ys) (sym (map-last f seen l))
 
-pub record LinesSoFar (ns : List Node) (r : Region) (w : Walk) (at : WalkPoint) (seen : List FlatInst) (ms : List Node) (q : Walk) : Type 0 where
+pub record LinesSoFar (ns : List TermNode) (r : Region) (w : Walk) (at : WalkPoint) (seen : List FlatInst) (ms : List TermNode) (q : Walk) : Type 0 where
   pub grows : Grows ns ms
   pub takes : TakesLines ns r w at seen ms q
 
-takes-none : (ns : List Node) (r : Region) (w : Walk) (at : WalkPoint) → TakesLines ns r w at [] ns w
+takes-none : (ns : List TermNode) (r : Region) (w : Walk) (at : WalkPoint) → TakesLines ns r w at [] ns w
 takes-none ns r w at f name before h insts b done rest m bt = subst (λ (ds : List LineText). IsBetween ns f name r w at before h insts b ds rest m) (sym (append-nil done)) bt
 
-pub lines-none : (ns : List Node) (r : Region) (w : Walk) (at : WalkPoint) (seen : List FlatInst) → seen ≡ [] → LinesSoFar ns r w at seen ns w
+pub lines-none : (ns : List TermNode) (r : Region) (w : Walk) (at : WalkPoint) (seen : List FlatInst) → seen ≡ [] → LinesSoFar ns r w at seen ns w
 lines-none ns r w at seen e = subst (λ (ls : List FlatInst). LinesSoFar ns r w at ls ns w) (sym e) (record { grows = grows-none ns; takes = takes-none ns r w at })
 
-takes-next : (ns ms os : List Node) (r : Region) (w q p : Walk) (at : WalkPoint) (seen : List FlatInst) (l : FlatInst) → TakesLines ns r w at seen ms q → TakesLine ms r q at l os p
+takes-next : (ns ms os : List TermNode) (r : Region) (w q p : Walk) (at : WalkPoint) (seen : List FlatInst) (l : FlatInst) → TakesLines ns r w at seen ms q → TakesLine ms r q at l os p
     → TakesLines ns r w at (seen ++ l ∷ []) os p
 takes-next ns ms os r w q p at seen l t u f name before h insts b done rest m bt =
     let a = t f name before h insts b done (flat_line_text f l ∷ rest) m (subst (λ (ys : List LineText). IsBetween ns f name r w at before h insts b done ys m) (next-lines f seen l [] rest) bt) in
@@ -173,13 +173,13 @@ takes-next ns ms os r w q p at seen l t u f name before h insts b done rest m bt
     subst (λ (ys : List LineText). IsBetween os f name r p at before h insts b ys rest (takes_lines f r h (seen ++ l ∷ []) m)) (done-lines f done seen l)
     (subst (IsBetween os f name r p at before h insts b ((done ++ map (flat_line_text f) seen) ++ flat_line_text f l ∷ []) rest) (sym (takes-more f r h seen l m)) d)
 
-pub lines-next : (ns ms os : List Node) (r : Region) (w q p : Walk) (at : WalkPoint) (seen after : List FlatInst) (l : FlatInst) → after ≡ seen ++ l ∷ [] → Grows ms os → TakesLine ms r q at l os p
+pub lines-next : (ns ms os : List TermNode) (r : Region) (w q p : Walk) (at : WalkPoint) (seen after : List FlatInst) (l : FlatInst) → after ≡ seen ++ l ∷ [] → Grows ms os → TakesLine ms r q at l os p
     → LinesSoFar ns r w at seen ms q → LinesSoFar ns r w at after os p
 lines-next ns ms os r w q p at seen after l e g u s =
     subst (λ (ls : List FlatInst). LinesSoFar ns r w at ls os p) (sym e) (record { grows = grows_on ns ms os s.grows g; takes = takes-next ns ms os r w q p at seen l s.takes u })
 
 -- the next line may be taken
-next-can : (ns ms : List Node) (r : Region) (w q : Walk) (at : WalkPoint) (seen : List FlatInst) (l : FlatInst) (more ls : List FlatInst) → ls ≡ seen ++ l ∷ more → TakesLines ns r w at seen ms q
+next-can : (ns ms : List TermNode) (r : Region) (w q : Walk) (at : WalkPoint) (seen : List FlatInst) (l : FlatInst) (more ls : List FlatInst) → ls ≡ seen ++ l ∷ more → TakesLines ns r w at seen ms q
     → CanTakeAll ns r w at ls → CanTake ms r q at l
 next-can ns ms r w q at seen l more ls e t c =
     let f = c.naming in
@@ -213,7 +213,7 @@ last-split ls l h e =
     let n = length ls - 1 in
     item-split ls n l l (omega (arith, h)) e ∙ ap (λ (more : List FlatInst). take n ls ++ l ∷ more) (drop_all (n + 1) ls (omega (arith, h)))
 
-pub lines-can : (ns ms : List Node) (r : Region) (w q : Walk) (at : WalkPoint) (ls : List FlatInst) (i : ℕ) (l d : FlatInst) → i < length ls → l ≡ get_or ls i d → LinesSoFar ns r w at (take i ls) ms q
+pub lines-can : (ns ms : List TermNode) (r : Region) (w q : Walk) (at : WalkPoint) (ls : List FlatInst) (i : ℕ) (l d : FlatInst) → i < length ls → l ≡ get_or ls i d → LinesSoFar ns r w at (take i ls) ms q
     → CanTakeAll ns r w at ls → CanTake ms r q at l
 lines-can ns ms r w q at ls i l d h e s c = next-can ns ms r w q at (take i ls) l (drop (i + 1) ls) ls (item-split ls i l d h e) s.takes c
 
@@ -224,7 +224,7 @@ line-inner (k ∷ ls) (suc i) l d h e n = line-inner ls i l d (omega (arith, h))
 
 -- ---- all lines but the last, and the last
 
-module _ (ns : List Node) (r : Region) (w : Walk) (at : WalkPoint) (ls inner : List FlatInst) (l : FlatInst) (is : ls ≡ inner ++ l ∷ []) where
+module _ (ns : List TermNode) (r : Region) (w : Walk) (at : WalkPoint) (ls inner : List FlatInst) (l : FlatInst) (is : ls ≡ inner ++ l ∷ []) where
   pub inner-can : CanTakeAll ns r w at ls → CanTakeAll ns r w at inner
   inner-can c =
       let f = c.naming in
@@ -249,7 +249,7 @@ module _ (ns : List Node) (r : Region) (w : Walk) (at : WalkPoint) (ls inner : L
   pub last-leads : EndsLast ls → leads_nowhere l.inst ≡ false
   last-leads e = (ends-inner inner l (subst EndsLast is e)).1
 
-  module _ (ms : List Node) (q : Walk) (t : TakesLines ns r w at inner ms q) where
+  module _ (ms : List TermNode) (q : Walk) (t : TakesLines ns r w at inner ms q) where
     pub last-can : CanTakeAll ns r w at ls → CanTake ms r q at l
     last-can c = next-can ns ms r w q at inner l [] ls is t c
 
@@ -263,7 +263,7 @@ module _ (ns : List Node) (r : Region) (w : Walk) (at : WalkPoint) (ls inner : L
     all-taken : (f : Naming) (h : Here) (m : Midst) → takes_lines f r h ls m ≡ takes_line f r h l (takes_lines f r h inner m)
     all-taken f h m = ap (λ (ks : List FlatInst). takes_lines f r h ks m) is ∙ takes-more f r h inner l m
 
-    pub ends-lines : (os : List Node) (p : Walk) → EndsLine ms r q at l os p → EndsLines ns r w at ls os p
+    pub ends-lines : (os : List TermNode) (p : Walk) → EndsLine ms r q at l os p → EndsLines ns r w at ls os p
     ends-lines os p e f name before h insts b done m bt =
         let z = e f name before h insts b (done ++ map (flat_line_text f) inner) [] (takes_lines f r h inner m) (last-between f name before h insts b done m bt) in
         (z.0, subst (λ (y : Midst). IsCourse os f r p at.turns (at.block + 1) z.0 (course_at insts y)) (sym (all-taken f h m)) z.1)
@@ -279,7 +279,7 @@ module _ (ns : List Node) (r : Region) (w : Walk) (at : WalkPoint) (ls inner : L
 
 -- ---- what the definition comes to
 
-module _ (ns : List Node) (f : Naming) (name : UnitName) (r : Region) (w : Walk) (at : WalkPoint) (before : Story) (h : Here) (b : FlatBlock) (x : RegionEdge) (xs : List RegionEdge) (c : Course)
+module _ (ns : List TermNode) (f : Naming) (name : UnitName) (r : Region) (w : Walk) (at : WalkPoint) (before : Story) (h : Here) (b : FlatBlock) (x : RegionEdge) (xs : List RegionEdge) (c : Course)
     (o : IsOpened ns f name r w at before h b x xs c) where
   abbrev es_here : List RegionEdge
   es_here = x ∷ xs
@@ -311,7 +311,7 @@ module _ (ns : List Node) (f : Naming) (name : UnitName) (r : Region) (w : Walk)
 
 -- ---- a place, from its count on
 
-module _ (ns ms : List Node) (r : Region) (w q : Walk) (at : WalkPoint) (n : ℕ) (d : FlatBlock) (read : d ≡ get_or r.flat.now.blocks at.block d) (ls : List FlatInst) (are : ls ≡ d.insts)
+module _ (ns ms : List TermNode) (r : Region) (w q : Walk) (at : WalkPoint) (n : ℕ) (d : FlatBlock) (read : d ≡ get_or r.flat.now.blocks at.block d) (ls : List FlatInst) (are : ls ≡ d.insts)
     (merged : TakesMerges ns r (with_insts w n) at ms q) where
   lines-are : (b : FlatBlock) → slice_get r.flat.now.blocks at.block ≡ Some b → b.insts ≡ ls
   lines-are b e = ap (λ (y : FlatBlock). y.insts) (block-read r.flat.now.blocks at.block b d e read) ∙ sym are
@@ -357,7 +357,7 @@ module _ (ns ms : List Node) (r : Region) (w q : Walk) (at : WalkPoint) (n : ℕ
         → n ≡ c.insts + length b.insts
     count-is f name before h b x xs c o = count ∙ (λ i. o.midst.so_far.insts i + length (sym (block-read r.flat.now.blocks at.block b d o.stands.block read) i).insts)
 
-    pub treats : (os : List Node) (p : Walk) → EndsLines ms r q at ls os p → Treats ns r w at os p
+    pub treats : (os : List TermNode) (p : Walk) → EndsLines ms r q at ls os p → Treats ns r w at os p
     treats os p e f name before h b x xs c o =
         let m = midst_at f at b (x ∷ xs) c in
         let z = e f name before h n b (merge_lines (option_map (merge_text f) b.merge)) m (told-between f name before h b x xs c o) in
@@ -373,18 +373,18 @@ module _ (ns ms : List Node) (r : Region) (w q : Walk) (at : WalkPoint) (n : ℕ
         subst (λ (z : RegionFault). StopsFor (treated f r at h b (x ∷ xs) c) (refusal_of z)) (sym e) (treated-turns ns f name r w at before h b x xs c o n (count-is f name before h b x xs c o) few v)
 
 -- the place has too many instructions
-pub too-large : (ns : List Node) (r : Region) (w : Walk) (at : WalkPoint) (d : FlatBlock) → d ≡ get_or r.flat.now.blocks at.block d → max_insts < w.insts + length d.insts
+pub too-large : (ns : List TermNode) (r : Region) (w : Walk) (at : WalkPoint) (d : FlatBlock) → d ≡ get_or r.flat.now.blocks at.block d → max_insts < w.insts + length d.insts
     → TreatsNot ns r w at fault.RegionTooLarge
 too-large ns r w at d read l f name before h b x xs c o =
     treated-large ns f name r w at before h b x xs c o
     (subst (λ (i : ℕ). max_insts < i) (λ i. o.midst.so_far.insts i + length (sym (block-read r.flat.now.blocks at.block b d o.stands.block read) i).insts) l)
 
 -- of want of memory nothing is said
-pub no-memory : (ns : List Node) (r : Region) (w : Walk) (at : WalkPoint) → TreatsNot ns r w at fault.OutOfMemory
+pub no-memory : (ns : List TermNode) (r : Region) (w : Walk) (at : WalkPoint) → TreatsNot ns r w at fault.OutOfMemory
 no-memory ns r w at f name before h b x xs c o = tt
 
 -- the block of a place that has begun is there
-pub block-within : (ns : List Node) (r : Region) (w : Walk) (at : WalkPoint) → CanTreat ns r w at → at.block < length r.flat.now.blocks
+pub block-within : (ns : List TermNode) (r : Region) (w : Walk) (at : WalkPoint) → CanTreat ns r w at → at.block < length r.flat.now.blocks
 block-within ns r w at c = within r.flat.now.blocks at.block c.block c.opened.stands.block
   where
     within : (bs : List FlatBlock) (i : ℕ) (b : FlatBlock) → slice_get bs i ≡ Some b → i < length bs

@@ -5,7 +5,7 @@ use Rattle.std.specs.Cmp.{first_so, second_so}
 use Rattle.lh_unit_names.specs.declared.name.UnitName.{UnitName}
 use Rattle.lh_unit.specs.Naming.{Naming}
 use Rattle.lh_term.specs.Arena.{Grows}
-use Rattle.lh_term.specs.declared.term.Node.{Node}
+use Rattle.lh_term.specs.declared.term.TermNode.{TermNode}
 use Rattle.lh_term.proofs.Swaps.{grows_on}
 use Rattle.lh_region_joins.proofs.Conditions.{grows-none}
 use Rattle.lh_region_def.specs.Joins.{RegionPlace, RegionEdge}
@@ -28,21 +28,21 @@ stops-memory From r ps e q f name s c from = subst (λ x. StopsFor (through_all 
 -- ---- the places of a turn
 
 -- the first places of a turn are passed
-pub record TurnSoFar (ns : List Node) (r : Region) (w : Walk) (turns first : ℕ) (ms : List Node) (q : Walk) (k : ℕ) : Type 0 where
+pub record TurnSoFar (ns : List TermNode) (r : Region) (w : Walk) (turns first : ℕ) (ms : List TermNode) (q : Walk) (k : ℕ) : Type 0 where
   pub grows : Grows ns ms
   pub passes : Passes (turns_at ns r w turns first) r (places_of turns k) ms q turns k
 
-pub turn-first : (ns : List Node) (r : Region) (w : Walk) (turns first : ℕ) → TurnSoFar ns r w turns first ns w first
+pub turn-first : (ns : List TermNode) (r : Region) (w : Walk) (turns first : ℕ) → TurnSoFar ns r w turns first ns w first
 turn-first ns r w turns first = record {
   grows = grows-none ns;
   passes = λ f name s c t. (s, c, places-none (region_text f r) turns first c t.none, t.walk);
 }
 
-module _ (ns : List Node) (r : Region) (w : Walk) (turns first : ℕ) (ms : List Node) (q : Walk) (k : ℕ) (h : TurnSoFar ns r w turns first ms q k) where
+module _ (ns : List TermNode) (r : Region) (w : Walk) (turns first : ℕ) (ms : List TermNode) (q : Walk) (k : ℕ) (h : TurnSoFar ns r w turns first ms q k) where
   pub turn-can : CanTurn ns r w turns first → CanWalk ms r q turns k
   turn-can a = let x = h.passes a.naming a.name a.story a.course a.turn in record { naming = a.naming; name = a.name; story = x.0; course = x.1; walk = x.3 }
 
-  pub turn-next : (os : List Node) (z : Walk) (j : ℕ) → j ≡ k + 1 → Grows ms os → Passes (walks_at ms r q turns k) r (place_of turns k ∷ []) os z turns (k + 1) → TurnSoFar ns r w turns first os z j
+  pub turn-next : (os : List TermNode) (z : Walk) (j : ℕ) → j ≡ k + 1 → Grows ms os → Passes (walks_at ms r q turns k) r (place_of turns k ∷ []) os z turns (k + 1) → TurnSoFar ns r w turns first os z j
   turn-next os z j e g p = record {
     grows = grows_on ns ms os h.grows g;
     passes = subst (λ i. Passes (turns_at ns r w turns first) r (places_of turns i) os z turns i) (sym e)
@@ -95,7 +95,7 @@ module _ (ns : List Node) (r : Region) (w : Walk) (turns first : ℕ) (ms : List
 -- ---- all turns
 
 -- no place of a turn is before its first one
-pub turn-of-walk : (ns : List Node) (f : Naming) (name : UnitName) (r : Region) (w : Walk) (turns : ℕ) (s : Story) (c : Course) → IsWalk ns f name r w turns 0 s c → IsTurn ns f name r w turns 0 s c
+pub turn-of-walk : (ns : List TermNode) (f : Naming) (name : UnitName) (r : Region) (w : Walk) (turns : ℕ) (s : Story) (c : Course) → IsWalk ns f name r w turns 0 s c → IsTurn ns f name r w turns 0 s c
 turn-of-walk ns f name r w turns s c h = record { walk = h; none = λ b l. absurd (omega (arith, l)) }
 
 split : (k u : ℕ) → k ≤ u → (k ≡ u) ⊎ ((k + 1 ≡ u) ⊎ (k + 1 < u))
@@ -111,28 +111,28 @@ split (suc k) (suc u) l = up (split k u (omega (arith, l)))
     up (inr (inr e)) = inr (inr (omega (arith, e)))
 
 -- the first turns are passed
-pub record TurnsSoFar (ns : List Node) (r : Region) (w : Walk) (first n : ℕ) (ms : List Node) (q : Walk) (k : ℕ) : Type 0 where
+pub record TurnsSoFar (ns : List TermNode) (r : Region) (w : Walk) (first n : ℕ) (ms : List TermNode) (q : Walk) (k : ℕ) : Type 0 where
   pub grows : Grows ns ms
   pub passes : Passes (turns_at ns r w 0 first) r (turns_below n k) ms q k 0
 
-pub turns-first : (ns : List Node) (r : Region) (w : Walk) (first n : ℕ) (ms : List Node) (q : Walk) → Grows ns ms → Passes (turns_at ns r w 0 first) r (places_of 0 n) ms q 1 0
+pub turns-first : (ns : List TermNode) (r : Region) (w : Walk) (first n : ℕ) (ms : List TermNode) (q : Walk) → Grows ns ms → Passes (turns_at ns r w 0 first) r (places_of 0 n) ms q 1 0
     → TurnsSoFar ns r w first n ms q 1
 turns-first ns r w first n ms q g p = record {
   grows = g;
   passes = subst (λ ps. Passes (turns_at ns r w 0 first) r ps ms q 1 0) (sym (append-nil (places_of 0 n))) p;
 }
 
-pub first-stops : (ns : List Node) (r : Region) (w : Walk) (first n : ℕ) (e : RegionFault) → Stops (turns_at ns r w 0 first) r (places_of 0 n) e → Stops (turns_at ns r w 0 first) r (all_places n) e
+pub first-stops : (ns : List TermNode) (r : Region) (w : Walk) (first n : ℕ) (e : RegionFault) → Stops (turns_at ns r w 0 first) r (places_of 0 n) e → Stops (turns_at ns r w 0 first) r (all_places n) e
 first-stops ns r w first n e h f name s c t =
     turns-stop (region_text f r) n 1 256 c (refusal_of e) (subst (λ ps. StopsFor (through_all (region_text f r) ps c) (refusal_of e)) (sym (append-nil (places_of 0 n))) (h f name s c t))
 
-module _ (ns : List Node) (r : Region) (w : Walk) (first n : ℕ) (ms : List Node) (q : Walk) (k : ℕ) (h : TurnsSoFar ns r w first n ms q k) where
+module _ (ns : List TermNode) (r : Region) (w : Walk) (first n : ℕ) (ms : List TermNode) (q : Walk) (k : ℕ) (h : TurnsSoFar ns r w first n ms q k) where
   pub turns-can : CanTurn ns r w 0 first → CanTurn ms r q k 0
   turns-can a =
       let x = h.passes a.naming a.name a.story a.course a.turn in
       record { naming = a.naming; name = a.name; story = x.0; course = x.1; turn = turn-of-walk ms a.naming a.name r q k x.0 x.1 x.3 }
 
-  pub turns-next : (os : List Node) (z : Walk) (j : ℕ) → j ≡ k + 1 → Grows ms os → Passes (turns_at ms r q k 0) r (places_of k n) os z (k + 1) 0 → TurnsSoFar ns r w first n os z j
+  pub turns-next : (os : List TermNode) (z : Walk) (j : ℕ) → j ≡ k + 1 → Grows ms os → Passes (turns_at ms r q k 0) r (places_of k n) os z (k + 1) 0 → TurnsSoFar ns r w first n os z j
   turns-next os z j e g p = record {
     grows = grows_on ns ms os h.grows g;
     passes = subst (λ i. Passes (turns_at ns r w 0 first) r (turns_below n i) os z i 0) (sym e)

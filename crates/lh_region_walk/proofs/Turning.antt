@@ -5,7 +5,7 @@ use Rattle.std.proofs.lemmas.List.{append-nil, map_push}
 use Rattle.std.proofs.lemmas.Bool.{cond-false}
 use Rattle.std.specs.Cmp.{first_so, second_so}
 use Rattle.lh_unit.proofs.Lists.{nat_eq-other}
-use Rattle.lh_term.specs.declared.term.Node.{Node}
+use Rattle.lh_term.specs.declared.term.TermNode.{TermNode}
 use Rattle.lh_region_def.specs.Joins.{RegionPlace, RegionEdge}
 use Rattle.lh_region_def.specs.Places.{Region as RegionText}
 use Rattle.lh_region_def.specs.Regions.{RegionRefusal, Course, Coursed, stops, comes_to, then_course, edges_to, through_reached, through_all, numbers_below}
@@ -22,12 +22,12 @@ use Rattle.lh_region_walk.specs.Turns.{places_of, turns_below, Beginning, Passes
 
 -- ---- edges one by one
 
-pub no-edges : (ns : List Node) (s : Story) (es : List Edge) (xs : List RegionEdge) → es ≡ [] → AreEdges ns s es xs → xs ≡ []
+pub no-edges : (ns : List TermNode) (s : Story) (es : List Edge) (xs : List RegionEdge) → es ≡ [] → AreEdges ns s es xs → xs ≡ []
 no-edges ns s [] [] e h = refl
 no-edges ns s [] (x ∷ xs) e h = absurd h
 no-edges ns s (d ∷ es) xs e h = absurd (let z : d ∷ es ≡ [] = e in cc)
 
-pub some-edges : (ns : List Node) (s : Story) (es : List Edge) (xs : List RegionEdge) → (es ≡ [] → ⊥) → AreEdges ns s es xs → (x : RegionEdge) × (more : List RegionEdge) × (xs ≡ x ∷ more)
+pub some-edges : (ns : List TermNode) (s : Story) (es : List Edge) (xs : List RegionEdge) → (es ≡ [] → ⊥) → AreEdges ns s es xs → (x : RegionEdge) × (more : List RegionEdge) × (xs ≡ x ∷ more)
 some-edges ns s [] [] n h = absurd (n refl)
 some-edges ns s [] (x ∷ xs) n h = absurd h
 some-edges ns s (e ∷ es) [] n h = absurd h
@@ -36,7 +36,7 @@ some-edges ns s (e ∷ es) (x ∷ xs) n h = (x, xs, refl)
 -- ---- edges ahead
 
 -- a place was reached: the edges to later blocks stay
-pub ahead-reached : (ns : List Node) (s : Story) (turns block : ℕ) (old new : Ahead) (xs : List RegionEdge) → AreAhead ns s turns block old xs → IsReached old.here.items block new.here.items
+pub ahead-reached : (ns : List TermNode) (s : Story) (turns block : ℕ) (old new : Ahead) (xs : List RegionEdge) → AreAhead ns s turns block old xs → IsReached old.here.items block new.here.items
     → new.next ≡ old.next → AreAhead ns s turns (block + 1) new xs
 ahead-reached ns s turns block old new xs h r k = record {
   here = λ b l. subst (λ (es : List Edge). AreEdges ns s es (edges_to (place_of turns b) xs))
@@ -52,7 +52,7 @@ ahead-reached ns s turns block old new xs h r k = record {
     less a b l e = omega (arith, l, e)
 
 -- all places of a turn were treated
-pub ahead-turned : (ns : List Node) (s : Story) (turns block n : ℕ) (old new : Ahead) (xs : List RegionEdge) → AreAhead ns s turns block old xs → new.here ≡ old.next → LeadsNowhere n new.next.items
+pub ahead-turned : (ns : List TermNode) (s : Story) (turns block n : ℕ) (old new : Ahead) (xs : List RegionEdge) → AreAhead ns s turns block old xs → new.here ≡ old.next → LeadsNowhere n new.next.items
     → AreAhead ns s (turns + 1) 0 new xs
 ahead-turned ns s turns block n old new xs h k none = record {
   here = λ b l. subst (λ (es : List Edge). AreEdges ns s es (edges_to (place_of (turns + 1) b) xs)) (λ j. led_to (sym k j).items b) (h.next b);
@@ -61,7 +61,7 @@ ahead-turned ns s turns block n old new xs h k none = record {
 }
 
 -- no edge leads to a block of this turn, nor to any later one
-module _ (ns : List Node) (s : Story) (turns : ℕ) (a : Ahead) (xs : List RegionEdge) (h : AreAhead ns s turns 0 a xs) where
+module _ (ns : List TermNode) (s : Story) (turns : ℕ) (a : Ahead) (xs : List RegionEdge) (h : AreAhead ns s turns 0 a xs) where
   pub nothing-here : ((b : ℕ) → led_to a.here.items b ≡ []) → (b : ℕ) → edges_to (place_of turns b) xs ≡ []
   nothing-here none b = no-edges ns s (led_to a.here.items b) (edges_to (place_of turns b) xs) (none b) (h.here b (omega arith))
 
@@ -162,9 +162,9 @@ places-stop g t k (suc j) c o h =
 
 -- ---- walks
 
-module _ (From : Beginning) (r : Region) (ps : List RegionPlace) (ms : List Node) (q : Walk) (t b : ℕ) (h : Passes From r ps ms q t b) where
+module _ (From : Beginning) (r : Region) (ps : List RegionPlace) (ms : List TermNode) (q : Walk) (t b : ℕ) (h : Passes From r ps ms q t b) where
   -- what passes some places, and from there others, passes all
-  pub passes-on : (qs : List RegionPlace) (os : List Node) (w : Walk) (u d : ℕ) → Passes (walks_at ms r q t b) r qs os w u d → Passes From r (ps ++ qs) os w u d
+  pub passes-on : (qs : List RegionPlace) (os : List TermNode) (w : Walk) (u d : ℕ) → Passes (walks_at ms r q t b) r qs os w u d → Passes From r (ps ++ qs) os w u d
   passes-on qs os w u d k f name s c from =
       let x = h f name s c from in
       let y = k f name x.0 x.1 x.3 in

@@ -8,7 +8,7 @@ use Rattle.lh_flat_parts.specs.Steps.{IsPartTable}
 use Rattle.lh_term.specs.Tree.{now_of}
 use Rattle.lh_term.specs.Make.{bit_of}
 use Rattle.lh_term.specs.Arena.{StandsForTree}
-use Rattle.lh_term.specs.declared.term.Node.{Node}
+use Rattle.lh_term.specs.declared.term.TermNode.{TermNode}
 use Rattle.lh_region_def.specs.Regions.{Course, comes_to, first_region, second_region, one_target}
 use Rattle.lh_region_walk.specs.declared.walk.Region.{Region}
 use Rattle.lh_region_walk.specs.declared.walk.Walk.{Walk}
@@ -38,11 +38,11 @@ pub record IsHere (r : Region) : Type 0 where
   pub now : r.is_past ≡ false
 
 -- The walk has gone through the first region as the definition does.
-abbrev pub GoesFirst : Region → List Node → Walk → Type 0
+abbrev pub GoesFirst : Region → List TermNode → Walk → Type 0
 GoesFirst r ns w = (f : Naming) (name : UnitName) → IsRegion f r → (turns : ℕ) × Comes ns f name r w turns 0 (first_region (flat_text f r.flat.now) (probed r.is_past))
 
 -- The rows are those of a walk that has gone so.
-pub record FirstRows (r : Region) (ns : List Node) (rows : Rows) : Type 0 where
+pub record FirstRows (r : Region) (ns : List TermNode) (rows : Rows) : Type 0 where
   pub walk : Walk
   pub gone : GoesFirst r ns walk
   pub is : rows ≡ walk.rows
@@ -63,7 +63,7 @@ pub record HasTarget (r : Region) (target : ℕ) : Type 0 where
   pub is : IsTarget naming r target
 
 -- Behind the places of a walk begins one of the target of its ends, which the walk is at in its first turn.
-pub record IsBehind (w : Walk) (target : ℕ) (ns : List Node) (qs : List PlaceState) (at : WalkPoint) : Type 0 where
+pub record IsBehind (w : Walk) (target : ℕ) (ns : List TermNode) (qs : List PlaceState) (at : WalkPoint) : Type 0 where
   pub begun : IsBegun w.places.items target w.sources qs
   pub joins : BeginsJoined w.places.items w.sources qs
   pub place : at.place ≡ length w.places.items
@@ -72,7 +72,7 @@ pub record IsBehind (w : Walk) (target : ℕ) (ns : List Node) (qs : List PlaceS
   pub cond : StandsForTree ns at.cond (bit_of true)
 
 -- The rows are those of the second region.
-abbrev pub SecondRows : Region → (target : ℕ) → List Node → Rows → Type 0
+abbrev pub SecondRows : Region → (target : ℕ) → List TermNode → Rows → Type 0
 SecondRows r target ns rows = (f : Naming) → IsRegion f r → IsTarget f r target → (d : Course) × (second_region (flat_text f r.flat.now) target ≡ comes_to d) × AreRows ns rows d.rows
     × DrivesFit ns rows.drives
 

@@ -6,7 +6,7 @@ use Rattle.lh_unit.specs.declared.inst.ValueId.{ValueId}
 use Rattle.lh_term.specs.Tree.{Tree}
 use Rattle.lh_term.specs.Arena.{StandsForTree}
 use Rattle.lh_term.specs.declared.term.TermId.{TermId}
-use Rattle.lh_term.specs.declared.term.Node.{Node}
+use Rattle.lh_term.specs.declared.term.TermNode.{TermNode}
 use Rattle.lh_term.specs.declared.part.Part.{Part}
 use Rattle.lh_flat_parts.specs.Steps.{part_at}
 use Rattle.lh_region_def.specs.Rows as text
@@ -27,7 +27,7 @@ abbrev pub HasNumbers : Naming → Region → Type 0
 HasNumbers f r = (k : ℕ) → k < length r.flat.now.blocks → block_number (f.label_name k) (region_text f r).blocks ≡ Some k
 
 -- A place is being left: the story is that of all places, and of the last one it tells what is known there. Some of the edges and ends that lead from it may be there already.
-pub record IsLeaving (ns : List Node) (f : Naming) (r : Region) (w : Walk) (at : WalkPoint) (s : Story) (h : Here) (insts : ℕ) (m : Midst) : Type 0 where
+pub record IsLeaving (ns : List TermNode) (f : Naming) (r : Region) (w : Walk) (at : WalkPoint) (s : Story) (h : Here) (insts : ℕ) (m : Midst) : Type 0 where
   pub course : IsCourse ns f r w at.turns (at.block + 1) s (course_at insts m)
   pub within : at.place < s.places
   pub of_text : at.block < length r.flat.now.blocks
@@ -43,7 +43,7 @@ edge_from at cond = record { from = at.place; block = at.block; cond = cond }
 -- The region ends there in this way, as in the definition.
 abbrev pub EndsThere : Walk → WalkPoint → TermId → text.Way → Walk → Type 0
 EndsThere w at cond way q =
-    (ns : List Node) (f : Naming) (r : Region) (s : Story) (h : Here) (insts : ℕ) (m : Midst) (c : Tree) → IsLeaving ns f r w at s h insts m → StandsForTree ns cond c
+    (ns : List TermNode) (f : Naming) (r : Region) (s : Story) (h : Here) (insts : ℕ) (m : Midst) (c : Tree) → IsLeaving ns f r w at s h insts m → StandsForTree ns cond c
     → IsLeaving ns f r q at s h insts (ends h c m way)
 
 -- an edge may lead to a block of this number
@@ -52,13 +52,13 @@ pub record CanLead (a : Ahead) (to : ℕ) : Type 0 where
   pub next : to < length a.next.items
 
 -- Control leads on to a block, as in the definition.
-abbrev pub LeadsThere : List Node → Region → Walk → WalkPoint → TermId → (to : ℕ) → Walk → Type 0
+abbrev pub LeadsThere : List TermNode → Region → Walk → WalkPoint → TermId → (to : ℕ) → Walk → Type 0
 LeadsThere ns r w at cond to q =
     (f : Naming) (s : Story) (h : Here) (insts : ℕ) (m : Midst) (c : Tree) → IsLeaving ns f r w at s h insts m → StandsForTree ns cond c
     → IsLeaving ns f r q at s h insts (leads (region_text f r) h c (f.label_name to) m)
 
 -- Where it does not, memory is wanting, or in the definition an edge leads to too many turns.
-abbrev pub LeadsNot : List Node → Region → Walk → WalkPoint → TermId → (to : ℕ) → RegionFault → Type 0
+abbrev pub LeadsNot : List TermNode → Region → Walk → WalkPoint → TermId → (to : ℕ) → RegionFault → Type 0
 LeadsNot ns r w at cond to e =
     (e ≡ fault.OutOfMemory) ⊎
     ((e ≡ fault.TooManyTurns) ×
@@ -66,12 +66,12 @@ LeadsNot ns r w at cond to e =
     → turns_too_often (leads (region_text f r) h c (f.label_name to) m).edges ≡ true))
 
 -- Control leads to one block or the other, as in the definition.
-abbrev pub Branches : List Node → Region → Walk → WalkPoint → (v first second : ℕ) → List Node → Walk → Type 0
+abbrev pub Branches : List TermNode → Region → Walk → WalkPoint → (v first second : ℕ) → List TermNode → Walk → Type 0
 Branches ns r w at v first second ms q =
     (f : Naming) (s : Story) (h : Here) (insts : ℕ) (m : Midst) (x : Tree) → IsLeaving ns f r w at s h insts m → StandsForTree ns at.cond h.cond → s.told at.place v ≡ Some x →
     IsLeaving ms f r q at s h insts (branches (region_text f r) h (Some x) (f.label_name first) (f.label_name second) m)
 
-abbrev pub BranchesNot : List Node → Region → Walk → WalkPoint → (v first second : ℕ) → RegionFault → Type 0
+abbrev pub BranchesNot : List TermNode → Region → Walk → WalkPoint → (v first second : ℕ) → RegionFault → Type 0
 BranchesNot ns r w at v first second e =
     (e ≡ fault.OutOfMemory) ⊎
     ((e ≡ fault.TooManyTurns) ×

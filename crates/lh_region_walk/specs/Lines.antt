@@ -11,7 +11,7 @@ use Rattle.lh_term.specs.Tree.{Tree}
 use Rattle.lh_term.specs.Make.{make_operation}
 use Rattle.lh_term.specs.Arena.{StandsForTree}
 use Rattle.lh_term.specs.declared.term.TermId.{TermId}
-use Rattle.lh_term.specs.declared.term.Node.{Node}
+use Rattle.lh_term.specs.declared.term.TermNode.{TermNode}
 use Rattle.lh_region_def.specs.Known.{Known, Knowledge}
 use Rattle.lh_region_places.specs.declared.state.PlaceState.{PlaceState}
 use Rattle.lh_region_places.specs.Asked.{KnownTerms, Tells}
@@ -58,7 +58,7 @@ abbrev pub IsOperationOn : ℕ → Op → List Typed → Story → Tree → Type
 IsOperationOn i o xs s x = (ys : List Tree) × (map (told_of s.told) (asks_at i xs) ≡ map Some ys) × (x ≡ make_operation o ys)
 
 -- The last place gives a value the term that the story says, of whatever is told and known so far.
-abbrev pub GivesWhere : (Story → Tree → Type 0) → List Node → List PlaceState → (i v : ℕ) → List Node → List PlaceState → Type 0
+abbrev pub GivesWhere : (Story → Tree → Type 0) → List TermNode → List PlaceState → (i v : ℕ) → List TermNode → List PlaceState → Type 0
 GivesWhere P ns ps i v ms qs =
     (s : Story) (k : Knowledge) (a : Known) (x : Tree) → Tells ns ps s.told → s.places ≡ length ps → i + 1 ≡ s.places → v < s.values → ValuesDiffer s → P s x → as_term a ≡ Some x → TellsKnown s i k
     → TellsGiven ms qs s i v k a x
@@ -66,7 +66,7 @@ GivesWhere P ns ps i v ms qs =
 -- ---- the condition of a drive
 
 -- a condition is told of the value after `if`, where there is one
-abbrev pub MayTest : List Node → List PlaceState → Option ValueId → (i : ℕ) → Type 0
+abbrev pub MayTest : List TermNode → List PlaceState → Option ValueId → (i : ℕ) → Type 0
 MayTest ns ps None i = Unit {0}
 MayTest ns ps (Some v) i = CanTest ns ps v.0 i
 
@@ -75,10 +75,10 @@ IsTested told None i = Unit {0}
 IsTested told (Some v) i = is_some (told i v.0) ≡ true
 
 -- What was told before, of that value too, is told still.
-abbrev pub StillTested : List Node → List PlaceState → List Node → List PlaceState → Option ValueId → (i : ℕ) → Type 0
+abbrev pub StillTested : List TermNode → List PlaceState → List TermNode → List PlaceState → Option ValueId → (i : ℕ) → Type 0
 StillTested ns ps ms qs v i = (told : KnownTerms) → Tells ns ps told → IsTested told v i → Tells ms qs told
 
 -- The term is the condition c, and what is told of the value after `if`.
-abbrev pub IsDriveCond : List Node → List PlaceState → List Node → Option ValueId → (i : ℕ) → Tree → TermId → Type 0
+abbrev pub IsDriveCond : List TermNode → List PlaceState → List TermNode → Option ValueId → (i : ℕ) → Tree → TermId → Type 0
 IsDriveCond ns ps ms None i c t = StandsForTree ms t c
 IsDriveCond ns ps ms (Some v) i c t = IsAnd ns ps ms v.0 i c t

@@ -17,7 +17,7 @@ use Rattle.lh_flat.specs.declared.flat.FlatBlock.{FlatBlock}
 use Rattle.lh_flat.specs.Below.{InstBelow}
 use Rattle.lh_flat.specs.Flat.{MergeText, with_merge}
 use Rattle.lh_flat.specs.Reads.{merge_text, flat_line_text}
-use Rattle.lh_term.specs.declared.term.Node.{Node}
+use Rattle.lh_term.specs.declared.term.TermNode.{TermNode}
 use Rattle.lh_region_def.specs.Known.{Knowledge}
 use Rattle.lh_region_def.specs.Joins.{RegionEdge, with_phi, with_phis, known_at}
 use Rattle.lh_region_def.specs.Places.{Here, Midst, takes_all}
@@ -39,7 +39,7 @@ use Rattle.lh_region_walk.specs.Walked.{leads_nowhere, ContinuesStory, region_te
 -- ---- a `phi`
 
 -- The last place has these edges, which are told of by the story before it; by another, which goes on from that, what is told at it is known.
-pub record IsMerging (ns : List Node) (ps : List PlaceState) (i : ℕ) (before : Story) (x : RegionEdge) (xs : List RegionEdge) (k : Knowledge) : Type 0 where
+pub record IsMerging (ns : List TermNode) (ps : List PlaceState) (i : ℕ) (before : Story) (x : RegionEdge) (xs : List RegionEdge) (k : Knowledge) : Type 0 where
   pub now : Story
   pub continues : ContinuesStory before now
   pub was : before.places ≡ i
@@ -62,7 +62,7 @@ pub record IsPhi (s : Story) (es : List RegionEdge) (v : ℕ) (ty : TypeTree) (o
 abbrev pub phi_given : Story → List RegionEdge → (v : ℕ) → TypeTree → List PhiEdge → Knowledge → Knowledge
 phi_given s es v ty operands k = with_phi es (phi_text ty (map (edge_text s.naming) operands)) (Some (s.naming.value_name v)) k
 
-pub record CanTakePhi (ns : List Node) (ps : List PlaceState) (i v : ℕ) (operands : List PhiEdge) : Type 0 where
+pub record CanTakePhi (ns : List TermNode) (ps : List PlaceState) (i v : ℕ) (operands : List PhiEdge) : Type 0 where
   pub before : Story
   pub first : RegionEdge
   pub more : List RegionEdge
@@ -72,7 +72,7 @@ pub record CanTakePhi (ns : List Node) (ps : List PlaceState) (i v : ℕ) (opera
   pub phi : IsPhi before (first ∷ more) v ty operands
 
 -- The last place takes the `phi` as the definition does.
-abbrev pub TakesPhi : List Node → List PlaceState → (i v : ℕ) → List PhiEdge → List Node → List PlaceState → Type 0
+abbrev pub TakesPhi : List TermNode → List PlaceState → (i v : ℕ) → List PhiEdge → List TermNode → List PlaceState → Type 0
 TakesPhi ns ps i v operands ms qs =
     (before : Story) (x : RegionEdge) (xs : List RegionEdge) (k : Knowledge) (ty : TypeTree) → IsMerging ns ps i before x xs k → IsPhi before (x ∷ xs) v ty operands
     → IsMerging ms qs i before x xs (phi_given before (x ∷ xs) v ty operands k)
@@ -87,7 +87,7 @@ PhiFits s es _ _ = Unit {0}
 abbrev pub LineFits : Story → List RegionEdge → FlatInst → Type 0
 LineFits s es l = PhiFits s es l.result l.inst
 
-pub record CanTakeLines (ns : List Node) (ps : List PlaceState) (i : ℕ) (ls : List FlatInst) : Type 0 where
+pub record CanTakeLines (ns : List TermNode) (ps : List PlaceState) (i : ℕ) (ls : List FlatInst) : Type 0 where
   pub before : Story
   pub first : RegionEdge
   pub more : List RegionEdge
@@ -100,7 +100,7 @@ abbrev pub phis_given : Story → List RegionEdge → List FlatInst → Knowledg
 phis_given s es ls k = with_phis es (map (flat_line_text s.naming) ls) k
 
 -- The last place takes the `phi` of these lines as the definition does.
-abbrev pub TakesPhis : List Node → List PlaceState → (i : ℕ) → List FlatInst → List Node → List PlaceState → Type 0
+abbrev pub TakesPhis : List TermNode → List PlaceState → (i : ℕ) → List FlatInst → List TermNode → List PlaceState → Type 0
 TakesPhis ns ps i ls ms qs =
     (before : Story) (x : RegionEdge) (xs : List RegionEdge) (k : Knowledge) → IsMerging ns ps i before x xs k → Each (LineFits before (x ∷ xs)) ls
     → IsMerging ms qs i before x xs (phis_given before (x ∷ xs) ls k)
@@ -118,7 +118,7 @@ abbrev pub MergeFits : Story → List RegionEdge → Option Merge → Type 0
 MergeFits s es None = Unit {0}
 MergeFits s es (Some m) = IsPhi s es m.value.0 m.ty (as_phis m.edges)
 
-pub record CanTakeMerge (ns : List Node) (ps : List PlaceState) (i : ℕ) (m : Option Merge) : Type 0 where
+pub record CanTakeMerge (ns : List TermNode) (ps : List PlaceState) (i : ℕ) (m : Option Merge) : Type 0 where
   pub before : Story
   pub first : RegionEdge
   pub more : List RegionEdge
@@ -132,7 +132,7 @@ merge_given s es None k = k
 merge_given s es (Some m) k = phi_given s es m.value.0 m.ty (as_phis m.edges) k
 
 -- The last place takes the merge, if there is one, as the definition takes a `phi`.
-abbrev pub TakesMerge : List Node → List PlaceState → (i : ℕ) → Option Merge → List Node → List PlaceState → Type 0
+abbrev pub TakesMerge : List TermNode → List PlaceState → (i : ℕ) → Option Merge → List TermNode → List PlaceState → Type 0
 TakesMerge ns ps i m ms qs =
     (before : Story) (x : RegionEdge) (xs : List RegionEdge) (k : Knowledge) → IsMerging ns ps i before x xs k → MergeFits before (x ∷ xs) m
     → IsMerging ms qs i before x xs (merge_given before (x ∷ xs) m k)
@@ -148,7 +148,7 @@ abbrev pub midst_at : Naming → WalkPoint → FlatBlock → List RegionEdge →
 midst_at f at b es c = record { known = known_at es (with_merge (option_map (merge_text f) b.merge) (map (flat_line_text f) b.insts)); edges = c.edges; rows = c.rows }
 
 -- What is merged where the place begins is merged: its lines come next.
-abbrev pub TakesMerges : List Node → Region → Walk → WalkPoint → List Node → Walk → Type 0
+abbrev pub TakesMerges : List TermNode → Region → Walk → WalkPoint → List TermNode → Walk → Type 0
 TakesMerges ns r w at ms q =
     (f : Naming) (name : UnitName) (before : Story) (h : Here) (b : FlatBlock) (x : RegionEdge) (xs : List RegionEdge) (c : Course) → IsOpened ns f name r w at before h b x xs c →
     IsBetween ms f name r q at before h c.insts b (merge_lines (option_map (merge_text f) b.merge)) (map (flat_line_text f) b.insts) (midst_at f at b (x ∷ xs) c)
@@ -156,7 +156,7 @@ TakesMerges ns r w at ms q =
 -- ---- the lines of a block
 
 -- some midst of a place, before these lines of its block
-pub record CanTakeAll (ns : List Node) (r : Region) (w : Walk) (at : WalkPoint) (ls : List FlatInst) : Type 0 where
+pub record CanTakeAll (ns : List TermNode) (r : Region) (w : Walk) (at : WalkPoint) (ls : List FlatInst) : Type 0 where
   pub naming : Naming
   pub name : UnitName
   pub before : Story
@@ -178,7 +178,7 @@ abbrev pub takes_lines : Naming → Region → Here → List FlatInst → Midst 
 takes_lines f r h ls m = takes_all (region_text f r) h (map (flat_line_text f) ls) m
 
 -- What these lines do is what they do in the definition.
-abbrev pub TakesLines : List Node → Region → Walk → WalkPoint → List FlatInst → List Node → Walk → Type 0
+abbrev pub TakesLines : List TermNode → Region → Walk → WalkPoint → List FlatInst → List TermNode → Walk → Type 0
 TakesLines ns r w at ls ms q =
     (f : Naming) (name : UnitName) (before : Story) (h : Here) (insts : ℕ) (b : FlatBlock) (done rest : List LineText) (m : Midst)
     → IsBetween ns f name r w at before h insts b done (map (flat_line_text f) ls ++ rest) m →
@@ -191,14 +191,14 @@ EndsLast (l ∷ []) = leads_nowhere l.inst ≡ false
 EndsLast (l ∷ m ∷ more) = (leads_nowhere l.inst ≡ true) × EndsLast (m ∷ more)
 
 -- What lines do of which the last is a terminator is what they do in the definition: the place was treated.
-abbrev pub EndsLines : List Node → Region → Walk → WalkPoint → List FlatInst → List Node → Walk → Type 0
+abbrev pub EndsLines : List TermNode → Region → Walk → WalkPoint → List FlatInst → List TermNode → Walk → Type 0
 EndsLines ns r w at ls ms q =
     (f : Naming) (name : UnitName) (before : Story) (h : Here) (insts : ℕ) (b : FlatBlock) (done : List LineText) (m : Midst)
     → IsBetween ns f name r w at before h insts b done (map (flat_line_text f) ls) m →
     (s : Story) × IsCourse ms f r q at.turns (at.block + 1) s (course_at insts (takes_lines f r h ls m))
 
 -- A fault of them has its cause: want of memory, or an edge that leads to too many turns.
-abbrev pub EndsLinesFor : List Node → Region → Walk → WalkPoint → List FlatInst → RegionFault → Type 0
+abbrev pub EndsLinesFor : List TermNode → Region → Walk → WalkPoint → List FlatInst → RegionFault → Type 0
 EndsLinesFor ns r w at ls e =
     (e ≡ fault.OutOfMemory) ⊎
     ((e ≡ fault.TooManyTurns) ×

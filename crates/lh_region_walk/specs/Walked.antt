@@ -13,7 +13,7 @@ use Rattle.lh_flat.specs.Flat.{FlatBlockText, flat_unit, with_merge, as_block}
 use Rattle.lh_flat.specs.Below.{IdsBelow, InstBelow}
 use Rattle.lh_flat.specs.Reads.{flat_line_text, flat_block_text, flat_text}
 use Rattle.lh_term.specs.Arena.{StandsForTree}
-use Rattle.lh_term.specs.declared.term.Node.{Node}
+use Rattle.lh_term.specs.declared.term.TermNode.{TermNode}
 use Rattle.lh_flat_parts.specs.Steps.{IsPartTable}
 use Rattle.lh_region_def.specs.Known.{Knowledge}
 use Rattle.lh_region_def.specs.Joins.{RegionEdge, joined}
@@ -63,7 +63,7 @@ pub record ContinuesStory (s r : Story) : Type 0 where
   pub known : StaysKnown s r
 
 -- The edges ahead and the rows of a walk are those of the definition's course, before the place of this turn and block, by a story of places so far.
-pub record IsSoFar (ns : List Node) (f : Naming) (r : Region) (w : Walk) (turns block : ℕ) (s : Story) (c : Course) : Type 0 where
+pub record IsSoFar (ns : List TermNode) (f : Naming) (r : Region) (w : Walk) (turns block : ℕ) (s : Story) (c : Course) : Type 0 where
   pub naming : s.naming ≡ f
   pub values : s.values ≡ r.flat.now.values
   pub blocks : s.blocks ≡ length r.flat.now.blocks
@@ -76,7 +76,7 @@ pub record IsSoFar (ns : List Node) (f : Naming) (r : Region) (w : Walk) (turns 
   pub sources : AreSources ns s w.sources c.rows.ends
 
 -- So they are between two places, where the story is that of all places.
-pub record IsCourse (ns : List Node) (f : Naming) (r : Region) (w : Walk) (turns block : ℕ) (s : Story) (c : Course) : Type 0 where
+pub record IsCourse (ns : List TermNode) (f : Naming) (r : Region) (w : Walk) (turns block : ℕ) (s : Story) (c : Course) : Type 0 where
   pub so_far : IsSoFar ns f r w turns block s c
   pub places : s.places ≡ length w.places.items
   pub tells : Tells ns w.places.items s.told
@@ -94,7 +94,7 @@ abbrev pub course_at : (insts : ℕ) → Midst → Course
 course_at n m = record { insts = n; edges = m.edges; rows = m.rows }
 
 -- In the midst of a place, the last one, the edges and ends so far are from places before it, of which one story tells; and by another, which goes on from that, what is told at it is known.
-pub record IsMidst (ns : List Node) (f : Naming) (r : Region) (w : Walk) (at : WalkPoint) (before : Story) (h : Here) (insts : ℕ) (m : Midst) : Type 0 where
+pub record IsMidst (ns : List TermNode) (f : Naming) (r : Region) (w : Walk) (at : WalkPoint) (before : Story) (h : Here) (insts : ℕ) (m : Midst) : Type 0 where
   pub so_far : IsSoFar ns f r w at.turns (at.block + 1) before (course_at insts m)
   pub now : Story
   pub continues : ContinuesStory before now
@@ -114,7 +114,7 @@ pub record KnowsFor (u : UnitText) (b : FlatBlockText) (done rest : List LineTex
   pub phis : PhisGiven k rest
 
 -- in the midst of a place, between two lines of its block
-pub record IsBetween (ns : List Node) (f : Naming) (name : UnitName) (r : Region) (w : Walk) (at : WalkPoint) (before : Story) (h : Here) (insts : ℕ) (b : FlatBlock) (done rest : List LineText)
+pub record IsBetween (ns : List TermNode) (f : Naming) (name : UnitName) (r : Region) (w : Walk) (at : WalkPoint) (before : Story) (h : Here) (insts : ℕ) (b : FlatBlock) (done rest : List LineText)
     (m : Midst) : Type 0 where
   pub region : IsRegion f r
   pub stands : IsAt f r at h b
@@ -133,7 +133,7 @@ leads_nowhere (inst.Ret value) = false
 leads_nowhere _ = true
 
 -- some midst of a place, before this line of its block
-pub record CanTake (ns : List Node) (r : Region) (w : Walk) (at : WalkPoint) (l : FlatInst) : Type 0 where
+pub record CanTake (ns : List TermNode) (r : Region) (w : Walk) (at : WalkPoint) (l : FlatInst) : Type 0 where
   pub naming : Naming
   pub name : UnitName
   pub before : Story
@@ -151,21 +151,21 @@ abbrev pub takes_line : Naming → Region → Here → FlatInst → Midst → Mi
 takes_line f r h l m = takes (region_text f r) h (flat_line_text f l).inst (flat_line_text f l).result m
 
 -- What a line that is no terminator does is what it does in the definition.
-abbrev pub TakesLine : List Node → Region → Walk → WalkPoint → FlatInst → List Node → Walk → Type 0
+abbrev pub TakesLine : List TermNode → Region → Walk → WalkPoint → FlatInst → List TermNode → Walk → Type 0
 TakesLine ns r w at l ms q =
     (f : Naming) (name : UnitName) (before : Story) (h : Here) (insts : ℕ) (b : FlatBlock) (done rest : List LineText) (m : Midst)
     → IsBetween ns f name r w at before h insts b done (flat_line_text f l ∷ rest) m →
     IsBetween ms f name r q at before h insts b (done ++ flat_line_text f l ∷ []) rest (takes_line f r h l m)
 
 -- So is what a terminator does: the place was treated.
-abbrev pub EndsLine : List Node → Region → Walk → WalkPoint → FlatInst → List Node → Walk → Type 0
+abbrev pub EndsLine : List TermNode → Region → Walk → WalkPoint → FlatInst → List TermNode → Walk → Type 0
 EndsLine ns r w at l ms q =
     (f : Naming) (name : UnitName) (before : Story) (h : Here) (insts : ℕ) (b : FlatBlock) (done rest : List LineText) (m : Midst)
     → IsBetween ns f name r w at before h insts b done (flat_line_text f l ∷ rest) m →
     (s : Story) × IsCourse ms f r q at.turns (at.block + 1) s (course_at insts (takes_line f r h l m))
 
 -- A fault of a terminator has its cause: want of memory, or an edge that leads to too many turns.
-abbrev pub EndsFor : List Node → Region → Walk → WalkPoint → FlatInst → RegionFault → Type 0
+abbrev pub EndsFor : List TermNode → Region → Walk → WalkPoint → FlatInst → RegionFault → Type 0
 EndsFor ns r w at l e =
     (e ≡ fault.OutOfMemory) ⊎
     ((e ≡ fault.TooManyTurns) ×
@@ -181,7 +181,7 @@ StopsFor x None = Unit {0}
 StopsFor x (Some r) = x ≡ stops r
 
 -- A place has begun: what its edges join is known there. Where its block begins with no `phi`, nothing is asked of the edges by ids.
-pub record IsOpened (ns : List Node) (f : Naming) (name : UnitName) (r : Region) (w : Walk) (at : WalkPoint) (before : Story) (h : Here) (b : FlatBlock) (x : RegionEdge) (xs : List RegionEdge)
+pub record IsOpened (ns : List TermNode) (f : Naming) (name : UnitName) (r : Region) (w : Walk) (at : WalkPoint) (before : Story) (h : Here) (b : FlatBlock) (x : RegionEdge) (xs : List RegionEdge)
     (c : Course) : Type 0 where
   pub region : IsRegion f r
   pub stands : IsAt f r at h b
@@ -189,7 +189,7 @@ pub record IsOpened (ns : List Node) (f : Naming) (name : UnitName) (r : Region)
   pub edges : (begins_with_phi b ≡ false) ⊎ AreEdges ns before (edges_at w.places.items at.place) (x ∷ xs)
   pub join : Each (JoinEdge (process_by name f r.flat.now) (as_block (flat_block_text f at.block b))) (x ∷ xs)
 
-pub record CanTreat (ns : List Node) (r : Region) (w : Walk) (at : WalkPoint) : Type 0 where
+pub record CanTreat (ns : List TermNode) (r : Region) (w : Walk) (at : WalkPoint) : Type 0 where
   pub naming : Naming
   pub name : UnitName
   pub before : Story
@@ -205,13 +205,13 @@ abbrev pub treated : Naming → Region → WalkPoint → Here → FlatBlock → 
 treated f r at h b es c = through_block (region_text f r) h.place h.cond es c (flat_block_text f at.block b)
 
 -- The place is treated as in the definition.
-abbrev pub Treats : List Node → Region → Walk → WalkPoint → List Node → Walk → Type 0
+abbrev pub Treats : List TermNode → Region → Walk → WalkPoint → List TermNode → Walk → Type 0
 Treats ns r w at ms q =
     (f : Naming) (name : UnitName) (before : Story) (h : Here) (b : FlatBlock) (x : RegionEdge) (xs : List RegionEdge) (c : Course) → IsOpened ns f name r w at before h b x xs c →
     (s : Story) × (d : Course) × (treated f r at h b (x ∷ xs) c ≡ comes_to d) × IsCourse ms f r q at.turns (at.block + 1) s d
 
 -- Where it is not, the definition stops for that reason.
-abbrev pub TreatsNot : List Node → Region → Walk → WalkPoint → RegionFault → Type 0
+abbrev pub TreatsNot : List TermNode → Region → Walk → WalkPoint → RegionFault → Type 0
 TreatsNot ns r w at e =
     (f : Naming) (name : UnitName) (before : Story) (h : Here) (b : FlatBlock) (x : RegionEdge) (xs : List RegionEdge) (c : Course) → IsOpened ns f name r w at before h b x xs c →
     StopsFor (treated f r at h b (x ∷ xs) c) (refusal_of e)

@@ -21,7 +21,7 @@ use lh_region_joins::logic::never_holds;
 use lh_term::part::PartList;
 use lh_term::term::TermId;
 use lh_term::terms::Terms;
-use lh_types::ty::NoMemory;
+use lh_types::memory::NoMemory;
 use lh_unit::inst::{Inst, ValueId, ValueIdList};
 use std::alloc::Global;
 

@@ -15,7 +15,7 @@ use lh_region::taking::phi_at;
 use lh_region_places::places::Places;
 use lh_term::terms::Terms;
 use lh_types::list::ListOf;
-use lh_types::ty::NoMemory;
+use lh_types::memory::NoMemory;
 use lh_unit::inst::{Inst, PhiEdge, ValueId};
 use std::alloc::Global;
 

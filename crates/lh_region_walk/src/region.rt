@@ -21,7 +21,7 @@ use lh_region::target::one_target;
 use lh_region_joins::logic::bit;
 use lh_region_places::places::Places;
 use lh_term::terms::Terms;
-use lh_types::ty::NoMemory;
+use lh_types::memory::NoMemory;
 use std::alloc::Global;
 
 /// The regions of a flat text. The second one is built exactly where every end of the first is a wait without time, all for one

@@ -11,7 +11,7 @@ use crate::status::{Refusal, Status};
 use lh_io::stream::Source;
 use lh_io::whole::read_all;
 use lh_read::read;
-use lh_types::ty::NoMemory;
+use lh_types::memory::NoMemory;
 use lh_unit::module::Module;
 use lh_verify::verify::{Verified, VerifyCause, VerifyFault, verify};
 use std::alloc::Global;

@@ -9,7 +9,7 @@ use itoa::Buffer;
 use lh_io::stream::{Failed, Sink};
 use lh_io::whole::{ReadAllFault, write_all};
 use lh_read::TextFault;
-use lh_types::ty::NoMemory;
+use lh_types::memory::NoMemory;
 use lh_unit_names::name::UnitName;
 use lh_wave::run::WaveFault;
 

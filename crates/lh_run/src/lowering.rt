@@ -13,7 +13,7 @@ use lh_lower_def::laws::lowering_law;
 use lh_print::print;
 use lh_result::status::Status;
 use lh_result::texts::{Texts, write_texts};
-use lh_types::ty::NoMemory;
+use lh_types::memory::NoMemory;
 use lh_verify::verify::Verified;
 use std::alloc::Global;
 

@@ -14,7 +14,7 @@ use lh_lower::lower;
 use lh_result::status::Status;
 use lh_selftest::chain::chain;
 use lh_selftest::{answer_law, compared};
-use lh_types::ty::NoMemory;
+use lh_types::memory::NoMemory;
 use lh_verify::verify::Verified;
 use std::alloc::Global;
 

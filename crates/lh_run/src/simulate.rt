@@ -25,7 +25,7 @@ use lh_io::whole::write_all;
 use lh_kernel::Sim;
 use lh_result::status::{Status, TopFault};
 use lh_types::list::{ByteList, TextList};
-use lh_types::ty::NoMemory;
+use lh_types::memory::NoMemory;
 use lh_unit::inst::UnitId;
 use lh_unit::module::Module;
 use lh_verify::verify::Verified;

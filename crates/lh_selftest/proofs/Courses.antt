@@ -20,12 +20,12 @@ use Rattle.lh_trace_laws.proofs.TraceLaw.{bits_stay_law}
 use Rattle.lh_selftest_design.specs.Summary.{counts_of, ending_of}
 use Rattle.lh_selftest_design.specs.declared.summary.Counts.{Counts}
 use Rattle.lh_selftest_design.specs.declared.summary.RunSummary.{RunSummary}
-use Rattle.lh_selftest_design.specs.declared.summary.Ending.{Ending}
-use Rattle.lh_selftest_design.specs.declared.summary.Ending.TheVariants.{Quiet, Runaway}
+use Rattle.lh_selftest_design.specs.declared.summary.RunEnd.{RunEnd}
+use Rattle.lh_selftest_design.specs.declared.summary.RunEnd.TheVariants.{Quiet, Runaway}
 use Rattle.lh_selftest.specs.Courses.{course_behind, course_on, GoesOn, ComesTo}
 
 -- a run of which some frames were counted, and which has ended
-abbrev over : Counts → Ending → RunSummary
+abbrev over : Counts → RunEnd → RunSummary
 over counts ending = record { counts = counts; ending = ending }
 
 -- ---- from a world on
@@ -137,7 +137,7 @@ going_first a d n m w s counts e st c = record {
 }
 
 -- after one more, by what it came to
-going_next : (a a' : Arena) (d d' : Design) (n m : ℕ) (whole : RunSummary) (s s' : Simulation) (old new : Counts) (o : Option Ending) → a' ≡ a → d' ≡ d → m ≡ suc n → GoesOn a d m whole s old
+going_next : (a a' : Arena) (d d' : Design) (n m : ℕ) (whole : RunSummary) (s s' : Simulation) (old new : Counts) (o : Option RunEnd) → a' ≡ a → d' ≡ d → m ≡ suc n → GoesOn a d m whole s old
     → ((k : ℕ) (w : World) (seen : List Picture) → StandsFor s w → old ≡ counts_of seen → ComesTo o a' d' k (course_on a' d' seen (suc k) w) s' new) → ComesTo o a d n whole s' new
 going_next a a' d d' n m whole s s' old new o ea ed em g h =
     let here = h n g.world g.seen g.stands g.counted in
@@ -146,24 +146,24 @@ going_next a a' d d' n m whole s s' old new o ea ed em g h =
     subst (λ (c : RunSummary). ComesTo o a d n c s' new) (sym (g.course ∙ ap (λ (k : ℕ). course_on a d g.seen k g.world) em)) in_d
 
 -- a step after which the run goes on
-pub going_on : (a a' : Arena) (d d' : Design) (n m : ℕ) (whole : RunSummary) (s s' : Simulation) (old new : Counts) (o : Option Ending) → a' ≡ a → d' ≡ d → m ≡ suc n → GoesOn a d m whole s old
+pub going_on : (a a' : Arena) (d d' : Design) (n m : ℕ) (whole : RunSummary) (s s' : Simulation) (old new : Counts) (o : Option RunEnd) → a' ≡ a → d' ≡ d → m ≡ suc n → GoesOn a d m whole s old
     → o ≡ None
     → ((k : ℕ) (w : World) (seen : List Picture) → StandsFor s w → old ≡ counts_of seen → ComesTo o a' d' k (course_on a' d' seen (suc k) w) s' new) → GoesOn a d n whole s' new
 going_on a a' d d' n m whole s s' old new o ea ed em g e h =
-    subst (λ (x : Option Ending). ComesTo x a d n whole s' new) e (going_next a a' d d' n m whole s s' old new o ea ed em g h)
+    subst (λ (x : Option RunEnd). ComesTo x a d n whole s' new) e (going_next a a' d d' n m whole s s' old new o ea ed em g h)
 
 -- a step at which the run ended
-pub going_over : (a a' : Arena) (d d' : Design) (n m : ℕ) (whole : RunSummary) (s s' : Simulation) (old new : Counts) (o : Option Ending) (ending : Ending) → a' ≡ a → d' ≡ d → m ≡ suc n
+pub going_over : (a a' : Arena) (d d' : Design) (n m : ℕ) (whole : RunSummary) (s s' : Simulation) (old new : Counts) (o : Option RunEnd) (ending : RunEnd) → a' ≡ a → d' ≡ d → m ≡ suc n
     → GoesOn a d m whole s old → o ≡ Some ending
     → ((k : ℕ) (w : World) (seen : List Picture) → StandsFor s w → old ≡ counts_of seen → ComesTo o a' d' k (course_on a' d' seen (suc k) w) s' new) → over new ending ≡ whole
 going_over a a' d d' n m whole s s' old new o ending ea ed em g e h =
-    sym (subst (λ (x : Option Ending). ComesTo x a d n whole s' new) e (going_next a a' d d' n m whole s s' old new o ea ed em g h))
+    sym (subst (λ (x : Option RunEnd). ComesTo x a d n whole s' new) e (going_next a a' d d' n m whole s s' old new o ea ed em g h))
 
 -- the bound is reached
-pub going_last : (a : Arena) (d : Design) (m : ℕ) (whole : RunSummary) (s : Simulation) (counts : Counts) (ending : Ending) → m ≡ 0 → GoesOn a d m whole s counts
+pub going_last : (a : Arena) (d : Design) (m : ℕ) (whole : RunSummary) (s : Simulation) (counts : Counts) (ending : RunEnd) → m ≡ 0 → GoesOn a d m whole s counts
     → ((w : World) → StandsFor s w → ending ≡ ending_of (at_bound (next_instant w)).end) → over counts ending ≡ whole
 going_last a d m whole s counts ending em g h =
     let at_end = at_its_bound a d g.seen g.world in
     ap (λ (k : Counts). over k ending) g.counted
-    ∙ ap (λ (e : Ending). over (counts_of g.seen) e) (h g.world g.stands)
+    ∙ ap (λ (e : RunEnd). over (counts_of g.seen) e) (h g.world g.stands)
     ∙ sym (g.course ∙ ap (λ (k : ℕ). course_on a d g.seen k g.world) em ∙ at_end)

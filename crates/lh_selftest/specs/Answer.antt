@@ -7,7 +7,7 @@ use Rattle.lh_lower_def.specs.Lowering.{lowered}
 use Rattle.lh_selftest_design.specs.Generated.{generated}
 use Rattle.lh_selftest_design.specs.Summary.{chain_name, max_frames, counts_of, course_of, summary}
 use Rattle.lh_selftest_design.specs.declared.summary.RunSummary.{RunSummary}
-use Rattle.lh_selftest_design.specs.declared.summary.Ending.TheVariants.{Quiet}
+use Rattle.lh_selftest_design.specs.declared.summary.RunEnd.TheVariants.{Quiet}
 use Rattle.lh_selftest.specs.SelfTest.{IsSelfTest, units_of}
 
 -- how the run of a trace goes; a top that is refused, which no chain is, would have no frames

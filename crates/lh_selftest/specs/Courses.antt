@@ -12,7 +12,7 @@ use Rattle.lh_kernel.specs.Simulation.{Simulation, StandsFor}
 use Rattle.lh_selftest_design.specs.Summary.{counts_of, ending_of}
 use Rattle.lh_selftest_design.specs.declared.summary.Counts.{Counts}
 use Rattle.lh_selftest_design.specs.declared.summary.RunSummary.{RunSummary}
-use Rattle.lh_selftest_design.specs.declared.summary.Ending.{Ending}
+use Rattle.lh_selftest_design.specs.declared.summary.RunEnd.{RunEnd}
 
 -- how frames that were seen and then a run go, where the last frame that was seen has these values
 abbrev pub course_behind : (seen : List Picture) → (before : Option (List Datum)) → Run → RunSummary
@@ -33,6 +33,6 @@ pub record GoesOn (a : Arena) (d : Design) (n : ℕ) (whole : RunSummary) (s : S
   pub course : whole ≡ course_on a d seen n world
 
 -- what a step comes to: the run goes on, in at most n frames more, or it has ended
-abbrev pub ComesTo : Option Ending → Arena → Design → (n : ℕ) → (whole : RunSummary) → Simulation → Counts → Type 0
+abbrev pub ComesTo : Option RunEnd → Arena → Design → (n : ℕ) → (whole : RunSummary) → Simulation → Counts → Type 0
 ComesTo None a d n whole s counts = GoesOn a d n whole s counts
 ComesTo (Some ending) a d n whole s counts = whole ≡ record { counts = counts; ending = ending }

@@ -8,7 +8,7 @@ ghost use Rattle.lh_selftest.specs.SelfTest.{CanRun, IsChain, IsTextOf, RunsAs};
 use lh_read::{TextFault, read};
 use lh_selftest_design::generator::generated;
 use lh_selftest_laws::laws::{elaborates_law, reading_law, well_formed_law};
-use lh_types::ty::NoMemory;
+use lh_types::memory::NoMemory;
 use lh_unit::module::Module;
 use lh_verify::verify::{Verified, VerifyCause, VerifyFault, verify};
 use std::alloc::Global;

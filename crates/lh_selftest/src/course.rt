@@ -12,9 +12,9 @@ ghost use Rattle.lh_selftest.specs.Courses.{ComesTo, course_on};
 use crate::design::design_of;
 use lh_io::count::Count;
 use lh_kernel::{Sim, SimStep};
-use lh_selftest_design::summary::{Counts, Ending, RunSummary};
+use lh_selftest_design::summary::{Counts, RunEnd, RunSummary};
+use lh_types::memory::NoMemory;
 use lh_types::tally::Tally;
-use lh_types::ty::NoMemory;
 use lh_verify::verify::Verified;
 use std::alloc::Global;
 
@@ -49,31 +49,31 @@ fn step<T: Tally>(
     sim: &mut Sim<'_>,
     tally: &mut T,
     counts: &mut Counts,
-) -> Result<Option<Ending>, NoMemory>
+) -> Result<Option<RunEnd>, NoMemory>
     ensures comes { IfOk result (λ ending. (n : ℕ) (w : World) (seen : List Picture) → StandsFor sim.old w → counts.old ≡ counts_of seen →
         ComesTo ending sim.old.arena sim.old.design n (course_on sim.old.arena sim.old.design seen (suc n) w) sim.new counts.new) }
     ensures module { sim.new.arena ≡ sim.old.arena }
     ensures design { sim.new.design ≡ sim.old.design }
 {
     match sim.step(tally)? {
-        SimStep::Quiet => Ok(Some(Ending::Quiet)),
+        SimStep::Quiet => Ok(Some(RunEnd::Quiet)),
         SimStep::Frame(frame) => {
             counts.see(&frame);
             Ok(None)
         }
         SimStep::Runaway(frame, _) => {
             counts.see(&frame);
-            Ok(Some(Ending::Runaway))
+            Ok(Some(RunEnd::Runaway))
         }
     }
 }
 
 /// How a run ends at the bound on its frames.
-fn ending_at_bound(sim: &Sim<'_>) -> Ending
+fn ending_at_bound(sim: &Sim<'_>) -> RunEnd
     ensures { (w : World) → StandsFor sim.now w → result ≡ ending_of (at_bound (next_instant w)).end }
 {
     match sim.next() {
-        None => Ending::Quiet,
-        Some(_) => Ending::Steps,
+        None => RunEnd::Quiet,
+        Some(_) => RunEnd::Steps,
     }
 }

@@ -9,7 +9,7 @@ ghost use Rattle.lh_selftest.specs.SelfTest.{HasDesign};
 
 use lh_design::Design;
 use lh_elab::{ElabFault, elab};
-use lh_types::ty::NoMemory;
+use lh_types::memory::NoMemory;
 use lh_unit::inst::UnitId;
 use lh_unit::module::Module;
 use lh_verify::verify::Verified;

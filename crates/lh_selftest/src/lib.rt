@@ -20,7 +20,7 @@ use crate::course::course_of;
 use crate::units::count_units;
 use lh_lower_def::ReportRow;
 use lh_selftest_design::summary::put_summary;
-use lh_types::ty::NoMemory;
+use lh_types::memory::NoMemory;
 use lh_verify::verify::Verified;
 use std::alloc::Global;
 

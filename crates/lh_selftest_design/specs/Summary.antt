@@ -7,14 +7,14 @@ use Rattle.lh_unit_names.specs.declared.name.UnitName.{UnitName}
 use Rattle.lh_unit.specs.Contents.{ItemText}
 use Rattle.lh_unit.specs.Frames.{pictures}
 use Rattle.lh_unit.specs.Trace.{End, quiet, steps, runaway, Run, Trace, refuses, ran, trace}
-use Rattle.lh_selftest_design.specs.declared.summary.Ending.{Ending}
-use Rattle.lh_selftest_design.specs.declared.summary.Ending.TheVariants.{Quiet, Steps, Runaway}
+use Rattle.lh_selftest_design.specs.declared.summary.RunEnd.{RunEnd}
+use Rattle.lh_selftest_design.specs.declared.summary.RunEnd.TheVariants.{Quiet, Steps, Runaway}
 use Rattle.lh_selftest_design.specs.declared.summary.Counts.{Counts}
 use Rattle.lh_selftest_design.specs.declared.summary.RunSummary.{RunSummary}
 use Rattle.lh_selftest_design.specs.declared.summary.Units.{Units}
 
 -- how a run ended, without the instance that ran away
-abbrev pub ending_of : End → Ending
+abbrev pub ending_of : End → RunEnd
 ending_of quiet = Quiet
 ending_of steps = Steps
 ending_of (runaway instance) = Runaway
@@ -51,7 +51,7 @@ WentSo (refuses why) course = ⊥
 WentSo (ran instances signals run) course = course ≡ course_of run
 
 -- the word of an ending
-abbrev pub ending_word : Ending → List ℕ
+abbrev pub ending_word : RunEnd → List ℕ
 ending_word Quiet = codes "quiet"
 ending_word Steps = codes "steps"
 ending_word Runaway = codes "runaway"

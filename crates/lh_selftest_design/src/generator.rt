@@ -4,8 +4,8 @@ ghost use Rattle.std.specs.List.{flat_map, range_with_len};
 ghost use Rattle.lh_selftest_design.specs.Generated as text;
 ghost use Rattle.lh_selftest_design.specs.Generated.{signals_of, register_line, adder_line, instances_of, chain};
 
+use lh_types::memory::NoMemory;
 use lh_types::text::{put, put_number};
-use lh_types::ty::NoMemory;
 use std::alloc::Global;
 
 /// The chain up to the signals of its links.

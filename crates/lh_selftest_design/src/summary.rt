@@ -6,12 +6,12 @@ ghost use Rattle.lh_selftest_design.specs.Summary as text;
 ghost use Rattle.lh_selftest_design.specs.Summary.{counts_of, ending_word, units_line, course_line};
 
 use lh_types::frame::{Frame, Outcome};
+use lh_types::memory::NoMemory;
 use lh_types::text::{put, put_number};
-use lh_types::ty::NoMemory;
 
 /// How a run ended: nothing was to come, the bound on frames was reached, or an instance ran away.
 #[derive(Clone, Copy)]
-pub enum Ending {
+pub enum RunEnd {
     Quiet,
     Steps,
     Runaway,
@@ -82,7 +82,7 @@ impl Counts {
 #[derive(Clone, Copy)]
 pub struct RunSummary {
     pub counts: Counts,
-    pub ending: Ending,
+    pub ending: RunEnd,
 }
 
 /// How many units a module has, how many of them became entities, and how many processes were left as they were.
@@ -140,12 +140,12 @@ fn put_course(to: &mut Vec<u8>, name: &[u8], course: &RunSummary) -> Result<(), 
 }
 
 /// Puts the word of an ending at the end of a text.
-fn put_ending(to: &mut Vec<u8>, ending: Ending) -> Result<(), NoMemory>
+fn put_ending(to: &mut Vec<u8>, ending: RunEnd) -> Result<(), NoMemory>
     ensures { OnOk result (to.new.items ≡ to.old.items ++ ending_word ending) }
 {
     match ending {
-        Ending::Quiet => put(to, b"quiet"),
-        Ending::Steps => put(to, b"steps"),
-        Ending::Runaway => put(to, b"runaway"),
+        RunEnd::Quiet => put(to, b"quiet"),
+        RunEnd::Steps => put(to, b"steps"),
+        RunEnd::Runaway => put(to, b"runaway"),
     }
 }

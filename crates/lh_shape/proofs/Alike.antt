@@ -8,7 +8,7 @@ use Rattle.lh_term.specs.Tree.{Tree}
 use Rattle.lh_term.specs.Make.{is_constant}
 use Rattle.lh_term.specs.Arena.{trees, tree_at}
 use Rattle.lh_term.specs.declared.part.Part.{Part}
-use Rattle.lh_term.specs.declared.term.Node.{Node}
+use Rattle.lh_term.specs.declared.term.TermNode.{TermNode}
 use Rattle.lh_term.specs.declared.term.TermId.{TermId}
 use Rattle.lh_edge.specs.Atoms.{contains_past}
 use Rattle.lh_region_def.specs.Rows as text
@@ -28,7 +28,7 @@ use Rattle.lh_shape.specs.ByIds.{some_way, every_way, is_other_wait, mixed, head
 use Rattle.lh_shape.specs.declared.reason.Reason.{Reason}
 use Rattle.lh_shape.specs.declared.reason.Reason.TheVariants as reason
 
-module _ (ns : List Node) where
+module _ (ns : List TermNode) where
   -- ---- ends
 
   pub some-way : (f : text.Way → Bool) (es : List EndRow) (xs : List text.RegionEnd) → AreEnds ns es xs → some_way f es ≡ list_any (λ (x : text.RegionEnd). f x.way) xs

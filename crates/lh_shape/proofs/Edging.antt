@@ -6,7 +6,7 @@ use Rattle.std.proofs.Math.Bool.{or-false, or-true}
 use Rattle.lh_term.specs.Tree.{Tree}
 use Rattle.lh_term.specs.Arena.{trees, tree_at, IsIn, Grows}
 use Rattle.lh_term.specs.declared.part.Part.{Part}
-use Rattle.lh_term.specs.declared.term.Node.{Node}
+use Rattle.lh_term.specs.declared.term.TermNode.{TermNode}
 use Rattle.lh_term.specs.declared.term.TermId.{TermId}
 use Rattle.lh_term.proofs.Swaps.{tree_grown, in_grown, stands_grown, grows_on}
 use Rattle.lh_edge.specs.Shown.{has_too_many_atoms, is_edge_shown}
@@ -39,13 +39,13 @@ use Rattle.lh_shape.proofs.Merged.{drive-grown, fits-grown, is-grown, is-itself}
 
 -- ---- rows of registers as an arena grows
 
-triggers-grown : (old new : List Node) (ts : List Trigger) (xs : List TriggerTree) → Grows old new → AreTriggers old ts xs → AreTriggers new ts xs
+triggers-grown : (old new : List TermNode) (ts : List Trigger) (xs : List TriggerTree) → Grows old new → AreTriggers old ts xs → AreTriggers new ts xs
 triggers-grown old new [] [] g h = tt
 triggers-grown old new [] (x ∷ xs) g h = absurd h
 triggers-grown old new (t ∷ ts) [] g h = absurd h
 triggers-grown old new (t ∷ ts) (x ∷ xs) g h = (record { rise = h.0.rise; part = h.0.part; gate = stands_grown old new g t.gate x.gate h.0.gate }, triggers-grown old new ts xs g h.1)
 
-row-grown : (old new : List Node) (r : EdgeRow) (x : EdgeRowTree) → Grows old new → IsEdgeRow old r x → IsEdgeRow new r x
+row-grown : (old new : List TermNode) (r : EdgeRow) (x : EdgeRowTree) → Grows old new → IsEdgeRow old r x → IsEdgeRow new r x
 row-grown old new r x g h = record {
   part = h.part;
   value = stands_grown old new g r.value x.value h.value;
@@ -53,13 +53,13 @@ row-grown old new r x g h = record {
   triggers = triggers-grown old new r.triggers x.triggers g h.triggers;
 }
 
-pub rows-grown : (old new : List Node) (rs : List EdgeRow) (xs : List EdgeRowTree) → Grows old new → AreEdgeRows old rs xs → AreEdgeRows new rs xs
+pub rows-grown : (old new : List TermNode) (rs : List EdgeRow) (xs : List EdgeRowTree) → Grows old new → AreEdgeRows old rs xs → AreEdgeRows new rs xs
 rows-grown old new [] [] g h = tt
 rows-grown old new [] (x ∷ xs) g h = absurd h
 rows-grown old new (r ∷ rs) [] g h = absurd h
 rows-grown old new (r ∷ rs) (x ∷ xs) g h = (row-grown old new r x g h.0, rows-grown old new rs xs g h.1)
 
-rows-push : (ns : List Node) (rs : List EdgeRow) (xs : List EdgeRowTree) (r : EdgeRow) (x : EdgeRowTree) → AreEdgeRows ns rs xs → IsEdgeRow ns r x → AreEdgeRows ns (rs ++ r ∷ []) (xs ++ x ∷ [])
+rows-push : (ns : List TermNode) (rs : List EdgeRow) (xs : List EdgeRowTree) (r : EdgeRow) (x : EdgeRowTree) → AreEdgeRows ns rs xs → IsEdgeRow ns r x → AreEdgeRows ns (rs ++ r ∷ []) (xs ++ x ∷ [])
 rows-push ns [] [] r x h k = (k, tt)
 rows-push ns [] (y ∷ ys) r x h k = absurd h
 rows-push ns (s ∷ rs) [] r x h k = absurd h
@@ -100,7 +100,7 @@ not_shown waited d = not (is_edge_shown waited d.cond)
 -- ---- one drive
 
 -- what the analysis of a condition gave
-pub finds : (old new : List Node) (waited : List Part) (c : TermId) (ts : Result (List Trigger) EdgeFault) → Grows old new → IsIn old c → TriggersOrFault new waited (tree_at (trees old) c) ts
+pub finds : (old new : List TermNode) (waited : List Part) (c : TermId) (ts : Result (List Trigger) EdgeFault) → Grows old new → IsIn old c → TriggersOrFault new waited (tree_at (trees old) c) ts
     → Finds new waited (record { cond = c; triggers = ts })
 finds old new waited c ts g i h = record {
   is_in = in_grown old new g c i;
@@ -108,7 +108,7 @@ finds old new waited c ts g i h = record {
 }
 
 -- what was found for the condition of a drive, once it was added
-pub found-added : (ns : List Node) (waited : List Part) (d : DriveRow) (x : text.Drive) (f : Result (List Trigger) EdgeFault) (old : List EdgeRow) (a : Added) (new : List EdgeRow) → IsDrive ns d x
+pub found-added : (ns : List TermNode) (waited : List Part) (d : DriveRow) (x : text.Drive) (f : Result (List Trigger) EdgeFault) (old : List EdgeRow) (a : Added) (new : List EdgeRow) → IsDrive ns d x
     → TriggersOrFault ns waited x.cond f → AddsFound d f old a new → EdgeRowOrReason ns waited x old a new
 found-added ns waited d x (Ok ts) old added.Row new h g e =
     let row : EdgeRow = record { part = d.part; value = d.value; delay = d.delay; triggers = ts } in
@@ -126,7 +126,7 @@ found-added ns waited d x (Err OutOfMemory) old a new h g e = absurd e
 -- ---- the loop
 
 -- the drives before these have few atoms, and rows where all of them are edge-shown
-pub record RegistersSoFar (old now : List Node) (waited : List Part) (all : List text.Drive) (hidden : Bool) (rows : List EdgeRow) (rest : List DriveRow) : Type 0 where
+pub record RegistersSoFar (old now : List TermNode) (waited : List Part) (all : List text.Drive) (hidden : Bool) (rows : List EdgeRow) (rest : List DriveRow) : Type 0 where
   pub grows : Grows old now
   pub rest_fit : DrivesFit old rest
   pub seen : List text.Drive
@@ -135,7 +135,7 @@ pub record RegistersSoFar (old now : List Node) (waited : List Part) (all : List
   pub hides : hidden ≡ list_any (not_shown waited) seen
   pub are : hidden ≡ false → AreEdgeRows now rows (map (edge_row waited) seen)
 
-pub registers-none : (old : List Node) (waited : List Part) (rows : List EdgeRow) (rest : List DriveRow) → rows ≡ [] → DrivesFit old rest
+pub registers-none : (old : List TermNode) (waited : List Part) (rows : List EdgeRow) (rest : List DriveRow) → rows ≡ [] → DrivesFit old rest
     → RegistersSoFar old old waited (drives_at old rest) false rows rest
 registers-none old waited rows rest e f = record {
   grows = grows-none old;
@@ -147,7 +147,7 @@ registers-none old waited rows rest e f = record {
   are = λ _. subst (λ (rs : List EdgeRow). AreEdgeRows old rs []) (sym e) tt;
 }
 
-module _ (old now new : List Node) (waited : List Part) (all : List text.Drive) (hidden : Bool) (rows more : List EdgeRow) (rest left : List DriveRow) (d : DriveRow) (split : rest ≡ d ∷ left)
+module _ (old now new : List TermNode) (waited : List Part) (all : List text.Drive) (hidden : Bool) (rows more : List EdgeRow) (rest left : List DriveRow) (d : DriveRow) (split : rest ≡ d ∷ left)
     (h : RegistersSoFar old now waited all hidden rows rest) where
   rests : DrivesFit old (d ∷ left)
   rests = subst (DrivesFit old) split h.rest_fit
@@ -217,7 +217,7 @@ module _ (old now new : List Node) (waited : List Part) (all : List text.Drive) 
       let any : list_any too_many all ≡ true = ap (list_any too_many) (sym parts-split) ∙ any-there too_many h.seen here (drives_at old left) k in
       ap (λ (b : Bool). if b then Some reason.TooManyAtoms else first_holding ((list_any (not_shown waited) all, reason.NoEdge) ∷ [])) any
 
-seen-all : (old now : List Node) (waited : List Part) (all : List text.Drive) (hidden : Bool) (rows : List EdgeRow) (rest : List DriveRow) → rest ≡ []
+seen-all : (old now : List TermNode) (waited : List Part) (all : List text.Drive) (hidden : Bool) (rows : List EdgeRow) (rest : List DriveRow) → rest ≡ []
     → (h : RegistersSoFar old now waited all hidden rows rest) → h.seen ≡ all
 seen-all old now waited all hidden rows rest e h = sym (nil-end h.seen) ∙ ap (λ (ds : List DriveRow). h.seen ++ drives_at old ds) (sym e) ∙ h.parts
 
@@ -225,7 +225,7 @@ two-reasons : (waited : List Part) (all : List text.Drive) (a b : Bool) → list
     → first_holding (trigger_reasons waited all) ≡ first_holding ((a, reason.TooManyAtoms) ∷ (b, reason.NoEdge) ∷ [])
 two-reasons waited all a b e f = λ i. first_holding ((e i, reason.TooManyAtoms) ∷ (f i, reason.NoEdge) ∷ [])
 
-pub registers-end : (old now : List Node) (waited : List Part) (all : List text.Drive) (hidden : Bool) (rows : List EdgeRow) (rest : List DriveRow) → rest ≡ [] → hidden ≡ false
+pub registers-end : (old now : List TermNode) (waited : List Part) (all : List text.Drive) (hidden : Bool) (rows : List EdgeRow) (rest : List DriveRow) → rest ≡ [] → hidden ≡ false
     → RegistersSoFar old now waited all hidden rows rest → GivesRows now waited all rows
 registers-end old now waited all hidden rows rest e k h =
     let s = seen-all old now waited all hidden rows rest e h in
@@ -234,7 +234,7 @@ registers-end old now waited all hidden rows rest e k h =
       rows = subst (λ (ds : List text.Drive). AreEdgeRows now rows (map (edge_row waited) ds)) s (h.are k);
     }
 
-pub registers-hidden : (old now : List Node) (waited : List Part) (all : List text.Drive) (hidden : Bool) (rows : List EdgeRow) (rest : List DriveRow) → rest ≡ [] → hidden ≡ true
+pub registers-hidden : (old now : List TermNode) (waited : List Part) (all : List text.Drive) (hidden : Bool) (rows : List EdgeRow) (rest : List DriveRow) → rest ≡ [] → hidden ≡ true
     → RegistersSoFar old now waited all hidden rows rest → first_holding (trigger_reasons waited all) ≡ Some reason.NoEdge
 registers-hidden old now waited all hidden rows rest e k h =
     let s = seen-all old now waited all hidden rows rest e h in
@@ -242,7 +242,7 @@ registers-hidden old now waited all hidden rows rest e k h =
 
 -- ---- the shape
 
-module _ (ns : List Node) (r : Regions) (x : texts.Regions) (h : AreRegions ns r x) where
+module _ (ns : List TermNode) (r : Regions) (x : texts.Regions) (h : AreRegions ns r x) where
   abbrev on : List Part
   on = parts_waited x.first.ends
 
@@ -256,7 +256,7 @@ module _ (ns : List Node) (r : Regions) (x : texts.Regions) (h : AreRegions ns r
   trigger-reasons-are = λ i. trigger_reasons (waited-are i) (later-are i)
 
   -- a reason that the rows give
-  pub shape-left : (new : List Node) (z : Reason) → once_only r.first ≡ false → first_holding (reasons_told ns r) ≡ Some z → IsShape new (kind.Left z) (shape_by_rows x)
+  pub shape-left : (new : List TermNode) (z : Reason) → once_only r.first ≡ false → first_holding (reasons_told ns r) ≡ Some z → IsShape new (kind.Left z) (shape_by_rows x)
   shape-left new z o e =
       let f : first_holding (reasons x) ≡ Some z = first-found (row_reasons x) (trigger_reasons on (second_drives x)) z (ap first_holding (sym (reasons-alike ns r x h)) ∙ e) in
       let a : is_once x.first ≡ false = sym (once-alike ns r.first x.first h.first) ∙ o in
@@ -264,14 +264,14 @@ module _ (ns : List Node) (r : Regions) (x : texts.Regions) (h : AreRegions ns r
       subst (λ (t : ShapeText). IsShape new (kind.Left z) t) (sym s) refl
 
   -- a process that happens once
-  pub shape-once : (new : List Node) → ns ≡ new → once_only r.first ≡ true → IsShape new (kind.Once r.first.drives) (shape_by_rows x)
+  pub shape-once : (new : List TermNode) → ns ≡ new → once_only r.first ≡ true → IsShape new (kind.Once r.first.drives) (shape_by_rows x)
   shape-once new n o =
       let a : is_once x.first ≡ true = sym (once-alike ns r.first x.first h.first) ∙ o in
       let s : shape_by_rows x ≡ once x.first.drives = (λ i. if a i then once x.first.drives else unless_left (first_holding (reasons x)) (shaped x)) in
-      subst (λ (t : ShapeText). IsShape new (kind.Once r.first.drives) t) (sym s) (subst (λ (m : List Node). AreDrives m r.first.drives x.first.drives) n h.first.drives)
+      subst (λ (t : ShapeText). IsShape new (kind.Once r.first.drives) t) (sym s) (subst (λ (m : List TermNode). AreDrives m r.first.drives x.first.drives) n h.first.drives)
 
   -- a shape that the conditions of the second region leave
-  pub shape-by : (new : List Node) (s : Shape) → once_only r.first ≡ false → first_holding (reasons_told ns r) ≡ None
+  pub shape-by : (new : List TermNode) (s : Shape) → once_only r.first ≡ false → first_holding (reasons_told ns r) ≡ None
       → IsShape new s (unless_left (first_holding (trigger_reasons on (second_drives x))) (shaped x)) → IsShape new s (shape_by_rows x)
   shape-by new s o e k =
       let f : first_holding (reasons x) ≡ first_holding (trigger_reasons on (second_drives x)) =
@@ -280,7 +280,7 @@ module _ (ns : List Node) (r : Regions) (x : texts.Regions) (h : AreRegions ns r
       let q : shape_by_rows x ≡ unless_left (first_holding (trigger_reasons on (second_drives x))) (shaped x) = (λ i. if a i then once x.first.drives else unless_left (f i) (shaped x)) in
       subst (IsShape new s) (sym q) k
 
-  pub conditions-left : (new : List Node) (waited : List Part) (z : Reason) → waited ≡ parts_on r.first.ends → first_holding (trigger_reasons waited (drives_at ns (later_drives r))) ≡ Some z
+  pub conditions-left : (new : List TermNode) (waited : List Part) (z : Reason) → waited ≡ parts_on r.first.ends → first_holding (trigger_reasons waited (drives_at ns (later_drives r))) ≡ Some z
       → IsShape new (kind.Left z) (unless_left (first_holding (trigger_reasons on (second_drives x))) (shaped x))
   conditions-left new waited z w e =
       let f : first_holding (trigger_reasons on (second_drives x)) ≡ Some z = ap first_holding (sym trigger-reasons-are)
@@ -288,7 +288,7 @@ module _ (ns : List Node) (r : Regions) (x : texts.Regions) (h : AreRegions ns r
       subst (λ (o : Option Reason). IsShape new (kind.Left z) (unless_left o (shaped x))) (sym f) refl
 
   -- combinational or registers, as the region waits for the head or not
-  by-target : (new : List Node) (s : Shape) (mid : List Node) (waited : List Part) (rows : List EdgeRow) → waited ≡ on → drives_at mid r.first.drives ≡ x.first.drives → Grows mid new
+  by-target : (new : List TermNode) (s : Shape) (mid : List TermNode) (waited : List Part) (rows : List EdgeRow) → waited ≡ on → drives_at mid r.first.drives ≡ x.first.drives → Grows mid new
       → AreEdgeRows mid rows (map (edge_row waited) (drives_at ns (later_drives r))) → (b : Bool) → waits_for_head x.first.ends ≡ b → IsTarget b mid new waited r.first.drives rows s
       → IsShape new s (shaped x)
   by-target new s mid waited rows v firsts g k true e t =
@@ -302,7 +302,7 @@ module _ (ns : List Node) (r : Regions) (x : texts.Regions) (h : AreRegions ns r
       (rows-grown mid new rows (map (edge_row waited) (drives_at ns (later_drives r))) g k) in
       subst (λ (z : Shape). IsShape new z (shaped x)) (sym t) (subst (IsShape new (kind.Edge rows)) (sym whole) rows_are)
 
-  pub conditions-shape : (mid new : List Node) (waited : List Part) (rows : List EdgeRow) (s : Shape) → waited ≡ parts_on r.first.ends → drives_at mid r.first.drives ≡ drives_at ns r.first.drives
+  pub conditions-shape : (mid new : List TermNode) (waited : List Part) (rows : List EdgeRow) (s : Shape) → waited ≡ parts_on r.first.ends → drives_at mid r.first.drives ≡ drives_at ns r.first.drives
       → Grows mid new
       → GivesRows mid waited (drives_at ns (later_drives r)) rows → IsTarget (head_is_next r.first.ends) mid new waited r.first.drives rows s
       → IsShape new s (unless_left (first_holding (trigger_reasons on (second_drives x))) (shaped x))

@@ -13,7 +13,7 @@ use Rattle.lh_term.specs.Make.{make_operation, make_choice}
 use Rattle.lh_term.specs.Conjuncts.{conjuncts_of}
 use Rattle.lh_term.specs.Arena.{trees, tree_at, trees_at, AreIn, StandsForTree, Grows}
 use Rattle.lh_term.specs.declared.part.Part.{Part}
-use Rattle.lh_term.specs.declared.term.Node.{Node}
+use Rattle.lh_term.specs.declared.term.TermNode.{TermNode}
 use Rattle.lh_term.specs.declared.term.TermId.{TermId}
 use Rattle.lh_term.proofs.Swaps.{tree_grown, in_grown, stands_grown, grows_on}
 use Rattle.lh_region_def.specs.Rows as text
@@ -36,14 +36,14 @@ use Rattle.lh_shape.proofs.Alike.{drive-is}
 
 -- ---- drives as an arena grows
 
-pub drive-grown : (old new : List Node) (d : DriveRow) → Grows old new → DriveFits old d → drive_at new d ≡ drive_at old d
+pub drive-grown : (old new : List TermNode) (d : DriveRow) → Grows old new → DriveFits old d → drive_at new d ≡ drive_at old d
 drive-grown old new d g f =
     let a = tree_grown old new g d.cond f.cond.is_in in
     let b = tree_grown old new g d.value f.value_in in
     let c = tree_grown old new g d.delay f.delay_in in
     λ i. record { cond = a i; part = d.part; value = b i; delay = c i }
 
-pub fits-grown : (old new : List Node) (d : DriveRow) → Grows old new → DriveFits old d → DriveFits new d
+pub fits-grown : (old new : List TermNode) (d : DriveRow) → Grows old new → DriveFits old d → DriveFits new d
 fits-grown old new d g f = record {
   cond = condition-grown old new d.cond g f.cond;
   value_in = in_grown old new g d.value f.value_in;
@@ -51,15 +51,15 @@ fits-grown old new d g f = record {
   delay_in = in_grown old new g d.delay f.delay_in;
 }
 
-pub drives-fit-grown : (old new : List Node) (ds : List DriveRow) → Grows old new → DrivesFit old ds → DrivesFit new ds
+pub drives-fit-grown : (old new : List TermNode) (ds : List DriveRow) → Grows old new → DrivesFit old ds → DrivesFit new ds
 drives-fit-grown old new [] g f = tt
 drives-fit-grown old new (d ∷ ds) g f = (fits-grown old new d g f.0, drives-fit-grown old new ds g f.1)
 
-pub drives-at-grown : (old new : List Node) (ds : List DriveRow) → Grows old new → DrivesFit old ds → drives_at new ds ≡ drives_at old ds
+pub drives-at-grown : (old new : List TermNode) (ds : List DriveRow) → Grows old new → DrivesFit old ds → drives_at new ds ≡ drives_at old ds
 drives-at-grown old new [] g f = refl
 drives-at-grown old new (d ∷ ds) g f = let a = drive-grown old new d g f.0 in let b = drives-at-grown old new ds g f.1 in λ i. a i ∷ b i
 
-pub is-grown : (old new : List Node) (d : DriveRow) (x : text.Drive) → Grows old new → IsDrive old d x → IsDrive new d x
+pub is-grown : (old new : List TermNode) (d : DriveRow) (x : text.Drive) → Grows old new → IsDrive old d x → IsDrive new d x
 is-grown old new d x g h = record {
   cond = stands_grown old new g d.cond x.cond h.cond;
   part = h.part;
@@ -67,7 +67,7 @@ is-grown old new d x g h = record {
   delay = stands_grown old new g d.delay x.delay h.delay;
 }
 
-pub is-itself : (ns : List Node) (d : DriveRow) → DriveFits ns d → IsDrive ns d (drive_at ns d)
+pub is-itself : (ns : List TermNode) (d : DriveRow) → DriveFits ns d → IsDrive ns d (drive_at ns d)
 is-itself ns d f = record {
   cond = record { is_in = f.cond.is_in; tree = refl };
   part = refl;
@@ -76,7 +76,7 @@ is-itself ns d f = record {
 }
 
 -- one drive for two is of the arena
-merged-fits : (now new : List Node) (a b next : DriveRow) → DriveFits now a → DriveFits now b → b.part ≡ a.part → IsDrive new next (drive_merged (drive_at now a) (drive_at now b)) → DriveFits new next
+merged-fits : (now new : List TermNode) (a b next : DriveRow) → DriveFits now a → DriveFits now b → b.part ≡ a.part → IsDrive new next (drive_merged (drive_at now a) (drive_at now b)) → DriveFits new next
 merged-fits now new a b next f g e h =
     let ca : Tree = tree_at (trees now) a.cond in
     let cb : Tree = tree_at (trees now) b.cond in
@@ -94,19 +94,19 @@ merged-fits now new a b next f g e h =
 
 -- ---- `take`
 
-pub takes-both : (old new : List Node) (merged : List DriveRow) (last drive : DriveRow) (more : List DriveRow) (next : DriveRow) →
+pub takes-both : (old new : List TermNode) (merged : List DriveRow) (last drive : DriveRow) (more : List DriveRow) (next : DriveRow) →
     true ≡ are_alike (drive_at old last) (drive_at old drive) → more ≡ merged → IsDrive new next (drive_merged (drive_at old last) (drive_at old drive))
     → MergesDrive old new merged last drive more next
 takes-both old new merged last drive more next e m h = subst (λ (b : Bool). MergesDriveIf b old new merged last drive more next) e (m, h)
 
-pub takes-one : (old new : List Node) (merged : List DriveRow) (last drive : DriveRow) (more : List DriveRow) (next : DriveRow) →
+pub takes-one : (old new : List TermNode) (merged : List DriveRow) (last drive : DriveRow) (more : List DriveRow) (next : DriveRow) →
     false ≡ are_alike (drive_at old last) (drive_at old drive) → more ≡ merged ++ last ∷ [] → next ≡ drive → MergesDrive old new merged last drive more next
 takes-one old new merged last drive more next e m h = subst (λ (b : Bool). MergesDriveIf b old new merged last drive more next) e (m, h)
 
 -- ---- the loop
 
 -- the drives before the last one were put to the others
-pub record MergedSoFar (old now : List Node) (all : List text.Drive) (merged : List DriveRow) (last : DriveRow) (rest : List DriveRow) : Type 0 where
+pub record MergedSoFar (old now : List TermNode) (all : List text.Drive) (merged : List DriveRow) (last : DriveRow) (rest : List DriveRow) : Type 0 where
   pub grows : Grows old now
   pub done : List text.Drive
   pub are : AreDrives now merged done
@@ -114,7 +114,7 @@ pub record MergedSoFar (old now : List Node) (all : List text.Drive) (merged : L
   pub rest_fit : DrivesFit old rest
   pub so_far : done ++ merged_from (drive_at now last) (drives_at old rest) ≡ all
 
-pub merged-none : (old : List Node) (first last : DriveRow) (merged rest : List DriveRow) → merged ≡ [] → last ≡ first → DriveFits old first → DrivesFit old rest →
+pub merged-none : (old : List TermNode) (first last : DriveRow) (merged rest : List DriveRow) → merged ≡ [] → last ≡ first → DriveFits old first → DrivesFit old rest →
     MergedSoFar old old (merged_from (drive_at old first) (drives_at old rest)) merged last rest
 merged-none old first last merged rest m e f g = record {
   grows = grows-none old;
@@ -125,7 +125,7 @@ merged-none old first last merged rest m e f g = record {
   so_far = ap (λ (d : DriveRow). merged_from (drive_at old d) (drives_at old rest)) e;
 }
 
-module _ (old now new : List Node) (all : List text.Drive) (merged more : List DriveRow) (last d next : DriveRow) (rest left : List DriveRow) (split : rest ≡ d ∷ left)
+module _ (old now new : List TermNode) (all : List text.Drive) (merged more : List DriveRow) (last d next : DriveRow) (rest left : List DriveRow) (split : rest ≡ d ∷ left)
     (h : MergedSoFar old now all merged last rest) where
   rests : DrivesFit old (d ∷ left)
   rests = subst (DrivesFit old) split h.rest_fit
@@ -172,7 +172,7 @@ module _ (old now new : List Node) (all : List text.Drive) (merged more : List D
             ∙ step;
       }
 
-pub merged-end : (old now : List Node) (all : List text.Drive) (merged more : List DriveRow) (last : DriveRow) (rest : List DriveRow) → rest ≡ [] → more ≡ merged ++ last ∷ []
+pub merged-end : (old now : List TermNode) (all : List text.Drive) (merged more : List DriveRow) (last : DriveRow) (rest : List DriveRow) → rest ≡ [] → more ≡ merged ++ last ∷ []
     → MergedSoFar old now all merged last rest → AreDrives now more all
 merged-end old now all merged more last rest e m h =
     let whole : h.done ++ drive_at now last ∷ [] ≡ all = ap (λ (ds : List DriveRow). h.done ++ merged_from (drive_at now last) (drives_at old ds)) (sym e) ∙ h.so_far in
@@ -193,7 +193,7 @@ pub one-edge : (c : Tree) (ts : List Tree) → filter (λ k. not (in_each (edge_
 one-edge c ts = filter-alike (λ k. not (in_each (edge_on c ∷ []) k)) (λ k. not (list_any (same_tree k) (conjuncts_of c))) (λ k. ap not (and-true (list_any (same_tree k) (conjuncts_of c)))) ts
 
 -- the conjuncts of a condition beyond those of another are conditions
-pub beyond-conditions : (ns : List Node) (c d : TermId) (ts : List TermId) → IsConditionAt ns d → AreIn ns ts → trees_at ns ts ≡ beyond-all (tree_at (trees ns) c) (tree_at (trees ns) d)
+pub beyond-conditions : (ns : List TermNode) (c d : TermId) (ts : List TermId) → IsConditionAt ns d → AreIn ns ts → trees_at ns ts ≡ beyond-all (tree_at (trees ns) c) (tree_at (trees ns) d)
     → Each (IsConditionAt ns) ts
 beyond-conditions ns c d ts i w e =
     let x : Tree = tree_at (trees ns) d in
@@ -203,7 +203,7 @@ beyond-conditions ns c d ts i w e =
 -- ---- `join`
 
 -- the choice between the values of two drives
-pub join-chooses : (old new : List Node) (a b : DriveRow) (t : TermId) → Grows old new → DriveFits old a → DriveFits old b → b.part ≡ a.part
+pub join-chooses : (old new : List TermNode) (a b : DriveRow) (t : TermId) → Grows old new → DriveFits old a → DriveFits old b → b.part ≡ a.part
     → StandsForTree new t (beyond (tree_at (trees old) a.cond) (tree_at (trees old) b.cond)) →
     Chooses (type_of (tree_at (trees new) t)) (type_of (tree_at (trees new) a.value)) (type_of (tree_at (trees new) b.value))
 join-chooses old new a b t g f k e h =
@@ -215,7 +215,7 @@ join-chooses old new a b t g f k e h =
     (one, va ∙ ap (λ (p : Part). p.ty) (sym e) ∙ sym vb)
 
 -- what was made is the drive of both
-pub join-is : (old one two new : List Node) (a b : DriveRow) (t value cond : TermId) → Grows old one → Grows one two → Grows two new → DriveFits old a → DriveFits old b →
+pub join-is : (old one two new : List TermNode) (a b : DriveRow) (t value cond : TermId) → Grows old one → Grows one two → Grows two new → DriveFits old a → DriveFits old b →
     StandsForTree one t (beyond (tree_at (trees old) a.cond) (tree_at (trees old) b.cond)) →
     StandsForTree two value (make_choice (tree_at (trees one) t) (tree_at (trees one) a.value) (tree_at (trees one) b.value)) →
     StandsForTree new cond (make_operation Or (tree_at (trees two) a.cond ∷ tree_at (trees two) b.cond ∷ [])) →

@@ -1,7 +1,7 @@
 -- Shapes by ids, as shapes of terms.
 use Rattle.std.specs.Prelude.{◌≡◌, List, [], ◌∷◌, ◌++◌, Bool, true, false, map, Some, None, Result, Ok, Err}
 use Rattle.lh_term.specs.declared.part.Part.{Part}
-use Rattle.lh_term.specs.declared.term.Node.{Node}
+use Rattle.lh_term.specs.declared.term.TermNode.{TermNode}
 use Rattle.lh_term.specs.Arena.{trees, tree_at, IsIn, StandsForTree}
 use Rattle.lh_edge.specs.Shown.{has_too_many_atoms, is_edge_shown}
 use Rattle.lh_edge.specs.Triggers.{EdgeRowTree}
@@ -26,20 +26,20 @@ use Rattle.lh_shape.specs.declared.shape.Registers.{Registers}
 use Rattle.lh_shape.specs.declared.shape.Registers.TheVariants as registers
 
 -- the row of registers is that one
-pub record IsEdgeRow (ns : List Node) (r : EdgeRow) (x : EdgeRowTree) : Type 0 where
+pub record IsEdgeRow (ns : List TermNode) (r : EdgeRow) (x : EdgeRowTree) : Type 0 where
   pub part : r.part ≡ x.part
   pub value : StandsForTree ns r.value x.value
   pub delay : StandsForTree ns r.delay x.delay
   pub triggers : AreTriggers ns r.triggers x.triggers
 
 -- the rows are those, one by one
-abbrev pub AreEdgeRows : List Node → List EdgeRow → List EdgeRowTree → Type 0
+abbrev pub AreEdgeRows : List TermNode → List EdgeRow → List EdgeRowTree → Type 0
 AreEdgeRows ns [] [] = Unit {0}
 AreEdgeRows ns (r ∷ rs) (x ∷ xs) = IsEdgeRow ns r x × AreEdgeRows ns rs xs
 AreEdgeRows ns _ _ = ⊥
 
 -- The shape is that one.
-abbrev pub IsShape : List Node → Shape → ShapeText → Type 0
+abbrev pub IsShape : List TermNode → Shape → ShapeText → Type 0
 IsShape ns (kind.Comb waited ds) (comb on xs) = (waited ≡ on) × AreDrives ns ds xs
 IsShape ns (kind.Edge rs) (edge xs) = AreEdgeRows ns rs xs
 IsShape ns (kind.Once ds) (once xs) = AreDrives ns ds xs
@@ -49,7 +49,7 @@ IsShape ns _ _ = ⊥
 -- ---- what the calls compute on the way
 
 -- combinational with the merged drives, where the region waits for the head; else these registers
-abbrev pub IsTarget : Bool → (old new : List Node) → (waited : List Part) → List DriveRow → List EdgeRow → Shape → Type 0
+abbrev pub IsTarget : Bool → (old new : List TermNode) → (waited : List Part) → List DriveRow → List EdgeRow → Shape → Type 0
 IsTarget true old new waited ds rs s = IsShape new s (comb waited (merged_drives (drives_at old ds)))
 IsTarget false old new waited ds rs s = s ≡ kind.Edge rs
 
@@ -59,19 +59,19 @@ pub record ShowsEdge (waited : List Part) (d : Drive) : Type 0 where
   pub shown : is_edge_shown waited d.cond ≡ true
 
 -- a row of registers was added
-pub record AddsRow (ns : List Node) (old : List EdgeRow) (x : EdgeRowTree) (new : List EdgeRow) : Type 0 where
+pub record AddsRow (ns : List TermNode) (old : List EdgeRow) (x : EdgeRowTree) (new : List EdgeRow) : Type 0 where
   pub row : EdgeRow
   pub added : new ≡ old ++ row ∷ []
   pub is : IsEdgeRow ns row x
 
 -- the row of a drive was added; or its condition is not edge-shown; or it has too many atoms
-abbrev pub EdgeRowOrReason : List Node → (waited : List Part) → Drive → (old : List EdgeRow) → Added → (new : List EdgeRow) → Type 0
+abbrev pub EdgeRowOrReason : List TermNode → (waited : List Part) → Drive → (old : List EdgeRow) → Added → (new : List EdgeRow) → Type 0
 EdgeRowOrReason ns waited d old added.Row new = ShowsEdge waited d × AddsRow ns old (edge_row waited d) new
 EdgeRowOrReason ns waited d old added.Hidden new = (has_too_many_atoms d.cond ≡ false) × (is_edge_shown waited d.cond ≡ false)
 EdgeRowOrReason ns waited d old added.TooMany new = has_too_many_atoms d.cond ≡ true
 
 -- what was found for a condition of the arena is what its analysis gives
-pub record Finds (ns : List Node) (waited : List Part) (f : Found) : Type 0 where
+pub record Finds (ns : List TermNode) (waited : List Part) (f : Found) : Type 0 where
   pub is_in : IsIn ns f.cond
   pub triggers : TriggersOrFault ns waited (tree_at (trees ns) f.cond) f.triggers
 
@@ -83,11 +83,11 @@ AddsFound d (Err TooManyAtoms) old added.TooMany new = Unit {0}
 AddsFound d _ old _ new = ⊥
 
 -- no reason holds, and the rows are those of the drives
-pub record GivesRows (ns : List Node) (waited : List Part) (ds : List Drive) (rs : List EdgeRow) : Type 0 where
+pub record GivesRows (ns : List TermNode) (waited : List Part) (ds : List Drive) (rs : List EdgeRow) : Type 0 where
   pub none : first_holding (trigger_reasons waited ds) ≡ None
   pub rows : AreEdgeRows ns rs (map (edge_row waited) ds)
 
 -- the rows of drives, or the first reason that their conditions give
-abbrev pub AreRegisters : List Node → (waited : List Part) → List Drive → Registers → Type 0
+abbrev pub AreRegisters : List TermNode → (waited : List Part) → List Drive → Registers → Type 0
 AreRegisters ns waited ds (registers.Rows rs) = GivesRows ns waited ds rs
 AreRegisters ns waited ds (registers.Left r) = first_holding (trigger_reasons waited ds) ≡ Some r

@@ -5,7 +5,7 @@ use Rattle.std.specs.Option.{option_map_or}
 use Rattle.lh_term.specs.Make.{is_constant}
 use Rattle.lh_term.specs.Arena.{trees, tree_at}
 use Rattle.lh_term.specs.declared.part.Part.{Part}
-use Rattle.lh_term.specs.declared.term.Node.{Node}
+use Rattle.lh_term.specs.declared.term.TermNode.{TermNode}
 use Rattle.lh_term_cover.specs.Bits.{covers}
 use Rattle.lh_edge.specs.Atoms.{contains_past}
 use Rattle.lh_region_def.specs.Rows as text
@@ -51,18 +51,18 @@ parts_on es = flat_map (λ (e : EndRow). waited_parts (way_text e.way)) es
 -- ---- drives
 
 -- the drive of terms
-abbrev pub drive_at : List Node → DriveRow → text.Drive
+abbrev pub drive_at : List TermNode → DriveRow → text.Drive
 drive_at ns d = record { cond = tree_at (trees ns) d.cond; part = d.part; value = tree_at (trees ns) d.value; delay = tree_at (trees ns) d.delay }
 
-abbrev pub drives_at : List Node → List DriveRow → List text.Drive
+abbrev pub drives_at : List TermNode → List DriveRow → List text.Drive
 drives_at ns ds = map (drive_at ns) ds
 
 -- a delay is no constant
-abbrev pub delay_varies : List Node → DriveRow → Bool
+abbrev pub delay_varies : List TermNode → DriveRow → Bool
 delay_varies ns d = not (is_constant (tree_at (trees ns) d.delay))
 
 -- a value before is in what is driven
-abbrev pub drives_past : List Node → DriveRow → Bool
+abbrev pub drives_past : List TermNode → DriveRow → Bool
 drives_past ns d = contains_past (tree_at (trees ns) d.value)
 
 -- ---- regions
@@ -81,7 +81,7 @@ has_halt s = some_way is_halt s.ends
 abbrev pub has_assert : Rows → Bool
 has_assert s = not (is_empty s.asserts)
 
-abbrev pub has_varying_delay : List Node → Rows → Bool
+abbrev pub has_varying_delay : List TermNode → Rows → Bool
 has_varying_delay ns s = list_any (delay_varies ns) s.drives
 
 -- a part is not covered by others
@@ -101,7 +101,7 @@ abbrev pub once_only : Rows → Bool
 once_only s = every_way is_halt s.ends && (is_empty s.probes && is_empty s.asserts)
 
 -- the reasons that rows may give before the conditions of the second region are looked at
-abbrev pub reasons_told : List Node → Regions → List (Bool × Reason)
+abbrev pub reasons_told : List TermNode → Regions → List (Bool × Reason)
 reasons_told ns r =
     (in_either has_halt r, reason.Halts)
     ∷ (in_either has_assert r, reason.Asserts)

@@ -9,7 +9,7 @@ ghost use Rattle.lh_shape.specs.ByIds as ids;
 use lh_region::{EndRow, Way};
 use lh_term::part::{Part, PartList};
 use lh_term_cover::Cover;
-use lh_types::ty::NoMemory;
+use lh_types::memory::NoMemory;
 use std::alloc::Global;
 
 /// Whether every end is at `halt`.

@@ -14,7 +14,7 @@ use lh_region_joins::joins::{Shared, conjunction};
 use lh_region_joins::logic::or;
 use lh_term::term::TermId;
 use lh_term::terms::Terms;
-use lh_types::ty::NoMemory;
+use lh_types::memory::NoMemory;
 use std::alloc::Global;
 
 /// The drives, of which those are merged, from the left, that follow each other and drive one part after one delay.

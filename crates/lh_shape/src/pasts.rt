@@ -7,7 +7,7 @@ ghost use Rattle.lh_edge.specs.Steps.{TellPasts};
 use lh_edge::pasts::past_flags;
 use lh_region::DriveRow;
 use lh_term::terms::Terms;
-use lh_types::ty::NoMemory;
+use lh_types::memory::NoMemory;
 use std::alloc::Global;
 
 /// Whether a value before is in what one of some drives drives.

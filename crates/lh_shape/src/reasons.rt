@@ -16,7 +16,7 @@ use lh_term::part::{Part, PartList};
 use lh_term::term::{Term, TermId};
 use lh_term::terms::Terms;
 use lh_term_cover::Cover;
-use lh_types::ty::NoMemory;
+use lh_types::memory::NoMemory;
 use std::alloc::Global;
 
 /// Whether a process always halts, probes nothing and asserts nothing.

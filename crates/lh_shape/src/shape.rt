@@ -21,7 +21,7 @@ use lh_region::{DriveRow, Regions, Rows};
 use lh_term::part::PartList;
 use lh_term::term::TermId;
 use lh_term::terms::Terms;
-use lh_types::ty::NoMemory;
+use lh_types::memory::NoMemory;
 use std::alloc::Global;
 
 /// The registers of a process.

@@ -20,7 +20,7 @@ use Rattle.lh_term.specs.Arena.{tree_at, term_tree, trees_from, terms_in, trees,
 use Rattle.lh_term.specs.declared.term.TermId.{TermId}
 use Rattle.lh_term.specs.declared.term.Term.{Term}
 use Rattle.lh_term.specs.declared.term.Term.TheVariants.{Konst, Past, Now, Op as Applied, Choice}
-use Rattle.lh_term.specs.declared.term.Node.{Node}
+use Rattle.lh_term.specs.declared.term.TermNode.{TermNode}
 
 -- ---- lists
 
@@ -73,7 +73,7 @@ below_push k (y ∷ xs) x a b =
     (below_push (k + 1) xs x (second_so (term_below k y) (all_below (k + 1) xs) a) (ap (λ m. term_below m x) deeper ∙ b))
 
 -- a node of the list is found by its term
-found : (n : Node) (ns : List Node) (i : ℕ) → slice_get (terms_in ns) i ≡ Some n.term → list_any (same_node n) ns ≡ true
+found : (n : TermNode) (ns : List TermNode) (i : ℕ) → slice_get (terms_in ns) i ≡ Some n.term → list_any (same_node n) ns ≡ true
 found n [] i e = cc
 found n (m ∷ ns) zero e = let q : m.term ≡ n.term = cc in or_left (same_node n m) (list_any (same_node n) ns) (ap (same_term n.term) q ∙ same_term-refl n.term)
 found n (m ∷ ns) (suc i) e = or_right (same_node n m) (list_any (same_node n) ns) (found n ns i e)
@@ -221,7 +221,7 @@ nothing : Means [] []
 nothing = record { len = refl; each = λ i x e. cc; terms = λ i t e. cc; below = λ i x e. cc; distinct = λ i j t p q. cc }
 
 -- what the terms of an arena mean
-pub means : (ns : List Node) → IsArena ns → Means (terms_in ns) (trees ns)
+pub means : (ns : List TermNode) → IsArena ns → Means (terms_in ns) (trees ns)
 means ns a = means_from [] [] (terms_in ns) nothing a.below a.once
 
 from_append : (ts : List Tree) (a b : List Term) → trees_from ts (a ++ b) ≡ trees_from (trees_from ts a) b
@@ -232,34 +232,34 @@ grows : (us : List Tree) (more : List Term) → (rest : List Tree) × (trees_fro
 grows us [] = ([], sym (append-nil us))
 grows us (x ∷ more) = let (rest, e) = grows (us ++ term_tree us x ∷ []) more in (term_tree us x ∷ rest, e ∙ append_assoc us (term_tree us x ∷ []) rest)
 
-pub grows_none : (ns : List Node) → Grows ns ns
+pub grows_none : (ns : List TermNode) → Grows ns ns
 grows_none ns = ([], sym (append-nil ns))
 
-pub trees_grow : (ns ms : List Node) → Grows ns ms → (rest : List Tree) × (trees ms ≡ trees ns ++ rest)
+pub trees_grow : (ns ms : List TermNode) → Grows ns ms → (rest : List Tree) × (trees ms ≡ trees ns ++ rest)
 trees_grow ns ms (more, e) =
     let (rest, g) = grows (trees ns) (terms_in more) in
-    (rest, ap trees e ∙ ap (trees_from []) (map_append (λ (n : Node). n.term) ns more) ∙ from_append [] (terms_in ns) (terms_in more) ∙ g)
+    (rest, ap trees e ∙ ap (trees_from []) (map_append (λ (n : TermNode). n.term) ns more) ∙ from_append [] (terms_in ns) (terms_in more) ∙ g)
 
-pub trees_length : (ns : List Node) → IsArena ns → length (trees ns) ≡ length ns
-trees_length ns a = let m = means ns a in m.len ∙ map_length (λ (n : Node). n.term) ns
+pub trees_length : (ns : List TermNode) → IsArena ns → length (trees ns) ≡ length ns
+trees_length ns a = let m = means ns a in m.len ∙ map_length (λ (n : TermNode). n.term) ns
 
 at_of : (ts : List Tree) (i : TermId) (t : Tree) → slice_get ts i.0 ≡ Some t → tree_at ts i ≡ t
 at_of ts i t e = ap (λ o. unwrap_or o (constant no_value)) e
 
 -- ---- what is at an id
 
-pub node_tree : (ns : List Node) (i : TermId) (n : Node) → IsArena ns → slice_get ns i.0 ≡ Some n → tree_at (trees ns) i ≡ term_tree (trees ns) n.term
-node_tree ns i n a e = let m = means ns a in at_of (trees ns) i _ (m.each i.0 n.term (get_map (λ (n : Node). n.term) ns i.0 n e))
+pub node_tree : (ns : List TermNode) (i : TermId) (n : TermNode) → IsArena ns → slice_get ns i.0 ≡ Some n → tree_at (trees ns) i ≡ term_tree (trees ns) n.term
+node_tree ns i n a e = let m = means ns a in at_of (trees ns) i _ (m.each i.0 n.term (get_map (λ (n : TermNode). n.term) ns i.0 n e))
 
-pub node_below : (ns : List Node) (i : ℕ) (n : Node) → IsArena ns → slice_get ns i ≡ Some n → term_below i n.term ≡ true
-node_below ns i n a e = let m = means ns a in m.below i n.term (get_map (λ (n : Node). n.term) ns i n e)
+pub node_below : (ns : List TermNode) (i : ℕ) (n : TermNode) → IsArena ns → slice_get ns i ≡ Some n → term_below i n.term ≡ true
+node_below ns i n a e = let m = means ns a in m.below i n.term (get_map (λ (n : TermNode). n.term) ns i n e)
 
 -- ---- an arena with a term more
 
-arena_push : (ns : List Node) (n : Node) → IsArena ns → term_below (length ns) n.term ≡ true → IsTypedNode (trees ns) n → ((i : ℕ) → slice_get (terms_in ns) i ≡ Some n.term → ⊥)
+arena_push : (ns : List TermNode) (n : TermNode) → IsArena ns → term_below (length ns) n.term ≡ true → IsTypedNode (trees ns) n → ((i : ℕ) → slice_get (terms_in ns) i ≡ Some n.term → ⊥)
     → IsArena (ns ++ n ∷ [])
 arena_push ns n a lt ty new =
-    let T : Node → Term = λ (x : Node). x.term in
+    let T : TermNode → Term = λ (x : TermNode). x.term in
     let split : terms_in (ns ++ n ∷ []) ≡ terms_in ns ++ n.term ∷ [] = map_push T ns n in
     let len : length (terms_in ns) ≡ length ns = map_length T ns in
     let lt2 : term_below (0 + length (terms_in ns)) n.term ≡ true = ap (λ k. term_below k n.term) (omega arith) ∙ lt in
@@ -269,7 +269,7 @@ arena_push ns n a lt ty new =
     let tlen : length (trees ns) ≡ length ns = trees_length ns a in
     let same : (x : Term) → term_below (length ns) x ≡ true → term_tree (trees (ns ++ n ∷ [])) x ≡ term_tree (trees ns) x = λ x h. ap (λ ts. term_tree ts x) g
     ∙ tree_below (trees ns) rest x (ap (λ k. term_below k x) tlen ∙ h) in
-    let typed : (x : Node) → term_below (length ns) x.term ≡ true → IsTypedNode (trees ns) x → IsTypedNode (trees (ns ++ n ∷ [])) x = λ x h t. (
+    let typed : (x : TermNode) → term_below (length ns) x.term ≡ true → IsTypedNode (trees ns) x → IsTypedNode (trees (ns ++ n ∷ [])) x = λ x h t. (
       let P : Tree → Type 0 = IsTyped in
           subst P (sym (same x.term h)) t.0,
       t.1 ∙ ap type_of (sym (same x.term h)),
@@ -279,33 +279,33 @@ arena_push ns n a lt ty new =
       once = subst Q (sym split) (once_push (terms_in ns) n.term a.once new);
       typed = λ i x e. elim (push_cases ns n x i e) [
         | inl p ↦ typed x (term_more i (length ns) (let q : i < length ns = slice_get_within ns i x p in omega arith) x.term (node_below ns i x a p)) (a.typed i x p)
-        | inr p ↦ let P : Node → Type 0 = IsTypedNode (trees (ns ++ n ∷ [])) in subst P p.1 (typed n lt ty)
+        | inr p ↦ let P : TermNode → Type 0 = IsTypedNode (trees (ns ++ n ∷ [])) in subst P p.1 (typed n lt ty)
       ];
     }
 
-not_found : (n : Node) (ns : List Node) → list_any (same_node n) ns ≡ false → (i : ℕ) → slice_get (terms_in ns) i ≡ Some n.term → ⊥
+not_found : (n : TermNode) (ns : List TermNode) → list_any (same_node n) ns ≡ false → (i : ℕ) → slice_get (terms_in ns) i ≡ Some n.term → ⊥
 not_found n ns e i p = let q : true ≡ false = sym (found n ns i p) ∙ e in cc
 
-insert_keeps : (ns : List Node) (n : Node) → IsArena ns → term_below (length ns) n.term ≡ true → IsTypedNode (trees ns) n → (b : Bool) → list_any (same_node n) ns ≡ b
+insert_keeps : (ns : List TermNode) (n : TermNode) → IsArena ns → term_below (length ns) n.term ≡ true → IsTypedNode (trees ns) n → (b : Bool) → list_any (same_node n) ns ≡ b
     → IsArena (if b then ns else ns ++ n ∷ [])
 insert_keeps ns n a lt ty true e = a
 insert_keeps ns n a lt ty false e = arena_push ns n a lt ty (not_found n ns e)
 
-pub intern_keeps : {A B : Type 0} (r : Result A B) (ns ms : List Node) (n : Node) → IfOk r (λ _. ms ≡ (if list_any (same_node n) ns then ns else ns ++ n ∷ [])) → OnErr r (ms ≡ ns)
+pub intern_keeps : {A B : Type 0} (r : Result A B) (ns ms : List TermNode) (n : TermNode) → IfOk r (λ _. ms ≡ (if list_any (same_node n) ns then ns else ns ++ n ∷ [])) → OnErr r (ms ≡ ns)
     → term_below (length ns) n.term ≡ true → IsTypedNode (trees ns) n → IsArena ns → IsArena ms
-intern_keeps (Ok x) ns ms n ok err lt ty a = let P : List Node → Type 0 = IsArena in subst P (sym ok) (insert_keeps ns n a lt ty (list_any (same_node n) ns) refl)
-intern_keeps (Err x) ns ms n ok err lt ty a = let P : List Node → Type 0 = IsArena in subst P (sym err) a
+intern_keeps (Ok x) ns ms n ok err lt ty a = let P : List TermNode → Type 0 = IsArena in subst P (sym ok) (insert_keeps ns n a lt ty (list_any (same_node n) ns) refl)
+intern_keeps (Err x) ns ms n ok err lt ty a = let P : List TermNode → Type 0 = IsArena in subst P (sym err) a
 
-insert_grows : (ns : List Node) (n : Node) (b : Bool) → Grows ns (if b then ns else ns ++ n ∷ [])
+insert_grows : (ns : List TermNode) (n : TermNode) (b : Bool) → Grows ns (if b then ns else ns ++ n ∷ [])
 insert_grows ns n true = ([], sym (append-nil ns))
 insert_grows ns n false = (n ∷ [], refl)
 
-pub intern_grows : {A B : Type 0} (r : Result A B) (ns ms : List Node) (n : Node) → IfOk r (λ _. ms ≡ (if list_any (same_node n) ns then ns else ns ++ n ∷ [])) → OnErr r (ms ≡ ns) → Grows ns ms
-intern_grows (Ok x) ns ms n ok err = let P : List Node → Type 0 = Grows ns in subst P (sym ok) (insert_grows ns n (list_any (same_node n) ns))
+pub intern_grows : {A B : Type 0} (r : Result A B) (ns ms : List TermNode) (n : TermNode) → IfOk r (λ _. ms ≡ (if list_any (same_node n) ns then ns else ns ++ n ∷ [])) → OnErr r (ms ≡ ns) → Grows ns ms
+intern_grows (Ok x) ns ms n ok err = let P : List TermNode → Type 0 = Grows ns in subst P (sym ok) (insert_grows ns n (list_any (same_node n) ns))
 intern_grows (Err x) ns ms n ok err = ([], err ∙ sym (append-nil ns))
 
 -- the id of the term that was put stands for its tree
-pub interned : (ns ms : List Node) (n k : Node) (i : TermId) → IsArena ns → IsArena ms → Grows ns ms → term_below (length ns) n.term ≡ true → slice_get ms i.0 ≡ Some k → same_node n k ≡ true
+pub interned : (ns ms : List TermNode) (n k : TermNode) (i : TermId) → IsArena ns → IsArena ms → Grows ns ms → term_below (length ns) n.term ≡ true → slice_get ms i.0 ≡ Some k → same_node n k ≡ true
     → StandsForTree ms i (term_tree (trees ns) n.term)
 interned ns ms n k i a b grow lt at same =
     let (rest, g) = trees_grow ns ms grow in
@@ -318,39 +318,39 @@ interned ns ms n k i a b grow lt at same =
 
 -- ---- what `intern` shows, where the value vs is seen as the keys ns
 
-module _ (vs ns ms : List Node) (n : Node) (e : ns ≡ vs) (lt : term_below (length vs) n.term ≡ true) (ty : IsTypedNode (trees vs) n) (a : IsArena ns) where
+module _ (vs ns ms : List TermNode) (n : TermNode) (e : ns ≡ vs) (lt : term_below (length vs) n.term ≡ true) (ty : IsTypedNode (trees vs) n) (a : IsArena ns) where
   lt_in : term_below (length ns) n.term ≡ true
-  lt_in = let P : List Node → Type 0 = λ xs. term_below (length xs) n.term ≡ true in subst P (sym e) lt
+  lt_in = let P : List TermNode → Type 0 = λ xs. term_below (length xs) n.term ≡ true in subst P (sym e) lt
 
   ty_in : IsTypedNode (trees ns) n
-  ty_in = let P : List Node → Type 0 = λ xs. IsTypedNode (trees xs) n in subst P (sym e) ty
+  ty_in = let P : List TermNode → Type 0 = λ xs. IsTypedNode (trees xs) n in subst P (sym e) ty
 
   pub keeps_at : {A B : Type 0} (r : Result A B) → IfOk r (λ _. ms ≡ (if list_any (same_node n) ns then ns else ns ++ n ∷ [])) → OnErr r (ms ≡ ns) → IsArena ms
   keeps_at r ok err = intern_keeps r ns ms n ok err lt_in ty_in a
 
   pub grows_at : {A B : Type 0} (r : Result A B) → IfOk r (λ _. ms ≡ (if list_any (same_node n) ns then ns else ns ++ n ∷ [])) → OnErr r (ms ≡ ns) → Grows vs ms
-  grows_at r ok err = let P : List Node → Type 0 = λ xs. Grows xs ms in subst P e (intern_grows r ns ms n ok err)
+  grows_at r ok err = let P : List TermNode → Type 0 = λ xs. Grows xs ms in subst P e (intern_grows r ns ms n ok err)
 
   pub stands_at : {A B : Type 0} (r : Result A B) → IfOk r (λ _. ms ≡ (if list_any (same_node n) ns then ns else ns ++ n ∷ [])) → OnErr r (ms ≡ ns)
-      → (i : TermId) → (k : Node) × (slice_get ms i.0 ≡ Some k) × (same_node n k ≡ true) → StandsForTree ms i (term_tree (trees vs) n.term)
+      → (i : TermId) → (k : TermNode) × (slice_get ms i.0 ≡ Some k) × (same_node n k ≡ true) → StandsForTree ms i (term_tree (trees vs) n.term)
   stands_at r ok err i (k, at, same) =
-      let P : List Node → Type 0 = λ xs. StandsForTree ms i (term_tree (trees xs) n.term) in
+      let P : List TermNode → Type 0 = λ xs. StandsForTree ms i (term_tree (trees xs) n.term) in
       subst P e (interned ns ms n k i a (keeps_at r ok err) (intern_grows r ns ms n ok err) lt_in at same)
 
 -- what is at an id of an arena
 
-module _ (vs ns : List Node) (e : ns ≡ vs) (a : IsArena ns) (t : TermId) (n : Node) (at : slice_get ns t.0 ≡ Some n) where
+module _ (vs ns : List TermNode) (e : ns ≡ vs) (a : IsArena ns) (t : TermId) (n : TermNode) (at : slice_get ns t.0 ≡ Some n) where
   pub at_shown : term_tree (trees vs) n.term ≡ tree_at (trees vs) t
-  at_shown = let P : List Node → Type 0 = λ xs. term_tree (trees xs) n.term ≡ tree_at (trees xs) t in subst P e (sym (node_tree ns t n a at))
+  at_shown = let P : List TermNode → Type 0 = λ xs. term_tree (trees xs) n.term ≡ tree_at (trees xs) t in subst P e (sym (node_tree ns t n a at))
 
   pub at_below_id : term_below t.0 n.term ≡ true
   at_below_id = node_below ns t.0 n a at
 
   pub at_typed : IsTyped (tree_at (trees vs) t)
-  at_typed = let P : Tree → Type 0 = IsTyped in let Q : List Node → Type 0 = λ xs. IsTyped (tree_at (trees xs) t) in subst Q e (subst P (sym (node_tree ns t n a at)) (a.typed t.0 n at).0)
+  at_typed = let P : Tree → Type 0 = IsTyped in let Q : List TermNode → Type 0 = λ xs. IsTyped (tree_at (trees xs) t) in subst Q e (subst P (sym (node_tree ns t n a at)) (a.typed t.0 n at).0)
 
   pub at_ty : n.ty ≡ type_of (tree_at (trees vs) t)
-  at_ty = let P : List Node → Type 0 = λ xs. n.ty ≡ type_of (tree_at (trees xs) t) in subst P e ((a.typed t.0 n at).1 ∙ ap type_of (sym (node_tree ns t n a at)))
+  at_ty = let P : List TermNode → Type 0 = λ xs. n.ty ≡ type_of (tree_at (trees xs) t) in subst P e ((a.typed t.0 n at).1 ∙ ap type_of (sym (node_tree ns t n a at)))
 
 bool_num : (x : ℕ) → (x == x) ≡ true
 bool_num x = grind (arith, nat_tests)
@@ -359,12 +359,12 @@ num_same_is : (p q : ℕ) → (p == q) ≡ true → p ≡ q
 num_same_is p q e = grind (arith, nat_tests)
 
 -- equal terms have one id
-pub one_id : (vs ns : List Node) → ns ≡ vs → IsArena ns → (x y : TermId) → IsIn vs x → IsIn vs y → (x.0 == y.0) ≡ same_tree (tree_at (trees vs) x) (tree_at (trees vs) y)
+pub one_id : (vs ns : List TermNode) → ns ≡ vs → IsArena ns → (x y : TermId) → IsIn vs x → IsIn vs y → (x.0 == y.0) ≡ same_tree (tree_at (trees vs) x) (tree_at (trees vs) y)
 one_id vs ns e a x y p q =
-    let P : List Node → Type 0 = λ ws. IsIn ws x → IsIn ws y → (x.0 == y.0) ≡ same_tree (tree_at (trees ws) x) (tree_at (trees ws) y) in
+    let P : List TermNode → Type 0 = λ ws. IsIn ws x → IsIn ws y → (x.0 == y.0) ≡ same_tree (tree_at (trees ws) x) (tree_at (trees ws) y) in
     subst P e (at ns a) p q
   where
-    at : (ws : List Node) → IsArena ws → IsIn ws x → IsIn ws y → (x.0 == y.0) ≡ same_tree (tree_at (trees ws) x) (tree_at (trees ws) y)
+    at : (ws : List TermNode) → IsArena ws → IsIn ws x → IsIn ws y → (x.0 == y.0) ≡ same_tree (tree_at (trees ws) x) (tree_at (trees ws) y)
     at ws b h k =
         let m = means ws b in
         let l = trees_length ws b in
@@ -373,18 +373,18 @@ one_id vs ns e a x y p q =
         (λ s. let u : x ≡ y = one_id_at (trees ws) m.distinct x y (lt-ltb x.0 (length (trees ws)) (omega arith)) (lt-ltb y.0 (length (trees ws)) (omega arith)) (same_tree-is _ _ s) in
         ap (λ z. z.0 == y.0) u ∙ bool_num y.0)
 
-get_some : (ns : List Node) (i : ℕ) → i < length ns → (n : Node) × (slice_get ns i ≡ Some n)
+get_some : (ns : List TermNode) (i : ℕ) → i < length ns → (n : TermNode) × (slice_get ns i ≡ Some n)
 get_some [] i h = absurd (omega arith)
 get_some (n ∷ ns) zero h = (n, refl)
 get_some (n ∷ ns) (suc i) h = get_some ns i (omega arith)
 
-pub id_typed : (ns : List Node) → IsArena ns → (x : TermId) → IsIn ns x → IsTyped (tree_at (trees ns) x)
+pub id_typed : (ns : List TermNode) → IsArena ns → (x : TermId) → IsIn ns x → IsTyped (tree_at (trees ns) x)
 id_typed ns a x h = let (n, at) = get_some ns x.0 h in at_typed ns ns refl a x n at
 
 -- the terms of ids are typed
-pub ids_typed : (vs ns : List Node) → ns ≡ vs → IsArena ns → (xs : List TermId) → AreIn vs xs → AreTyped (tree_row (trees_at vs xs))
+pub ids_typed : (vs ns : List TermNode) → ns ≡ vs → IsArena ns → (xs : List TermId) → AreIn vs xs → AreTyped (tree_row (trees_at vs xs))
 ids_typed vs ns e a xs h =
-    let P : List Node → Type 0 = λ ws. AreIn ws xs → AreTyped (tree_row (trees_at ws xs)) in
+    let P : List TermNode → Type 0 = λ ws. AreIn ws xs → AreTyped (tree_row (trees_at ws xs)) in
     subst P e (each xs) h
   where
     each : (ys : List TermId) → AreIn ns ys → AreTyped (tree_row (trees_at ns ys))
@@ -394,16 +394,16 @@ ids_typed vs ns e a xs h =
       each ys (second_so (nat_lt y.0 (length ns)) (ids_below (length ns) ys) k),
     )
 
-pub apart_at : (vs ns : List Node) → ns ≡ vs → IsArena ns → OneId vs
+pub apart_at : (vs ns : List TermNode) → ns ≡ vs → IsArena ns → OneId vs
 apart_at vs ns e a =
-    let P : List Node → Type 0 = OneId in
+    let P : List TermNode → Type 0 = OneId in
     subst P e (λ x y p q s.
     let m = means ns a in
     let l = trees_length ns a in
     one_id_at (trees ns) m.distinct x y (lt-ltb x.0 (length (trees ns)) (omega arith)) (lt-ltb y.0 (length (trees ns)) (omega arith)) s)
 
-pub all_typed_at : (vs ns : List Node) → ns ≡ vs → IsArena ns → AllTyped vs
-all_typed_at vs ns e a = let P : List Node → Type 0 = AllTyped in subst P e (id_typed ns a)
+pub all_typed_at : (vs ns : List TermNode) → ns ≡ vs → IsArena ns → AllTyped vs
+all_typed_at vs ns e a = let P : List TermNode → Type 0 = AllTyped in subst P e (id_typed ns a)
 
-pub at_term : (vs ns : List Node) → ns ≡ vs → (i : ℕ) (n : Node) → slice_get ns i ≡ Some n → slice_get (terms_in vs) i ≡ Some n.term
-at_term vs ns e i n at = let P : List Node → Type 0 = λ xs. slice_get (terms_in xs) i ≡ Some n.term in subst P e (get_map (λ (m : Node). m.term) ns i n at)
+pub at_term : (vs ns : List TermNode) → ns ≡ vs → (i : ℕ) (n : TermNode) → slice_get ns i ≡ Some n → slice_get (terms_in vs) i ≡ Some n.term
+at_term vs ns e i n at = let P : List TermNode → Type 0 = λ xs. slice_get (terms_in xs) i ≡ Some n.term in subst P e (get_map (λ (m : TermNode). m.term) ns i n at)

@@ -13,7 +13,7 @@ use Rattle.lh_term.specs.Arena.{terms_in, ids_below, AreIn}
 use Rattle.lh_term.specs.Reach.{Leads, is_on, AllPass, Leaves, GoesOn, GoOn, none_left, PassesOn, AreReached}
 use Rattle.lh_term.specs.declared.term.TermId.{TermId}
 use Rattle.lh_term.specs.declared.term.Term.{Term}
-use Rattle.lh_term.specs.declared.term.Node.{Node}
+use Rattle.lh_term.specs.declared.term.TermNode.{TermNode}
 use Rattle.lh_term.proofs.Greatest.{Taken}
 
 -- ---- ids on a list
@@ -77,7 +77,7 @@ in_push n (y ∷ xs) x h l =
 -- ---- the terms so far
 
 -- what is right while some terms, that the test f passes, are still to be looked at
-pub record ReachedSoFar (leads : Leads) (ns : List Node) (xs : List TermId) (f : ℕ → Bool) (ids : List TermId) : Type 0 where
+pub record ReachedSoFar (leads : Leads) (ns : List TermNode) (xs : List TermId) (f : ℕ → Bool) (ids : List TermId) : Type 0 where
   pub below : (q : ℕ) → f q ≡ true → q < length ns
   pub are_in : AreIn ns ids
   pub there : AllPass (λ i. is_on ids i || f i) xs
@@ -85,7 +85,7 @@ pub record ReachedSoFar (leads : Leads) (ns : List Node) (xs : List TermId) (f :
   pub only : (p : ℕ → Bool) → PassesOn leads ns p → AllPass p xs → AllPass p ids
   pub left : (p : ℕ → Bool) → PassesOn leads ns p → AllPass p xs → (q : ℕ) → f q ≡ true → p q ≡ true
 
-pub reached_start : (leads : Leads) (ns : List Node) (xs : List TermId) (s : BTreeSet ℕ) (f : ℕ → Bool) → AreIn ns xs → s.keys ≡ [] → ((q : ℕ) → f q ≡ (is_on xs q || sorted.contains nat_cmp s q))
+pub reached_start : (leads : Leads) (ns : List TermNode) (xs : List TermId) (s : BTreeSet ℕ) (f : ℕ → Bool) → AreIn ns xs → s.keys ≡ [] → ((q : ℕ) → f q ≡ (is_on xs q || sorted.contains nat_cmp s q))
     → ReachedSoFar leads ns xs f []
 reached_start leads ns xs s f i e h = record {
   below = λ q t. on_below (length ns) xs q i (sym (is q) ∙ t);
@@ -99,7 +99,7 @@ reached_start leads ns xs s f i e h = record {
     is : (q : ℕ) → f q ≡ is_on xs q
     is q = h q ∙ ap (λ ks. is_on xs q || list_any (is_at (nat_cmp q)) ks) e ∙ or-false (is_on xs q)
 
-go_on_push : (leads : Leads) (ns : List Node) (f g : ℕ → Bool) (ids : List TermId) (x : TermId) → ((more : List TermId) (i : ℕ) → (is_on more i || f i) ≡ true → (is_on (more ++ x ∷ []) i || g i) ≡ true)
+go_on_push : (leads : Leads) (ns : List TermNode) (f g : ℕ → Bool) (ids : List TermId) (x : TermId) → ((more : List TermId) (i : ℕ) → (is_on more i || f i) ≡ true → (is_on (more ++ x ∷ []) i || g i) ≡ true)
     → ((k : Term) → slice_get (terms_in ns) x.0 ≡ Some k → GoesOn leads ns g x [] k) → GoOn leads ns f ids → GoOn leads ns g (ids ++ x ∷ [])
 go_on_push leads ns f g [] x h s r = (s, tt)
 go_on_push leads ns f g (y ∷ ids) x h s r = (
@@ -108,7 +108,7 @@ go_on_push leads ns f g (y ∷ ids) x h s r = (
 )
 
 -- a term was looked at
-pub reached_next : (leads : Leads) (ns : List Node) (xs ids : List TermId) (f g h : ℕ → Bool) (x : TermId) (k : Term) → slice_get (terms_in ns) x.0 ≡ Some k → Taken f g x.0
+pub reached_next : (leads : Leads) (ns : List TermNode) (xs ids : List TermId) (f g h : ℕ → Bool) (x : TermId) (k : Term) → slice_get (terms_in ns) x.0 ≡ Some k → Taken f g x.0
     → Leaves leads ns x g h k → ReachedSoFar leads ns xs f ids → ReachedSoFar leads ns xs h (ids ++ x ∷ [])
 reached_next leads ns xs ids f g h x k at t u s = record {
   below = λ q e. elim (cases q e) [
@@ -147,20 +147,20 @@ reached_next leads ns xs ids f g h x k at t u s = record {
     ]
 
 -- what is left to be looked at is before the term
-pub next_less : (leads : Leads) (ns : List Node) (f g h : ℕ → Bool) (x : TermId) (k : Term) → Taken f g x.0 → Leaves leads ns x g h k → (q : ℕ) → h q ≡ true → q < x.0
+pub next_less : (leads : Leads) (ns : List TermNode) (f g h : ℕ → Bool) (x : TermId) (k : Term) → Taken f g x.0 → Leaves leads ns x g h k → (q : ℕ) → h q ≡ true → q < x.0
 next_less leads ns f g h x k t u q e = elim (or_cases (is_on (leads k) q) (g q) (sym (u.left q) ∙ e)) [
   | inl o ↦ on_below x.0 (leads k) q u.below o
   | inr r ↦ t.less q r
 ]
 
-go_on_end : (leads : Leads) (ns : List Node) (f : ℕ → Bool) (ids : List TermId) → ((q : ℕ) → f q ≡ false) → GoOn leads ns f ids → GoOn leads ns none_left ids
+go_on_end : (leads : Leads) (ns : List TermNode) (f : ℕ → Bool) (ids : List TermId) → ((q : ℕ) → f q ≡ false) → GoOn leads ns f ids → GoOn leads ns none_left ids
 go_on_end leads ns f [] n r = tt
 go_on_end leads ns f (x ∷ ids) n r = (
   λ k at. let o = r.0 k at in record { shown = o.shown; on = pass_more (λ i. is_on ids i || f i) (λ i. is_on ids i || false) (leads k) (λ i e. ap (λ b. is_on ids i || b) (sym (n i)) ∙ e) o.on },
   go_on_end leads ns f ids n r.1,
 )
 
-pub reached_end : (leads : Leads) (ns : List Node) (xs : List TermId) (f : ℕ → Bool) (ids : List TermId) → ((q : ℕ) → f q ≡ false) → ReachedSoFar leads ns xs f ids → AreReached leads ns xs ids
+pub reached_end : (leads : Leads) (ns : List TermNode) (xs : List TermId) (f : ℕ → Bool) (ids : List TermId) → ((q : ℕ) → f q ≡ false) → ReachedSoFar leads ns xs f ids → AreReached leads ns xs ids
 reached_end leads ns xs f ids n s = record {
   are_in = s.are_in;
   there = pass_more (λ i. is_on ids i || f i) (is_on ids) xs (λ i e. sym (ap (λ b. is_on ids i || b) (n i) ∙ or-false (is_on ids i)) ∙ e) s.there;
@@ -174,11 +174,11 @@ or_false : (a : Bool) → (a || false) ≡ true → a ≡ true
 or_false true e = refl
 or_false false e = e
 
-pub is_behind : (leads : Leads) (ns : List Node) (x : TermId) (more : List TermId) (k : Term) → GoesOn leads ns none_left x more k → AllPass (is_on more) (leads k)
+pub is_behind : (leads : Leads) (ns : List TermNode) (x : TermId) (more : List TermId) (k : Term) → GoesOn leads ns none_left x more k → AllPass (is_on more) (leads k)
 is_behind leads ns x more k o = pass_more (λ i. is_on more i || false) (is_on more) (leads k) (λ i e. or_false (is_on more i) e) o.on
 
 -- those to which the term at a place leads are behind it
-pub behind : (leads : Leads) (ns : List Node) (ids : List TermId) (j : ℕ) (d : TermId) (k : Term) → GoOn leads ns none_left ids → j < length ids → slice_get (terms_in ns) (get_or ids j d).0 ≡ Some k
+pub behind : (leads : Leads) (ns : List TermNode) (ids : List TermId) (j : ℕ) (d : TermId) (k : Term) → GoOn leads ns none_left ids → j < length ids → slice_get (terms_in ns) (get_or ids j d).0 ≡ Some k
     → AllPass (is_on (drop (suc j) ids)) (leads k)
 behind leads ns [] j d k g l at = absurd (omega arith)
 behind leads ns (x ∷ ids) zero d k g l at = is_behind leads ns x ids k (g.0 k at)

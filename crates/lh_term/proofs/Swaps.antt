@@ -25,7 +25,7 @@ use Rattle.lh_term.specs.declared.part.Part.{Part}
 use Rattle.lh_term.specs.declared.term.TermId.{TermId}
 use Rattle.lh_term.specs.declared.term.Term.{Term}
 use Rattle.lh_term.specs.declared.term.Term.TheVariants.{Op as Applied, Choice}
-use Rattle.lh_term.specs.declared.term.Node.{Node}
+use Rattle.lh_term.specs.declared.term.TermNode.{TermNode}
 use Rattle.lh_term.proofs.Arenas.{trees_grow, map_append, map_length, at_below}
 use Rattle.lh_term.proofs.Sound.{operation_sound, choice_sound}
 use Rattle.lh_term.proofs.Reaching.{on_at, on_below, behind}
@@ -90,10 +90,10 @@ from_count : (ts : List Tree) (xs : List Term) → length (trees_from ts xs) ≡
 from_count ts [] = omega arith
 from_count ts (x ∷ xs) = omega (arith, from_count (ts ++ term_tree ts x ∷ []) xs, length-append ts (term_tree ts x ∷ []))
 
-pub trees_count : (ns : List Node) → length (trees ns) ≡ length ns
-trees_count ns = omega (arith, from_count [] (terms_in ns), map_length (λ (n : Node). n.term) ns)
+pub trees_count : (ns : List TermNode) → length (trees ns) ≡ length ns
+trees_count ns = omega (arith, from_count [] (terms_in ns), map_length (λ (n : TermNode). n.term) ns)
 
-module _ (old cur : List Node) (g : Grows old cur) where
+module _ (old cur : List TermNode) (g : Grows old cur) where
   pub tree_grown : (a : TermId) → IsIn old a → tree_at (trees cur) a ≡ tree_at (trees old) a
   tree_grown a h =
       let (rest, e) = trees_grow old cur g in
@@ -117,17 +117,17 @@ module _ (old cur : List Node) (g : Grows old cur) where
   pub term_grown : (i : ℕ) (k : Term) → i < length old → slice_get (terms_in cur) i ≡ Some k → slice_get (terms_in old) i ≡ Some k
   term_grown i k h e =
       let (more, f) = g in
-      let T : Node → Term = λ (n : Node). n.term in
+      let T : TermNode → Term = λ (n : TermNode). n.term in
       let l : i < length (terms_in old) = omega (arith, map_length T old) in
       sym (get_below (terms_in old) (terms_in more) i l) ∙ ap (λ xs. slice_get xs i) (sym (map_append T old more) ∙ ap terms_in (sym f)) ∙ e
 
   pub stands_grown : (y : TermId) (z : Tree) → StandsForTree old y z → StandsForTree cur y z
   stands_grown y z s = record { is_in = in_grown y s.is_in; tree = tree_grown y s.is_in ∙ s.tree }
 
-pub grows_on : (a b c : List Node) → Grows a b → Grows b c → Grows a c
+pub grows_on : (a b c : List TermNode) → Grows a b → Grows b c → Grows a c
 grows_on a b c (m, e) (n, f) = (m ++ n, f ∙ ap (λ xs. xs ++ n) e ∙ append_assoc a m n)
 
-pub term_there : (ns : List Node) (i : ℕ) → i < length ns → (k : Term) × (slice_get (terms_in ns) i ≡ Some k)
+pub term_there : (ns : List TermNode) (i : ℕ) → i < length ns → (k : Term) × (slice_get (terms_in ns) i ≡ Some k)
 term_there [] i h = absurd (omega arith)
 term_there (n ∷ ns) zero h = (n.term, refl)
 term_there (n ∷ ns) (suc i) h = term_there ns i (omega arith)
@@ -135,26 +135,26 @@ term_there (n ∷ ns) (suc i) h = term_there ns i (omega arith)
 -- ---- what was made so far
 
 -- what was made for the term i
-pub record MadeAt (old cur : List Node) (by : List (TermId × TermId)) (made : ℕ → Option TermId) (i : ℕ) : Type 0 where
+pub record MadeAt (old cur : List TermNode) (by : List (TermId × TermId)) (made : ℕ → Option TermId) (i : ℕ) : Type 0 where
   pub id : TermId
   pub at : made i ≡ Some id
   pub stands : StandsForTree cur id (swapped (pairs_at old by) (tree_at (trees old) (record { 0 = i })))
 
-pub record Making (old cur : List Node) (by : List (TermId × TermId)) (made : ℕ → Option TermId) (done : List TermId) : Type 0 where
+pub record Making (old cur : List TermNode) (by : List (TermId × TermId)) (made : ℕ → Option TermId) (done : List TermId) : Type 0 where
   pub grows : Grows old cur
   pub each : (i : ℕ) → is_on done i ≡ true → MadeAt old cur by made i
 
-pub making_start : (old : List Node) (by : List (TermId × TermId)) (made : ℕ → Option TermId) (ids : List TermId) (k : ℕ) → length ids ≤ k → Making old old by made (drop k ids)
+pub making_start : (old : List TermNode) (by : List (TermId × TermId)) (made : ℕ → Option TermId) (ids : List TermId) (k : ℕ) → length ids ≤ k → Making old old by made (drop k ids)
 making_start old by made ids k l = subst (λ (xs : List TermId). Making old old by made xs) (sym (drop_of_length-le ids l)) (record { grows = ([], sym (append-nil old)); each = λ i o. cc })
 
-pub same_swapped : (old cur : List Node) → Grows old cur → (by : List (TermId × TermId)) → PairsIn old by → (t : TermId) → IsIn old t
+pub same_swapped : (old cur : List TermNode) → Grows old cur → (by : List (TermId × TermId)) → PairsIn old by → (t : TermId) → IsIn old t
     → swapped (pairs_at cur by) (tree_at (trees cur) t) ≡ swapped (pairs_at old by) (tree_at (trees old) t)
 same_swapped old cur g by p t h =
     let e = pairs_grown old cur g by p in
     let f = tree_grown old cur g t h in
     λ k. swapped (e k) (f k)
 
-module _ (old cur : List Node) (by : List (TermId × TermId)) (made : ℕ → Option TermId) (done : List TermId) (m : Making old cur by made done) (p : PairsIn old by) where
+module _ (old cur : List TermNode) (by : List (TermId × TermId)) (made : ℕ → Option TermId) (done : List TermId) (m : Making old cur by made done) (p : PairsIn old by) where
   all_made : (xs : List TermId) → ids_below (length old) done ≡ true → AllPass (is_on done) xs → AllMade cur (pairs_at cur by) made xs
   all_made [] i h = tt
   all_made (x ∷ xs) i h =
@@ -163,7 +163,7 @@ module _ (old cur : List Node) (by : List (TermId × TermId)) (made : ℕ → Op
       (a.id, a.at, subst (λ (t : Tree). StandsForTree cur a.id t) (sym (same_swapped old cur m.grows by p x l)) a.stands, all_made xs i h.1)
 
 -- a turn of the substitution: the last term for which nothing was made yet
-module _ (old cur : List Node) (by : List (TermId × TermId)) (made : ℕ → Option TermId) (t : TermId) (ids : List TermId) (k : ℕ) (d : TermId) (m : Making old cur by made (drop k ids))
+module _ (old cur : List TermNode) (by : List (TermId × TermId)) (made : ℕ → Option TermId) (t : TermId) (ids : List TermId) (k : ℕ) (d : TermId) (m : Making old cur by made (drop k ids))
     (r : AreReached operands_of old (t ∷ []) ids) (p : PairsIn old by) (s : AreSwaps (pairs_at old by)) (h : 0 < k) (l : k ≤ length ids) where
   abbrev x : TermId
   x = get_or ids (k - 1) d
@@ -196,7 +196,7 @@ module _ (old cur : List Node) (by : List (TermId × TermId)) (made : ℕ → Op
       below_drop n (x ∷ xs) zero e = e
       below_drop n (x ∷ xs) (suc i) e = below_drop n xs i (second_so (nat_lt x.0 n) (ids_below n xs) e)
 
-  pub turn_next : (new : List Node) (y : TermId) (more : ℕ → Option TermId) → Grows cur new → StandsForTree new y (swapped (pairs_at cur by) (tree_at (trees cur) (get_or ids (k - 1) d)))
+  pub turn_next : (new : List TermNode) (y : TermId) (more : ℕ → Option TermId) → Grows cur new → StandsForTree new y (swapped (pairs_at cur by) (tree_at (trees cur) (get_or ids (k - 1) d)))
       → ((q : ℕ) → more q ≡ (if nat_eq (get_or ids (k - 1) d).0 q then Some y else made q)) → Making old new by more (drop (k - 1) ids)
   turn_next new y more g e u = subst (λ (xs : List TermId). Making old new by more xs) (sym cut) (record {
     grows = grows_on old cur new m.grows g;
@@ -224,11 +224,11 @@ module _ (old cur : List Node) (by : List (TermId × TermId)) (made : ℕ → Op
             record { id = a.id; at = u i ∙ ap (λ (b : Bool). if b then Some y else made i) q ∙ a.at; stands = stands_grown cur new g a.id (swapped (pairs_at old by) (tree_at (trees old) (record { 0 = i }))) a.stands }
       ]
 
-pub record LastMade (old cur : List Node) (by : List (TermId × TermId)) (made : ℕ → Option TermId) (t : TermId) : Type 0 where
+pub record LastMade (old cur : List TermNode) (by : List (TermId × TermId)) (made : ℕ → Option TermId) (t : TermId) : Type 0 where
   pub there : is_some (made t.0) ≡ true
   pub stands : (y : TermId) → made t.0 ≡ Some y → StandsForTree cur y (swapped (pairs_at old by) (tree_at (trees old) t))
 
-pub turn_last : (old cur : List Node) (by : List (TermId × TermId)) (made : ℕ → Option TermId) (t : TermId) (ids : List TermId) (k : ℕ) → Making old cur by made (drop k ids)
+pub turn_last : (old cur : List TermNode) (by : List (TermId × TermId)) (made : ℕ → Option TermId) (t : TermId) (ids : List TermId) (k : ℕ) → Making old cur by made (drop k ids)
     → AreReached operands_of old (t ∷ []) ids → k ≡ 0 → LastMade old cur by made t
 turn_last old cur by made t ids k m r z =
     let a = m.each t.0 (ap (λ n. is_on (drop n ids) t.0) z ∙ r.there.0) in
@@ -244,7 +244,7 @@ row_map : (by : List (Tree × Tree)) (ts : List Tree) → swapped_row by (tree_r
 row_map by [] = refl
 row_map by (t ∷ ts) = ap (λ r. swapped by t ∷ r) (row_map by ts)
 
-made_trees : (ns : List Node) (by : List (Tree × Tree)) (made : ℕ → Option TermId) (xs ys : List TermId) → AllMade ns by made xs → MadeFor made xs ys → (ids_below (length ns) ys ≡ true)
+made_trees : (ns : List TermNode) (by : List (Tree × Tree)) (made : ℕ → Option TermId) (xs ys : List TermId) → AllMade ns by made xs → MadeFor made xs ys → (ids_below (length ns) ys ≡ true)
     × (trees_at ns ys ≡ map (swapped by) (trees_at ns xs))
 made_trees ns by made [] [] a f = (refl, refl)
 made_trees ns by made [] (y ∷ ys) a f = absurd f
@@ -262,12 +262,12 @@ made_trees ns by made (x ∷ xs) (y ∷ ys) a f =
     ids_cons : (k : ℕ) (z : TermId) (zs : List TermId) → nat_lt z.0 k ≡ true → ids_below k zs ≡ true → ids_below k (z ∷ zs) ≡ true
     ids_cons k z zs p q = ap (λ b. b && ids_below k zs) p ∙ q
 
-pub made_there : (ns : List Node) (by : List (Tree × Tree)) (made : ℕ → Option TermId) (xs : List TermId) → AllMade ns by made xs → AreMade made xs
+pub made_there : (ns : List TermNode) (by : List (Tree × Tree)) (made : ℕ → Option TermId) (xs : List TermId) → AllMade ns by made xs → AreMade made xs
 made_there ns by made [] a = tt
 made_there ns by made (x ∷ xs) a = (ap is_some a.1, made_there ns by made xs a.3)
 
 -- an operation on what was made in place of its operands
-module _ (ns : List Node) (by : List (Tree × Tree)) (s : AreSwaps by) (d : SecondsTyped by) (x : TermId) (op : Op) (xs ys : List TermId) (made : ℕ → Option TermId)
+module _ (ns : List TermNode) (by : List (Tree × Tree)) (s : AreSwaps by) (d : SecondsTyped by) (x : TermId) (op : Op) (xs ys : List TermId) (made : ℕ → Option TermId)
     (shown : operation_on op (trees_at ns xs) ≡ tree_at (trees ns) x) (h : IsTyped (tree_at (trees ns) x)) (a : AllMade ns by made xs) (f : MadeFor made xs ys) where
   typed_op : IsTyped (operation_on op (trees_at ns xs))
   typed_op = let P : Tree → Type 0 = IsTyped in subst P (sym shown) h
@@ -288,7 +288,7 @@ module _ (ns : List Node) (by : List (Tree × Tree)) (s : AreSwaps by) (d : Seco
   op_made = ap (make_operation op) made_row ∙ ap (swapped by) shown
 
 -- a choice of what was made in place of its operands
-module _ (ns : List Node) (by : List (Tree × Tree)) (s : AreSwaps by) (d : SecondsTyped by) (x c f t : TermId) (made : ℕ → Option TermId)
+module _ (ns : List TermNode) (by : List (Tree × Tree)) (s : AreSwaps by) (d : SecondsTyped by) (x c f t : TermId) (made : ℕ → Option TermId)
     (shown : choice_of (tree_at (trees ns) c) (tree_at (trees ns) f) (tree_at (trees ns) t) ≡ tree_at (trees ns) x) (h : IsTyped (tree_at (trees ns) x)) (a : AllMade ns by made (c ∷ f ∷ t ∷ []))
     (u v w : TermId) (eu : made c.0 ≡ Some u) (ev : made f.0 ≡ Some v) (ew : made t.0 ≡ Some w) where
   typed_choice : IsTyped (choice_of (tree_at (trees ns) c) (tree_at (trees ns) f) (tree_at (trees ns) t))
@@ -327,19 +327,19 @@ module _ (ns : List Node) (by : List (Tree × Tree)) (s : AreSwaps by) (d : Seco
   choice_made = (λ i. make_choice (choice_c i) (choice_f i) (choice_t i)) ∙ ap (swapped by) shown
 
 -- terms that have no operands
-pub stays : (ns : List Node) (by : List (Tree × Tree)) (x : TermId) (v : Val) → IsIn ns x → constant (datum_of v) ≡ tree_at (trees ns) x → StandsForTree ns x (swapped by (tree_at (trees ns) x))
+pub stays : (ns : List TermNode) (by : List (Tree × Tree)) (x : TermId) (v : Val) → IsIn ns x → constant (datum_of v) ≡ tree_at (trees ns) x → StandsForTree ns x (swapped by (tree_at (trees ns) x))
 stays ns by x v i e = record { is_in = i; tree = sym e ∙ ap (swapped by) e }
 
-pub past_made : (ns : List Node) (by : List (Tree × Tree)) (x y : TermId) (p : Part) → past_of p ≡ tree_at (trees ns) x → StandsForTree ns y (replaced by (tree_at (trees ns) x))
+pub past_made : (ns : List TermNode) (by : List (Tree × Tree)) (x y : TermId) (p : Part) → past_of p ≡ tree_at (trees ns) x → StandsForTree ns y (replaced by (tree_at (trees ns) x))
     → StandsForTree ns y (swapped by (tree_at (trees ns) x))
 past_made ns by x y p e h = let P : Tree → Type 0 = λ z. StandsForTree ns y (replaced by z) → StandsForTree ns y (swapped by z) in subst P e (λ k. k) h
 
-pub now_made : (ns : List Node) (by : List (Tree × Tree)) (x y : TermId) (p : Part) → now_of p ≡ tree_at (trees ns) x → StandsForTree ns y (replaced by (tree_at (trees ns) x))
+pub now_made : (ns : List TermNode) (by : List (Tree × Tree)) (x y : TermId) (p : Part) → now_of p ≡ tree_at (trees ns) x → StandsForTree ns y (replaced by (tree_at (trees ns) x))
     → StandsForTree ns y (swapped by (tree_at (trees ns) x))
 now_made ns by x y p e h = let P : Tree → Type 0 = λ z. StandsForTree ns y (replaced by z) → StandsForTree ns y (swapped by z) in subst P e (λ k. k) h
 
 -- the terms that take places are typed, as every term of the arena
-pub seconds_typed : (ns : List Node) → AllTyped ns → (by : List (TermId × TermId)) → PairsIn ns by → SecondsTyped (pairs_at ns by)
+pub seconds_typed : (ns : List TermNode) → AllTyped ns → (by : List (TermId × TermId)) → PairsIn ns by → SecondsTyped (pairs_at ns by)
 seconds_typed ns a [] h = tt
 seconds_typed ns a (p ∷ ps) h = (a p.1 h.1, seconds_typed ns a ps h.2)
 
@@ -378,7 +378,7 @@ pub rename_last : (made : ℕ → Option TermId) (xs to : List TermId) → Renam
 rename_last made xs to r = let P : List TermId → Type 0 = λ ys. MadeFor made ys to in subst P (sym (append-nil r.done) ∙ r.split) r.names
 
 -- an answer of want of memory or a term, taken over
-pub if_ok_stands : {E : Type 0} (q : Result TermId E) (new : List Node) (x z : Tree) → ((y : TermId) → StandsForTree new y x → StandsForTree new y z) → IfOk q (λ y. StandsForTree new y x)
+pub if_ok_stands : {E : Type 0} (q : Result TermId E) (new : List TermNode) (x z : Tree) → ((y : TermId) → StandsForTree new y x → StandsForTree new y z) → IfOk q (λ y. StandsForTree new y x)
     → IfOk q (λ y. StandsForTree new y z)
 if_ok_stands (Ok y) new x z f h = f y h
 if_ok_stands (Err e) new x z f h = h
@@ -406,19 +406,19 @@ rename_next_at made xs (x ∷ q) to more d y r h e m =
 
 -- ---- what is remade, as the code takes the term apart
 
-pub record OpFacts (ns : List Node) (by : List (Tree × Tree)) (x : TermId) (op : Op) (ys : List TermId) : Type 0 where
+pub record OpFacts (ns : List TermNode) (by : List (Tree × Tree)) (x : TermId) (op : Op) (ys : List TermId) : Type 0 where
   pub within : ids_below (length ns) ys ≡ true
   pub takes : TakesTypes op (types_of (tree_row (trees_at ns ys)))
   pub made : make_operation op (trees_at ns ys) ≡ swapped by (tree_at (trees ns) x)
 
-pub record ChoiceFacts (ns : List Node) (by : List (Tree × Tree)) (x u v w : TermId) : Type 0 where
+pub record ChoiceFacts (ns : List TermNode) (by : List (Tree × Tree)) (x u v w : TermId) : Type 0 where
   pub c_in : u.0 < length ns
   pub f_in : v.0 < length ns
   pub t_in : w.0 < length ns
   pub fits : Chooses (type_of (tree_at (trees ns) u)) (type_of (tree_at (trees ns) v)) (type_of (tree_at (trees ns) w))
   pub made : make_choice (tree_at (trees ns) u) (tree_at (trees ns) v) (tree_at (trees ns) w) ≡ swapped by (tree_at (trees ns) x)
 
-module _ (ns : List Node) (by : List (Tree × Tree)) (x : TermId) (k : Term) (made : ℕ → Option TermId) (term : slice_get (terms_in ns) x.0 ≡ Some k) (operands : OperandsMade ns by x made) where
+module _ (ns : List TermNode) (by : List (Tree × Tree)) (x : TermId) (k : Term) (made : ℕ → Option TermId) (term : slice_get (terms_in ns) x.0 ≡ Some k) (operands : OperandsMade ns by x made) where
   all_of : (l : Term) → k ≡ l → AllMade ns by made (operands_of l)
   all_of l e = let P : Term → Type 0 = λ m. AllMade ns by made (operands_of m) in subst P e (operands k term)
 
@@ -458,5 +458,5 @@ module _ (ns : List Node) (by : List (Tree × Tree)) (x : TermId) (k : Term) (ma
         made = choice_made ns by s d x c f t made at h a u v w eu ev ew;
       }
 
-pub if_ok_along : {E : Type 0} (q : Result TermId E) (new : List Node) (x z : Tree) → x ≡ z → IfOk q (λ y. StandsForTree new y x) → IfOk q (λ y. StandsForTree new y z)
+pub if_ok_along : {E : Type 0} (q : Result TermId E) (new : List TermNode) (x z : Tree) → x ≡ z → IfOk q (λ y. StandsForTree new y x) → IfOk q (λ y. StandsForTree new y z)
 if_ok_along q new x z e h = let P : Tree → Type 0 = λ w. IfOk q (λ y. StandsForTree new y w) in subst P e h

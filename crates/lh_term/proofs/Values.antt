@@ -9,7 +9,7 @@ use Rattle.lh_term.specs.Tree.{tree_row}
 use Rattle.lh_term.specs.Types.{value_type, first_type, value_types, type_in_row, types_of}
 use Rattle.lh_term.specs.Arena.{trees_at}
 use Rattle.lh_term.specs.declared.term.TermId.{TermId}
-use Rattle.lh_term.specs.declared.term.Node.{Node}
+use Rattle.lh_term.specs.declared.term.TermNode.{TermNode}
 
 pub row_index : (ts : List TypeTree) (k : ℕ) (d : TypeTree) → k < length ts → slice_index_or ts k d ≡ type_in_row (row_of ts) k
 row_index [] k d h = absurd (omega arith)
@@ -36,7 +36,7 @@ array_of (w ∷ vs) v e =
 pub if_ok_eq : {E : Type 0} (r : Result TypeTree E) (u v : TypeTree) → u ≡ v → IfOk r (λ t. t ≡ u) → IfOk r (λ t. t ≡ v)
 if_ok_eq r u v e h = let P : TypeTree → Type 0 = λ w. IfOk r (λ t. t ≡ w) in subst P e h
 
-pub types_length : (ns : List Node) (xs : List TermId) → length (types_of (tree_row (trees_at ns xs))) ≡ length xs
+pub types_length : (ns : List TermNode) (xs : List TermId) → length (types_of (tree_row (trees_at ns xs))) ≡ length xs
 types_length ns [] = refl
 types_length ns (x ∷ xs) = omega (arith, types_length ns xs)
 

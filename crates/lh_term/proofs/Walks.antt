@@ -16,7 +16,7 @@ use Rattle.lh_term.specs.Arena.{tree_at, trees, trees_at, ids_below, IsIn, OneId
 use Rattle.lh_term.specs.Conjuncts.{all_conjuncts, joined_conjuncts, with_term, with_terms, conjuncts_of}
 use Rattle.lh_term.specs.Found.{one_conjunct, FindsJoined, and_operands}
 use Rattle.lh_term.specs.declared.term.TermId.{TermId}
-use Rattle.lh_term.specs.declared.term.Node.{Node}
+use Rattle.lh_term.specs.declared.term.TermNode.{TermNode}
 use Rattle.lh_term.specs.SameTerm.{same_id}
 use Rattle.std.proofs.lemmas.Grind.{common_steps}
 use Rattle.std.proofs.lemmas.Bool.{or_left, or_right, or_cases, and_from}
@@ -100,7 +100,7 @@ lower z [] = []
 lower z (x ∷ xs) = if nat_lt x.0 z then x ∷ lower z xs else []
 
 -- what holds on the walk: s are the terms still to be looked at, the next first
-pub record Walk (ns : List Node) (t : TermId) (seen : List Bool) (found s : List TermId) : Type 0 where
+pub record Walk (ns : List TermNode) (t : TermId) (seen : List Bool) (found s : List TermId) : Type 0 where
   pub length_is : length seen ≡ t.0 + 1
   pub open_in : ids_below (t.0 + 1) s ≡ true
   pub found_in : ids_below (t.0 + 1) found ≡ true
@@ -212,7 +212,7 @@ set_again (true ∷ xs) zero e = refl
 set_again (false ∷ xs) zero e = cc
 set_again (b ∷ xs) (suc i) e = ap (λ l. b ∷ l) (set_again xs i e)
 
-pub marked_so : (ns : List Node) (t : TermId) (seen new : List Bool) (found s : List TermId) → new ≡ seen → Walk ns t seen found s → Walk ns t new found s
+pub marked_so : (ns : List TermNode) (t : TermId) (seen new : List Bool) (found s : List TermId) → new ≡ seen → Walk ns t seen found s → Walk ns t new found s
 marked_so ns t seen new found s e w = let P : List Bool → Type 0 = λ f. Walk ns t f found s in subst P (sym e) w
 
 ids_push : (k : ℕ) (xs : List TermId) (x : TermId) → ids_below k xs ≡ true → nat_lt x.0 k ≡ true → ids_below k (xs ++ x ∷ []) ≡ true
@@ -263,7 +263,7 @@ split_up ts F Z z x a b r p q j false e c =
     let old = in_front ts z x r false e in
     sub_trans Z F (F ++ flats ts (lower z (a ∷ b ∷ r))) (sub_into Z _ _ (ap (λ m. F ++ m) old ∙ append-nil F) c) (sub_left F (flats ts (lower z (a ∷ b ∷ r))))
 
-module _ (ns : List Node) (t : TermId) (seen : List Bool) (found : List TermId) (x : TermId) (r : List TermId) (w : Walk ns t seen found (x ∷ r)) where
+module _ (ns : List TermNode) (t : TermId) (seen : List Bool) (found : List TermId) (x : TermId) (r : List TermId) (w : Walk ns t seen found (x ∷ r)) where
   here_in : nat_lt x.0 (t.0 + 1) ≡ true
   here_in = first_so (nat_lt x.0 (t.0 + 1)) (ids_below (t.0 + 1) r) w.open_in
 
@@ -396,7 +396,7 @@ pub replicate_length : (n : ℕ) → length (replicate n false) ≡ n
 replicate_length zero = refl
 replicate_length (suc n) = ap suc (replicate_length n)
 
-pub walk_start : (ns : List Node) (t : TermId) → Walk ns t (replicate (t.0 + 1) false) [] (t ∷ [])
+pub walk_start : (ns : List TermNode) (t : TermId) → Walk ns t (replicate (t.0 + 1) false) [] (t ∷ [])
 walk_start ns t =
     let n = t.0 + 1 in
     record {
@@ -421,7 +421,7 @@ id_below k (y ∷ xs) zero x h e = let q : y ≡ x = cc in let P : TermId → Ty
 id_below k (y ∷ xs) (suc i) x h e = id_below k xs i x (second_so (nat_lt y.0 k) (ids_below k xs) h) e
 
 -- a term whose flag is not set is not found yet
-pub not_found : (ns : List Node) (t : TermId) (seen : List Bool) (found : List TermId) (x : TermId) (r : List TermId) → Walk ns t seen found (x ∷ r) → OneId ns → IsIn ns t
+pub not_found : (ns : List TermNode) (t : TermId) (seen : List Bool) (found : List TermId) (x : TermId) (r : List TermId) → Walk ns t seen found (x ∷ r) → OneId ns → IsIn ns t
     → slice_get seen x.0 ≡ Some false → list_any (same_tree (tree_at (trees ns) x)) (map (tree_at (trees ns)) found) ≡ false
 not_found ns t seen found x r w apart h e = by (list_any (same_tree (tree_at (trees ns) x)) (map (tree_at (trees ns)) found)) refl
   where
@@ -450,7 +450,7 @@ joined_and q a e =
     ap (λ b. if b then all_conjuncts q ++ (all_conjuncts a ++ []) else operation_on And (q ∷ a ∷ []) ∷ []) e ∙ ap (λ m. all_conjuncts q ++ m) (append-nil (all_conjuncts a))
 
 -- `and` has two operands
-finds_joined : (ns : List Node) (x : TermId) (op : Op) (xs : List TermId) → ids_below x.0 xs ≡ true → IsTyped (operation_on op (map (tree_at (trees ns)) xs))
+finds_joined : (ns : List TermNode) (x : TermId) (op : Op) (xs : List TermId) → ids_below x.0 xs ≡ true → IsTyped (operation_on op (map (tree_at (trees ns)) xs))
     → same_type (type_of (operation_on op (map (tree_at (trees ns)) xs))) (int_type 1) ≡ true → FindsJoined ns x (and_operands op xs) (operation_on op (map (tree_at (trees ns)) xs))
 finds_joined ns x And [] h t e = let k = t.1.row.1 in cc
 finds_joined ns x And (q ∷ []) h t e = let k = t.1.row.1 in cc
@@ -462,7 +462,7 @@ finds_joined ns x And (q ∷ a ∷ []) h t e = (
 finds_joined ns x And (q ∷ a ∷ b ∷ xs) h t e = let k = t.1.row.1 in cc
 finds_joined ns x op xs h t e = refl
 
-pub joined_at : (ns : List Node) (x : TermId) (op : Op) (xs : List TermId) → operation_on op (map (tree_at (trees ns)) xs) ≡ tree_at (trees ns) x → ids_below x.0 xs ≡ true
+pub joined_at : (ns : List TermNode) (x : TermId) (op : Op) (xs : List TermId) → operation_on op (map (tree_at (trees ns)) xs) ≡ tree_at (trees ns) x → ids_below x.0 xs ≡ true
     → IsTyped (tree_at (trees ns) x) → same_type (type_of (tree_at (trees ns) x)) (int_type 1) ≡ true → FindsJoined ns x (and_operands op xs) (tree_at (trees ns) x)
 joined_at ns x op xs e h t s =
     let P : Tree → Type 0 = λ y. IsTyped y → same_type (type_of y) (int_type 1) ≡ true → FindsJoined ns x (and_operands op xs) y in
@@ -470,27 +470,27 @@ joined_at ns x op xs e h t s =
 
 -- ---- a turn of the loop, by the lists that it keeps
 
-pub start_at : (ns : List Node) (t : TermId) (seen : List Bool) (found items : List TermId) → seen ≡ replicate (t.0 + 1) false → found ≡ [] → items ≡ t ∷ [] → Walk ns t seen found (tops items)
+pub start_at : (ns : List TermNode) (t : TermId) (seen : List Bool) (found items : List TermId) → seen ≡ replicate (t.0 + 1) false → found ≡ [] → items ≡ t ∷ [] → Walk ns t seen found (tops items)
 start_at ns t seen found items p q r =
     let P : List Bool → Type 0 = λ f. Walk ns t f found (tops items) in
     let Q : List TermId → Type 0 = λ k. Walk ns t (replicate (t.0 + 1) false) k (tops items) in
     let R : List TermId → Type 0 = λ k. Walk ns t (replicate (t.0 + 1) false) [] (tops k) in
     subst P (sym p) (subst Q (sym q) (subst R (sym r) (walk_start ns t)))
 
-pub popped : (ns : List Node) (t : TermId) (seen : List Bool) (found items left : List TermId) (x : TermId) → items ≡ left ++ x ∷ [] → Walk ns t seen found (tops items)
+pub popped : (ns : List TermNode) (t : TermId) (seen : List Bool) (found items left : List TermId) (x : TermId) → items ≡ left ++ x ∷ [] → Walk ns t seen found (tops items)
     → Walk ns t seen found (x ∷ tops left)
 popped ns t seen found items left x p w = let P : List TermId → Type 0 = λ s. Walk ns t seen found s in subst P (ap tops p ∙ tops_push left x) w
 
-pub open_within : (ns : List Node) (t : TermId) (seen : List Bool) (found : List TermId) (x : TermId) (r : List TermId) → Walk ns t seen found (x ∷ r) → x.0 < t.0 + 1
+pub open_within : (ns : List TermNode) (t : TermId) (seen : List Bool) (found : List TermId) (x : TermId) (r : List TermId) → Walk ns t seen found (x ∷ r) → x.0 < t.0 + 1
 open_within ns t seen found x r w = ltb-true x.0 (t.0 + 1) (here_in ns t seen found x r w)
 
-pub two_more : (ns : List Node) (t : TermId) (seen : List Bool) (found left more all : List TermId) (a b : TermId) → more ≡ left ++ b ∷ [] → all ≡ more ++ a ∷ []
+pub two_more : (ns : List TermNode) (t : TermId) (seen : List Bool) (found left more all : List TermId) (a b : TermId) → more ≡ left ++ b ∷ [] → all ≡ more ++ a ∷ []
     → Walk ns t seen found (a ∷ b ∷ tops left) → Walk ns t seen found (tops all)
 two_more ns t seen found left more all a b p q w =
     let P : List TermId → Type 0 = λ s. Walk ns t seen found s in
     subst P (sym (ap tops q ∙ tops_push more a ∙ ap (λ r. a ∷ r) (ap tops p ∙ tops_push left b))) w
 
-pub one_found : (ns : List Node) (t : TermId) (seen : List Bool) (found more s : List TermId) (x : TermId) → more ≡ found ++ x ∷ [] → Walk ns t seen (found ++ x ∷ []) s → Walk ns t seen more s
+pub one_found : (ns : List TermNode) (t : TermId) (seen : List Bool) (found more s : List TermId) (x : TermId) → more ≡ found ++ x ∷ [] → Walk ns t seen (found ++ x ∷ []) s → Walk ns t seen more s
 one_found ns t seen found more s x p w = let P : List TermId → Type 0 = λ k. Walk ns t seen k s in subst P (sym p) w
 
 pub fewer : (seen : List Bool) (x : TermId) (items left : List TermId) → slice_get seen x.0 ≡ Some false → items ≡ left ++ x ∷ []
@@ -506,6 +506,6 @@ pub none_left : (xs : List TermId) → length xs ≡ 0 → xs ≡ []
 none_left [] e = refl
 none_left (x ∷ xs) e = absurd (omega arith)
 
-pub walk_ends : (ns : List Node) (t : TermId) (seen : List Bool) (found items : List TermId) → length items ≡ 0 → Walk ns t seen found (tops items)
+pub walk_ends : (ns : List TermNode) (t : TermId) (seen : List Bool) (found items : List TermId) → length items ≡ 0 → Walk ns t seen found (tops items)
     → trees_at ns found ≡ conjuncts_of (tree_at (trees ns) t)
 walk_ends ns t seen found items e w = let P : List TermId → Type 0 = λ k. Walk ns t seen found (tops k) in let v = subst P (none_left items e) w in v.goes

@@ -8,7 +8,7 @@ use Rattle.lh_term.specs.Types.{IsTyped, type_of}
 use Rattle.lh_term.specs.declared.term.TermId.{TermId}
 use Rattle.lh_term.specs.declared.term.Term.{Term}
 use Rattle.lh_term.specs.declared.term.Term.TheVariants.{Konst, Past, Now, Op as Applied, Choice}
-use Rattle.lh_term.specs.declared.term.Node.{Node}
+use Rattle.lh_term.specs.declared.term.TermNode.{TermNode}
 
 -- the tree at an id
 abbrev pub tree_at : List Tree → TermId → Tree
@@ -27,11 +27,11 @@ abbrev pub trees_from : List Tree → List Term → List Tree
 trees_from ts [] = ts
 trees_from ts (x ∷ xs) = trees_from (ts ++ term_tree ts x ∷ []) xs
 
-abbrev pub terms_in : List Node → List Term
+abbrev pub terms_in : List TermNode → List Term
 terms_in ns = map (λ n. n.term) ns
 
 -- the trees of an arena, by their ids
-abbrev pub trees : List Node → List Tree
+abbrev pub trees : List TermNode → List Tree
 trees ns = trees_from [] (terms_in ns)
 
 -- the id is one of the first k
@@ -57,40 +57,40 @@ abbrev pub StandsOnce : List Term → Type 0
 StandsOnce xs = (i j : ℕ) (x : Term) → slice_get xs i ≡ Some x → slice_get xs j ≡ Some x → i ≡ j
 
 -- the node's operands fit, and its type is the term's
-abbrev pub IsTypedNode : List Tree → Node → Type 0
+abbrev pub IsTypedNode : List Tree → TermNode → Type 0
 IsTypedNode ts n = IsTyped (term_tree ts n.term) × (n.ty ≡ type_of (term_tree ts n.term))
 
 -- ids rise from the leaves, no term stands twice, and each is typed
-pub record IsArena (ns : List Node) : Type 0 where
+pub record IsArena (ns : List TermNode) : Type 0 where
   pub below : all_below 0 (terms_in ns) ≡ true
   pub once : StandsOnce (terms_in ns)
-  pub typed : (i : ℕ) (n : Node) → slice_get ns i ≡ Some n → IsTypedNode (trees ns) n
+  pub typed : (i : ℕ) (n : TermNode) → slice_get ns i ≡ Some n → IsTypedNode (trees ns) n
 
 -- the id is one of the arena
-abbrev pub IsIn : List Node → TermId → Type 0
+abbrev pub IsIn : List TermNode → TermId → Type 0
 IsIn ns t = t.0 < length ns
 
 -- each id is one of the arena
-abbrev pub AreIn : List Node → List TermId → Type 0
+abbrev pub AreIn : List TermNode → List TermId → Type 0
 AreIn ns ts = ids_below (length ns) ts ≡ true
 
 -- the trees of ids
-abbrev pub trees_at : List Node → List TermId → List Tree
+abbrev pub trees_at : List TermNode → List TermId → List Tree
 trees_at ns ts = map (tree_at (trees ns)) ts
 
 -- the id is one of the arena, and stands for the tree
-pub record StandsForTree (ns : List Node) (t : TermId) (x : Tree) : Type 0 where
+pub record StandsForTree (ns : List TermNode) (t : TermId) (x : Tree) : Type 0 where
   pub is_in : IsIn ns t
   pub tree : tree_at (trees ns) t ≡ x
 
 -- two ids of one tree are one
-abbrev pub OneId : List Node → Type 0
+abbrev pub OneId : List TermNode → Type 0
 OneId ns = (x y : TermId) → IsIn ns x → IsIn ns y → tree_at (trees ns) x ≡ tree_at (trees ns) y → x ≡ y
 
 -- every term is typed
-abbrev pub AllTyped : List Node → Type 0
+abbrev pub AllTyped : List TermNode → Type 0
 AllTyped ns = (x : TermId) → IsIn ns x → IsTyped (tree_at (trees ns) x)
 
 -- terms were added, and those that were there keep their ids
-abbrev pub Grows : List Node → List Node → Type 0
-Grows old new = (more : List Node) × (new ≡ old ++ more)
+abbrev pub Grows : List TermNode → List TermNode → Type 0
+Grows old new = (more : List TermNode) × (new ≡ old ++ more)

@@ -7,7 +7,7 @@ use Rattle.lh_types.specs.ValueOf.{datum_of}
 use Rattle.lh_term.specs.declared.term.TermId.{TermId}
 use Rattle.lh_term.specs.declared.term.Term.{Term}
 use Rattle.lh_term.specs.declared.term.Term.TheVariants.{Konst, Past, Now, Op as Applied, Choice}
-use Rattle.lh_term.specs.declared.term.Node.{Node}
+use Rattle.lh_term.specs.declared.term.TermNode.{TermNode}
 use Rattle.lh_term.specs.Parts.{extent_of}
 use Rattle.lh_term.specs.Same.{op_tag, op_first, op_second}
 use Rattle.lh_term.specs.SameTerm.{same_term, same_term-is}
@@ -40,5 +40,5 @@ fed_term (Now p) = (fed.u32 p.lo ++ fed.u32 p.arg) ++ fed.u32 (extent_of p.ty)
 fed_term (Applied op args) = ((fed.u8 (op_tag op) ++ fed.u32 (op_first op)) ++ fed.u32 (op_second op)) ++ fed.slice fed_id args
 fed_term (Choice c f t) = (fed_id c ++ fed_id f) ++ fed_id t
 
-pub fed_alike : (m n : Node) → same_node m n ≡ true → fed_term m.term ≡ fed_term n.term
+pub fed_alike : (m n : TermNode) → same_node m n ≡ true → fed_term m.term ≡ fed_term n.term
 fed_alike m n e = ap fed_term (same_term-is m.term n.term e)

@@ -7,7 +7,7 @@ use Rattle.lh_term.specs.Subst.{swapped}
 use Rattle.lh_term.specs.declared.term.TermId.{TermId}
 use Rattle.lh_term.specs.declared.term.Term.{Term}
 use Rattle.lh_term.specs.declared.term.Term.TheVariants.{Konst, Past, Now, Op as Applied, Choice}
-use Rattle.lh_term.specs.declared.term.Node.{Node}
+use Rattle.lh_term.specs.declared.term.TermNode.{TermNode}
 
 -- the operands of a term
 abbrev pub operands_of : Term → List TermId
@@ -32,18 +32,18 @@ AllPass f [] = Unit {0}
 AllPass f (x ∷ xs) = (f x.0 ≡ true) × AllPass f xs
 
 -- the terms to which x, whose term is k, leads were left to be looked at; they are before it
-pub record Leaves (leads : Leads) (ns : List Node) (x : TermId) (old new : ℕ → Bool) (k : Term) : Type 0 where
+pub record Leaves (leads : Leads) (ns : List TermNode) (x : TermId) (old new : ℕ → Bool) (k : Term) : Type 0 where
   pub shown : term_tree (trees ns) k ≡ tree_at (trees ns) x
   pub below : ids_below x.0 (leads k) ≡ true
   pub left : (q : ℕ) → new q ≡ (is_on (leads k) q || old q)
 
 -- k is the term of x, and those to which it leads are among more, or are still to be looked at
-pub record GoesOn (leads : Leads) (ns : List Node) (left : ℕ → Bool) (x : TermId) (more : List TermId) (k : Term) : Type 0 where
+pub record GoesOn (leads : Leads) (ns : List TermNode) (left : ℕ → Bool) (x : TermId) (more : List TermId) (k : Term) : Type 0 where
   pub shown : term_tree (trees ns) k ≡ tree_at (trees ns) x
   pub on : AllPass (λ i. is_on more i || left i) (leads k)
 
 -- each of these terms leads to those behind it, or to what is still to be looked at
-abbrev pub GoOn : Leads → List Node → (ℕ → Bool) → List TermId → Type 0
+abbrev pub GoOn : Leads → List TermNode → (ℕ → Bool) → List TermId → Type 0
 GoOn leads ns left [] = Unit {0}
 GoOn leads ns left (x ∷ more) = ((k : Term) → slice_get (terms_in ns) x.0 ≡ Some k → GoesOn leads ns left x more k) × GoOn leads ns left more
 
@@ -51,23 +51,23 @@ abbrev pub none_left : ℕ → Bool
 none_left i = false
 
 -- where a term passes, so do those to which it leads
-abbrev pub PassesOn : Leads → List Node → (ℕ → Bool) → Type 0
+abbrev pub PassesOn : Leads → List TermNode → (ℕ → Bool) → Type 0
 PassesOn leads ns p = (i : ℕ) (k : Term) → slice_get (terms_in ns) i ≡ Some k → term_tree (trees ns) k ≡ tree_at (trees ns) (record { 0 = i }) → p i ≡ true → AllPass p (leads k)
 
 -- the terms that some terms lead to: these, behind each those to which it leads, and no others
-pub record AreReached (leads : Leads) (ns : List Node) (xs ids : List TermId) : Type 0 where
+pub record AreReached (leads : Leads) (ns : List TermNode) (xs ids : List TermId) : Type 0 where
   pub are_in : AreIn ns ids
   pub there : AllPass (is_on ids) xs
   pub go_on : GoOn leads ns none_left ids
   pub only : (p : ℕ → Bool) → PassesOn leads ns p → AllPass p xs → AllPass p ids
 
 -- for each id there is what was made in its place, which stands for its term with the values of parts replaced
-abbrev pub AllMade : List Node → List (Tree × Tree) → (ℕ → Option TermId) → List TermId → Type 0
+abbrev pub AllMade : List TermNode → List (Tree × Tree) → (ℕ → Option TermId) → List TermId → Type 0
 AllMade ns by made [] = Unit {0}
 AllMade ns by made (x ∷ xs) = (y : TermId) × (made x.0 ≡ Some y) × StandsForTree ns y (swapped by (tree_at (trees ns) x)) × AllMade ns by made xs
 
 -- there is what was made in place of each operand of x
-abbrev pub OperandsMade : List Node → List (Tree × Tree) → TermId → (ℕ → Option TermId) → Type 0
+abbrev pub OperandsMade : List TermNode → List (Tree × Tree) → TermId → (ℕ → Option TermId) → Type 0
 OperandsMade ns by x made = (k : Term) → slice_get (terms_in ns) x.0 ≡ Some k → AllMade ns by made (operands_of k)
 
 -- something was made in place of each

@@ -2,7 +2,7 @@
 use Rattle.std.specs.Prelude.{◌≡◌, Bool, true, false, List, [], ◌∷◌, if◌then◌else◌}
 use Rattle.lh_term.specs.declared.part.Part.{Part}
 use Rattle.lh_term.specs.declared.term.TermId.{TermId}
-use Rattle.lh_term.specs.declared.term.Node.{Node}
+use Rattle.lh_term.specs.declared.term.TermNode.{TermNode}
 use Rattle.lh_term.specs.Tree.{Tree, TreeRow, constant, past_of, now_of, operation, choice_of, no_trees, more_trees}
 use Rattle.lh_term.specs.Types.{IsTyped, type_of}
 use Rattle.lh_term.specs.Mean.{Valuation, mean}
@@ -11,7 +11,7 @@ use Rattle.lh_term.specs.Make.{make_operation, make_choice}
 use Rattle.lh_term.specs.Arena.{tree_at, trees, IsIn}
 
 -- the terms of pairs of ids
-abbrev pub pairs_at : List Node → List (TermId × TermId) → List (Tree × Tree)
+abbrev pub pairs_at : List TermNode → List (TermId × TermId) → List (Tree × Tree)
 pairs_at ns [] = []
 pairs_at ns (p ∷ ps) = (tree_at (trees ns) p.0, tree_at (trees ns) p.1) ∷ pairs_at ns ps
 
@@ -42,7 +42,7 @@ SecondsTyped [] = Unit {0}
 SecondsTyped (p ∷ ps) = IsTyped p.1 × SecondsTyped ps
 
 -- both ids of each pair are of the arena
-abbrev pub PairsIn : List Node → List (TermId × TermId) → Type 0
+abbrev pub PairsIn : List TermNode → List (TermId × TermId) → Type 0
 PairsIn ns [] = Unit {0}
 PairsIn ns (p ∷ ps) = IsIn ns p.0 × IsIn ns p.1 × PairsIn ns ps
 

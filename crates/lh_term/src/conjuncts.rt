@@ -7,7 +7,7 @@ ghost use Rattle.lh_term.specs.Found.{FindsJoined};
 use crate::forms::and_operands;
 use crate::term::{Term, TermId, TermList};
 use crate::terms::Terms;
-use lh_types::ty::NoMemory;
+use lh_types::memory::NoMemory;
 use std::collections::HashSet;
 
 impl Terms {

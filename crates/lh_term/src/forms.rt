@@ -13,8 +13,9 @@ ghost use Rattle.lh_term.specs.Found as find;
 use crate::term::{Term, TermId};
 use crate::terms::Terms;
 use lh_ops::{apply, apply_int};
+use lh_types::memory::NoMemory;
 use lh_types::op::Op;
-use lh_types::ty::{NoMemory, TyKind};
+use lh_types::ty::TyKind;
 use lh_types::val::Val;
 
 impl Terms {

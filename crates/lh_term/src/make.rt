@@ -8,11 +8,11 @@ ghost use Rattle.lh_term.specs.Make as table;
 ghost use Rattle.lh_term.specs.Arena.{trees, tree_at, trees_at, IsIn, AreIn, StandsForTree, Grows};
 
 use crate::part::Part;
-use crate::term::{Node, Term, TermId};
+use crate::term::{Term, TermId, TermNode};
 use crate::terms::Terms;
 use crate::types::value_type;
+use lh_types::memory::NoMemory;
 use lh_types::op::Op;
-use lh_types::ty::NoMemory;
 use lh_types::val::Val;
 
 impl Terms {
@@ -27,7 +27,7 @@ impl Terms {
         let Ok(ty) = value_type(self.allocator(), &v) else {
             return Err(NoMemory);
         };
-        self.intern(Node {
+        self.intern(TermNode {
             term: Term::Konst(v),
             ty,
         })
@@ -41,7 +41,7 @@ impl Terms {
     {
         let ty = p.ty.copy()?;
         let p = p.copy()?;
-        self.intern(Node {
+        self.intern(TermNode {
             term: Term::Past(p),
             ty,
         })
@@ -55,7 +55,7 @@ impl Terms {
     {
         let ty = p.ty.copy()?;
         let p = p.copy()?;
-        self.intern(Node {
+        self.intern(TermNode {
             term: Term::Now(p),
             ty,
         })
@@ -106,7 +106,7 @@ impl Terms {
         }
         self.are_typed(&[c, f, t]);
         let ty = self.ty(f).copy()?;
-        self.intern(Node {
+        self.intern(TermNode {
             term: Term::Choice { c, f, t },
             ty,
         })

@@ -3,7 +3,8 @@ ghost use Rattle.std.specs.Prelude.{◌≡◌, IfOk};
 ghost use Rattle.lh_term.specs.Parts.{extent_of};
 
 use lh_types::list::ListOf;
-use lh_types::ty::{NoMemory, Ty, TyKind};
+use lh_types::memory::NoMemory;
+use lh_types::ty::{Ty, TyKind};
 
 /// A part of an argument of a unit: the value of type `ty` whose lowest bit is bit `lo` of argument `arg`.
 #[derive(Drop)]

@@ -6,11 +6,12 @@ ghost use Rattle.lh_term.specs.Types.{TakesTypes, type_of, types_of, row_result}
 ghost use Rattle.lh_term.specs.Types as spec;
 ghost use Rattle.lh_term.specs.Arena.{trees, tree_at, trees_at, IsIn, AreIn, StandsForTree, Grows};
 
-use crate::term::{Node, Term, TermId, TermList};
+use crate::term::{Term, TermId, TermList, TermNode};
 use crate::terms::Terms;
 use crate::types::{element_type, field_type, slice_type};
+use lh_types::memory::NoMemory;
 use lh_types::op::Op;
-use lh_types::ty::{NoMemory, Ty, TyFault, TyList};
+use lh_types::ty::{Ty, TyFault, TyList};
 use std::alloc::Global;
 
 impl Terms {
@@ -26,7 +27,7 @@ impl Terms {
         let Ok(ty) = self.result_type(op, args) else {
             return Err(NoMemory);
         };
-        self.intern(Node {
+        self.intern(TermNode {
             term: Term::Op {
                 op: *op,
                 args: list,

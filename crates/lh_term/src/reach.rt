@@ -8,7 +8,7 @@ ghost use Rattle.lh_term.specs.declared.term.Term.{Term as TermOf};
 
 use crate::term::{Term, TermId};
 use crate::terms::Terms;
-use lh_types::ty::NoMemory;
+use lh_types::memory::NoMemory;
 use std::collections::BTreeSet;
 
 impl Terms {

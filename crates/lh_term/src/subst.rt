@@ -9,7 +9,7 @@ ghost use Rattle.lh_term.specs.Reach.{operands_of, AreReached, AreMade, MadeFor,
 use crate::term::{Term, TermId, TermList};
 use crate::terms::Terms;
 use lh_types::list::ListOf;
-use lh_types::ty::NoMemory;
+use lh_types::memory::NoMemory;
 use std::alloc::Global;
 use std::collections::HashMap;
 

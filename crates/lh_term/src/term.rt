@@ -5,8 +5,9 @@ ghost use Rattle.lh_term.specs.Same as same;
 
 use crate::part::Part;
 use crate::salt::salt_of_value;
+use lh_types::memory::NoMemory;
 use lh_types::op::Op;
-use lh_types::ty::{NoMemory, Ty};
+use lh_types::ty::Ty;
 use lh_types::val::Val;
 use smallvec::SmallVec;
 use std::alloc::Global;
@@ -91,12 +92,12 @@ pub enum Term {
 
 /// A term with its type.
 #[derive(Drop)]
-pub struct Node {
+pub struct TermNode {
     pub(crate) term: Term,
     pub(crate) ty: Ty,
 }
 
-impl PartialEq for Node {
+impl PartialEq for TermNode {
     ghost use Rattle.std.specs.Cmp.{partial_equiv_from_equiv};
     ghost use Rattle.lh_term.specs.SameNode.{same_node, same_node_equiv};
 
@@ -104,12 +105,12 @@ impl PartialEq for Node {
 
     ghost laws = { partial_equiv_from_equiv same_node_equiv };
 
-    fn eq(&self, other: &Node) -> bool {
+    fn eq(&self, other: &TermNode) -> bool {
         self.term == other.term
     }
 }
 
-impl Eq for Node {
+impl Eq for TermNode {
     ghost use Rattle.lh_term.specs.SameNode.{same_node_equiv};
 
     ghost laws = { same_node_equiv };
@@ -151,7 +152,7 @@ impl Eq for Term {
     ghost laws = { same_term_equiv };
 }
 
-impl Hash for Node {
+impl Hash for TermNode {
     ghost use Rattle.lh_term.specs.Fed.{fed_term, fed_alike};
 
     ghost hash_input = { λ n. fed_term n.term };

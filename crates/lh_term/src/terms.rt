@@ -5,16 +5,17 @@ ghost use Rattle.lh_term.specs.Types.{IsTyped, AreTyped, type_of};
 ghost use Rattle.lh_term.specs.SameTree.{same_tree};
 ghost use Rattle.lh_term.specs.Arena.{trees, tree_at, trees_at, terms_in, term_tree, term_below, IsTypedNode, IsIn, AreIn, OneId, AllTyped, StandsForTree, Grows};
 
-use crate::term::{Node, Term, TermId};
+use crate::term::{Term, TermId, TermNode};
 use indexmap::IndexSet;
-use lh_types::ty::{NoMemory, Ty};
+use lh_types::memory::NoMemory;
+use lh_types::ty::Ty;
 use std::alloc::Global;
 use std::marker::Model;
 
 /// An arena of terms, in which equal terms have one id.
 #[derive(Drop)]
 pub struct Terms {
-    nodes: IndexSet<Node>,
+    nodes: IndexSet<TermNode>,
 }
 
 impl Model for Terms {
@@ -22,9 +23,9 @@ impl Model for Terms {
     ghost use Rattle.std.specs.Coded.{codes};
     ghost use Rattle.lh_types.specs.Types.{type_coded};
     ghost use Rattle.lh_types.specs.Values.{datum_coded};
-    ghost use Rattle.lh_term.specs.declared.term.Node.{Node};
+    ghost use Rattle.lh_term.specs.declared.term.TermNode.{TermNode};
 
-    ghost Value = { List Node };
+    ghost Value = { List TermNode };
 
     ghost coded = { Prim.hlevel (codes, type_coded, datum_coded) };
 
@@ -71,7 +72,7 @@ impl Terms {
         &self.node(t).ty
     }
 
-    fn node(&self, t: TermId) -> &Node
+    fn node(&self, t: TermId) -> &TermNode
         requires { IsIn self.now t }
         ensures term { slice_get (terms_in self.now) t.0 ≡ Some result.now.term }
         ensures shown { term_tree (trees self.now) result.now.term ≡ tree_at (trees self.now) t }
@@ -123,7 +124,7 @@ impl Terms {
     }
 
     /// The id of a term, which is added if it is not there.
-    pub(crate) fn intern(&mut self, node: Node) -> Result<TermId, NoMemory>
+    pub(crate) fn intern(&mut self, node: TermNode) -> Result<TermId, NoMemory>
         requires below { term_below (length self.old) node.term ≡ true }
         requires typed { IsTypedNode (trees self.old) node }
         ensures made { IfOk result (λ t. StandsForTree self.new t (term_tree (trees self.old) node.term)) }

@@ -10,7 +10,7 @@ mod runs;
 
 use crate::runs::{CoverRun, are_same, bits_from, is_within, merged, run_of, starts_by};
 use lh_term::part::{Part, PartList};
-use lh_types::ty::NoMemory;
+use lh_types::memory::NoMemory;
 use std::alloc::Global;
 
 /// A set of bits of arguments: in order, ranges of which no two meet or touch.

@@ -4,7 +4,8 @@ ghost use Rattle.lh_types.specs.Types.{bit_count};
 ghost use Rattle.lh_term_cover.specs.Runs as spec;
 
 use lh_term::part::Part;
-use lh_types::ty::{NoMemory, Ty, TyKind, bits};
+use lh_types::memory::NoMemory;
+use lh_types::ty::{Ty, TyKind, bits};
 use std::alloc::Global;
 
 /// The bits of an argument from `lo` to before `end`.

@@ -6,8 +6,8 @@
 ghost use Rattle.std.specs.Prelude.{◌≡◌, ◌∷◌, [], ◌++◌, true, false, decimal, length, take, drop, reverse, IfOk, OnErr};
 ghost use Rattle.lh_text_buffer.specs.Writing.{Writes};
 
+use lh_types::memory::NoMemory;
 use lh_types::text;
-use lh_types::ty::NoMemory;
 use std::alloc::Global;
 use std::marker::Model;
 

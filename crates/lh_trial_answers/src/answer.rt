@@ -25,8 +25,8 @@ use crate::design::{file_of, of_top};
 use crate::faults::{each_fault, narrow, on_long_text};
 use crate::program::{Program, Ran, SOUND, Streams};
 use lh_print::print;
+use lh_types::memory::NoMemory;
 use lh_types::text::{put, put_number};
-use lh_types::ty::NoMemory;
 use std::alloc::Global;
 
 /// The code with which the program ends where an instance ran away.

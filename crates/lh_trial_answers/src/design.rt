@@ -10,7 +10,7 @@ use lh_design::Design;
 use lh_elab::elab;
 use lh_read::read;
 use lh_trial_reference::naive::defined;
-use lh_types::ty::NoMemory;
+use lh_types::memory::NoMemory;
 use lh_unit::module::Module;
 use lh_verify::verify::{Verified, verify};
 use std::alloc::Global;

@@ -1,7 +1,7 @@
 //! Runs in which a call of a stream fails, each in turn.
 use crate::program::{Program, ROOM, Ran, SOUND, Streams};
+use lh_types::memory::NoMemory;
 use lh_types::text::{put, put_number};
-use lh_types::ty::NoMemory;
 use std::alloc::Global;
 
 /// So many bytes a call moves.

@@ -1,6 +1,6 @@
 //! Runs of the program in memory, which a caller provides.
 use lh_io::memory::MemSink;
-use lh_types::ty::NoMemory;
+use lh_types::memory::NoMemory;
 use std::alloc::Global;
 
 /// The most bytes of an output and of a log.

@@ -7,7 +7,7 @@ use lh_io::count::Count;
 use lh_kernel::{Sim, SimStep};
 use lh_text_buffer::Text;
 use lh_trial_reference::frames::{put_frame, put_instant, put_named, put_sensing};
-use lh_types::ty::NoMemory;
+use lh_types::memory::NoMemory;
 use lh_unit::module::Module;
 use lh_wave::value::put_value;
 use std::alloc::Global;

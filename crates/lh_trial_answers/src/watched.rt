@@ -13,7 +13,7 @@ use lh_kernel::Sim;
 use lh_text_buffer::Text;
 use lh_trial_reference::frames::put_named;
 use lh_trial_watchers::speaker::speakers;
-use lh_types::ty::NoMemory;
+use lh_types::memory::NoMemory;
 use lh_unit::module::Module;
 use lh_watch::watcher::Watcher;
 use lh_wave::ending::End;

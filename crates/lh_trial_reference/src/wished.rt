@@ -2,7 +2,7 @@
 use lh_bits::bits::Bits;
 use lh_bits::writes::{BitWrites, DueWrites};
 use lh_time::Instant;
-use lh_types::ty::NoMemory;
+use lh_types::memory::NoMemory;
 
 /// A bit that an activation wished: when it is due, when and by which instance it was wished, which bit, and its value.
 #[derive(Clone, Copy)]

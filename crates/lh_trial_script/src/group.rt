@@ -1,6 +1,6 @@
 //! What the trials of a group have in common.
+use lh_types::memory::NoMemory;
 use lh_types::text::put;
-use lh_types::ty::NoMemory;
 use std::alloc::Global;
 
 /// A group of trials: its name, the words by which its texts are run, what stands before and behind each text, and the answer to each

@@ -2,8 +2,8 @@
 ghost use Rattle.std.specs.Prelude.{◌≡◌, if◌then◌else◌};
 ghost use Rattle.lh_types.specs.Raised.{raised};
 
+use lh_types::memory::NoMemory;
 use lh_types::text::{put, put_number};
-use lh_types::ty::NoMemory;
 use std::alloc::Global;
 
 /// How many trials of a group had the answer that is said, how many had another, and what is to be told.

@@ -18,8 +18,8 @@
 //! | any other | is a line of the text |
 use crate::group::{Group, put_line};
 use crate::score::Score;
+use lh_types::memory::NoMemory;
 use lh_types::text::put;
-use lh_types::ty::NoMemory;
 use std::alloc::Global;
 
 /// What answers the texts of trials.

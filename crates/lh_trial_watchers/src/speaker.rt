@@ -5,8 +5,8 @@ ghost use Rattle.lh_trial_watchers.specs.Scripted.{scripted, title_of};
 
 use lh_time::Instant;
 use lh_types::frame::{Change, Outcome};
+use lh_types::memory::NoMemory;
 use lh_types::text::{put, put_number};
-use lh_types::ty::NoMemory;
 use lh_watch::watcher::{Next, Watcher};
 use std::alloc::Global;
 

@@ -15,7 +15,7 @@ use crate::program::InMemory;
 use lh_trial_answers::answer::answer;
 use lh_trial_script::score::Score;
 use lh_trial_script::script::{Answers, Script};
-use lh_types::ty::NoMemory;
+use lh_types::memory::NoMemory;
 use std::alloc::Global;
 use std::process::ExitCode;
 use std::{env, fs, io};

@@ -3,7 +3,7 @@ use lh_io::memory::{MemSink, MemSource};
 use lh_run::top::run;
 use lh_trial_answers::program::{Program, ROOM, Ran, Streams, sink};
 use lh_types::list::{ByteList, TextList};
-use lh_types::ty::NoMemory;
+use lh_types::memory::NoMemory;
 use lh_watch::builtin::{Asserts, Toggles, UntilFail};
 use lh_watch::watcher::Watcher;
 use std::alloc::Global;

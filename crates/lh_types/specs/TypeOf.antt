@@ -1,11 +1,11 @@
 -- What the node of a type is seen as.
 use Rattle.std.specs.Prelude.{[], ◌∷◌}
 use Rattle.lh_types.specs.Types.{TypeTree, int_type, time_type, void_type, array_type, tuple_type, signal_type, pointer_type, row_of}
-use Rattle.lh_types.specs.declared.ty.Node.{Node}
-use Rattle.lh_types.specs.declared.ty.Node.TheVariants.{Int, Time, Void, Array, Single, Pair, Tuple, Signal, Pointer}
+use Rattle.lh_types.specs.declared.ty.TypeNode.{TypeNode}
+use Rattle.lh_types.specs.declared.ty.TypeNode.TheVariants.{Int, Time, Void, Array, Single, Pair, Tuple, Signal, Pointer}
 
 -- the type, by its node
-abbrev pub type_of_node : Node → TypeTree
+abbrev pub type_of_node : TypeNode → TypeTree
 type_of_node (Int n) = int_type n
 type_of_node Time = time_type
 type_of_node Void = void_type

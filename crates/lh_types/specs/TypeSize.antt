@@ -4,15 +4,15 @@ use Rattle.std.proofs.Common.{arith}
 use denote.Param.Weighed.{most}
 use Rattle.lh_types.specs.Types.{TypeTree, node_count, node_count_row, row_of}
 use Rattle.lh_types.specs.TypeOf.{type_of_node}
-use Rattle.lh_types.specs.declared.ty.Node.{Node}
-use Rattle.lh_types.specs.declared.ty.Node.TheVariants.{Int, Time, Void, Array, Single, Pair, Tuple, Signal, Pointer}
-use Rattle.lh_types.specs.declared.ty.Ty.TheDeep.{deep-Node}
+use Rattle.lh_types.specs.declared.ty.TypeNode.{TypeNode}
+use Rattle.lh_types.specs.declared.ty.TypeNode.TheVariants.{Int, Time, Void, Array, Single, Pair, Tuple, Signal, Pointer}
+use Rattle.lh_types.specs.declared.ty.Ty.TheDeep.{deep-TypeNode}
 
 pub most_le-node_count : (ts : List TypeTree) → max (most (λ t. node_count t + 1) ts) 0 ≤ node_count_row (row_of ts)
 most_le-node_count [] = omega arith
 most_le-node_count (t ∷ ts) = omega (arith, most_le-node_count ts)
 
-pub deep_le-node_count : (n : Node) → max (deep-Node n) 0 ≤ node_count (type_of_node n)
+pub deep_le-node_count : (n : TypeNode) → max (deep-TypeNode n) 0 ≤ node_count (type_of_node n)
 deep_le-node_count (Int n) = omega arith
 deep_le-node_count Time = omega arith
 deep_le-node_count Void = omega arith

@@ -4,6 +4,7 @@
 pub mod few;
 pub mod frame;
 pub mod list;
+pub mod memory;
 pub mod op;
 pub mod part;
 pub mod tally;

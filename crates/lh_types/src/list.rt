@@ -1,7 +1,7 @@
 //! One list type for every layer: contracts see it as the list of its items.
 ghost use Rattle.std.specs.Prelude.{◌≡◌, [], ◌∷◌, ◌++◌, length, IfOk, OnOk, OnErr};
 
-use crate::ty::NoMemory;
+use crate::memory::NoMemory;
 use std::alloc::Global;
 use std::marker::Model;
 

@@ -1,7 +1,7 @@
 //! Bytes and numbers at the end of a text.
 ghost use Rattle.std.specs.Prelude.{◌≡◌, ◌++◌, OnOk, decimal};
 
-use crate::ty::NoMemory;
+use crate::memory::NoMemory;
 use itoa::Buffer;
 
 /// Puts these bytes at the end of a text. After `NoMemory` the text is to be let go: nothing is said of it.

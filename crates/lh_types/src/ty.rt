@@ -6,27 +6,11 @@ ghost use Rattle.lh_types.specs.TypeOf.{type_of_node};
 ghost use Rattle.lh_types.specs.Faults.{is_data, all_data, int_fault, array_fault, tuple_fault, signal_fault, pointer_fault, made, MakesType};
 ghost use Rattle.lh_types.specs.declared.ty.TyFault.TheVariants.{OutOfMemory};
 
-use std::alloc::{AllocError, AllocFailed, Global};
+use crate::memory::NoMemory;
+use std::alloc::Global;
 use std::marker::Model;
 use std::slice;
 use thiserror::Error;
-
-/// Memory ran out.
-#[derive(Clone, Copy, Debug, PartialEq, Eq, Error)]
-#[error("out of memory")]
-pub struct NoMemory;
-
-impl From<AllocError> for NoMemory {
-    fn from(_: AllocError) -> NoMemory {
-        NoMemory
-    }
-}
-
-impl<T: Drop> From<AllocFailed<T>> for NoMemory {
-    fn from(_: AllocFailed<T>) -> NoMemory {
-        NoMemory
-    }
-}
 
 /// Why there is no such type: the first that holds, in the order `WidthRange`, `Empty`, `WrongPart`,
 /// `TooDeep`, `TooManyBits`, and after them `OutOfMemory`.
@@ -68,12 +52,12 @@ impl From<NoMemory> for TyFault {
 #[cycle(ty)]
 #[derive(Drop)]
 pub struct Ty {
-    node: Node,
+    node: TypeNode,
 }
 
 #[cycle(ty)]
 #[derive(Drop)]
-enum Node {
+enum TypeNode {
     Int(u32),
     Time,
     Void,
@@ -240,7 +224,7 @@ impl Ty {
             return Err(TyFault::WidthRange);
         }
         Ok(Ty {
-            node: Node::Int(width),
+            node: TypeNode::Int(width),
         })
     }
 
@@ -248,14 +232,18 @@ impl Ty {
     pub fn time() -> Ty
         ensures { result ≡ time_type }
     {
-        Ty { node: Node::Time }
+        Ty {
+            node: TypeNode::Time,
+        }
     }
 
     /// The type of a function without a result.
     pub fn void() -> Ty
         ensures { result ≡ void_type }
     {
-        Ty { node: Node::Void }
+        Ty {
+            node: TypeNode::Void,
+        }
     }
 
     /// The array of `len` elements; each `TyFault` but `WidthRange`, the first that holds.
@@ -276,7 +264,7 @@ impl Ty {
         }
         let of = boxed(alloc, of)?;
         Ok(Ty {
-            node: Node::Array(len, of),
+            node: TypeNode::Array(len, of),
         })
     }
 
@@ -310,7 +298,7 @@ impl Ty {
         }
         let of = boxed(alloc, of)?;
         Ok(Ty {
-            node: Node::Signal(of),
+            node: TypeNode::Signal(of),
         })
     }
 
@@ -323,7 +311,7 @@ impl Ty {
         }
         let of = boxed(alloc, of)?;
         Ok(Ty {
-            node: Node::Pointer(of),
+            node: TypeNode::Pointer(of),
         })
     }
 
@@ -333,15 +321,15 @@ impl Ty {
         ensures limited { IsLimited self.now }
     {
         match &self.node {
-            Node::Int(n) => TyKind::Int(*n),
-            Node::Time => TyKind::Time,
-            Node::Void => TyKind::Void,
-            Node::Array(n, of) => TyKind::Array(*n, &**of),
-            Node::Single(field) => TyKind::Tuple(slice::from_ref(&**field)),
-            Node::Pair(fields) => TyKind::Tuple(fields.as_slice()),
-            Node::Tuple(fields) => TyKind::Tuple(fields.as_slice()),
-            Node::Signal(of) => TyKind::Signal(&**of),
-            Node::Pointer(of) => TyKind::Pointer(&**of),
+            TypeNode::Int(n) => TyKind::Int(*n),
+            TypeNode::Time => TyKind::Time,
+            TypeNode::Void => TyKind::Void,
+            TypeNode::Array(n, of) => TyKind::Array(*n, &**of),
+            TypeNode::Single(field) => TyKind::Tuple(slice::from_ref(&**field)),
+            TypeNode::Pair(fields) => TyKind::Tuple(fields.as_slice()),
+            TypeNode::Tuple(fields) => TyKind::Tuple(fields.as_slice()),
+            TypeNode::Signal(of) => TyKind::Signal(&**of),
+            TypeNode::Pointer(of) => TyKind::Pointer(&**of),
         }
     }
 }
@@ -359,25 +347,25 @@ fn boxed_pair(alloc: Global, pair: [Ty; 2]) -> Result<Box<[Ty; 2]>, NoMemory>
 }
 
 // The node of the struct of these fields.
-fn struct_node(fields: TyList) -> Result<Node, NoMemory>
+fn struct_node(fields: TyList) -> Result<TypeNode, NoMemory>
     ensures { IfOk result (λ node. type_of_node node ≡ tuple_type (row_of fields)) }
 {
     let alloc = *fields.list.allocator();
     match fields.into_single() {
-        Ok(field) => Ok(Node::Single(boxed(alloc, field)?)),
+        Ok(field) => Ok(TypeNode::Single(boxed(alloc, field)?)),
         Err(fields) => list_node(alloc, fields.into_vec()),
     }
 }
 
 // The same, of fields that are not one alone.
-fn list_node(alloc: Global, fields: Vec<Ty>) -> Result<Node, NoMemory>
+fn list_node(alloc: Global, fields: Vec<Ty>) -> Result<TypeNode, NoMemory>
     ensures { IfOk result (λ node. type_of_node node ≡ tuple_type (row_of fields.items)) }
 {
     match <[Ty; 2]>::try_from(fields) {
-        Ok(pair) => Ok(Node::Pair(boxed_pair(alloc, pair)?)),
+        Ok(pair) => Ok(TypeNode::Pair(boxed_pair(alloc, pair)?)),
         Err(mut list) => {
             list.shrink_to_fit();
-            Ok(Node::Tuple(Box::new(alloc, TyList { list })?))
+            Ok(TypeNode::Tuple(Box::new(alloc, TyList { list })?))
         }
     }
 }
@@ -389,8 +377,12 @@ pub fn carries_data(t: &Ty) -> bool
     ensures limited { IsLimited t.now }
 {
     match &t.node {
-        Node::Int(_) | Node::Array(_, _) | Node::Single(_) | Node::Pair(_) | Node::Tuple(_) => true,
-        Node::Time | Node::Void | Node::Signal(_) | Node::Pointer(_) => false,
+        TypeNode::Int(_)
+        | TypeNode::Array(_, _)
+        | TypeNode::Single(_)
+        | TypeNode::Pair(_)
+        | TypeNode::Tuple(_) => true,
+        TypeNode::Time | TypeNode::Void | TypeNode::Signal(_) | TypeNode::Pointer(_) => false,
     }
 }
 
@@ -484,19 +476,19 @@ impl Ty {
         ensures { IfOk result (λ t. t ≡ self.now) }
     {
         let node = match &self.node {
-            Node::Int(n) => Node::Int(*n),
-            Node::Time => Node::Time,
-            Node::Void => Node::Void,
-            Node::Array(n, of) => Node::Array(*n, copied(of)?),
-            Node::Single(field) => Node::Single(copied(field)?),
-            Node::Pair(fields) => {
+            TypeNode::Int(n) => TypeNode::Int(*n),
+            TypeNode::Time => TypeNode::Time,
+            TypeNode::Void => TypeNode::Void,
+            TypeNode::Array(n, of) => TypeNode::Array(*n, copied(of)?),
+            TypeNode::Single(field) => TypeNode::Single(copied(field)?),
+            TypeNode::Pair(fields) => {
                 let [first, second] = &**fields;
                 let pair = [first.copy()?, second.copy()?];
-                Node::Pair(boxed_pair(*Box::allocator(fields), pair)?)
+                TypeNode::Pair(boxed_pair(*Box::allocator(fields), pair)?)
             }
-            Node::Tuple(fields) => Node::Tuple(copied_list(fields)?),
-            Node::Signal(of) => Node::Signal(copied(of)?),
-            Node::Pointer(of) => Node::Pointer(copied(of)?),
+            TypeNode::Tuple(fields) => TypeNode::Tuple(copied_list(fields)?),
+            TypeNode::Signal(of) => TypeNode::Signal(copied(of)?),
+            TypeNode::Pointer(of) => TypeNode::Pointer(copied(of)?),
         };
         Ok(Ty { node })
     }
@@ -544,7 +536,7 @@ impl PartialEq for Ty {
     // Most types are integers, which need no walk.
     fn eq(&self, other: &Ty) -> bool {
         match (&self.node, &other.node) {
-            (Node::Int(n), Node::Int(m)) => *n == *m,
+            (TypeNode::Int(n), TypeNode::Int(m)) => *n == *m,
             _ => self.same(other),
         }
     }

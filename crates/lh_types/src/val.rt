@@ -4,7 +4,7 @@ ghost use Rattle.lh_types.specs.Values.{data_row};
 ghost use Rattle.lh_types.specs.ValueOf.{datum_of};
 ghost use Rattle.lh_types.specs.SameValue.{same_datum, same_parts};
 
-use crate::ty::NoMemory;
+use crate::memory::NoMemory;
 use lh_time::Delay;
 use std::alloc::Global;
 use std::marker::Model;

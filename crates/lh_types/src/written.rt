@@ -2,7 +2,8 @@
 ghost use Rattle.std.specs.Prelude.{◌≡◌, ◌<◌, true, None, IfOk, length};
 ghost use Rattle.std.specs.Option.{option_copied};
 
-use crate::ty::{NoMemory, Ty, TyKind};
+use crate::memory::NoMemory;
+use crate::ty::{Ty, TyKind};
 use std::alloc::Global;
 use std::marker::Model;
 use std::rc::Rc;

@@ -6,7 +6,7 @@ use Rattle.std.specs.List.{list_any}
 use Rattle.std.proofs.lemmas.Bool.{and_parts}
 use lib.Pointwise.{pointwise}
 use Rattle.lh_types.specs.Types.{TypeTree}
-use Rattle.lh_types.specs.declared.ty.NoMemory.{NoMemory}
+use Rattle.lh_types.specs.declared.memory.NoMemory.{NoMemory}
 use Rattle.lh_unit_names.specs.UnitNames.{same_unit_name}
 use Rattle.lh_unit.specs.Table.{Table, IsTable, IsDefinition, ResultWithin, HasBlocks, no_table}
 use Rattle.lh_unit.specs.TableCalls.{with_value, with_label, with_result, with_line, FindsValueIn, FindsLabelIn, TakesArg, TakesBlock, TakesLine}
@@ -27,7 +27,7 @@ use Rattle.lh_unit.specs.declared.inst.Inst.{Inst}
 use Rattle.lh_unit.specs.declared.inst.Arg.{Arg}
 use Rattle.lh_unit.specs.declared.inst.Declare.{Declare}
 use Rattle.lh_unit.specs.declared.inst.Item.TheVariants as item
-use Rattle.lh_unit.specs.declared.table.Line.{Line}
+use Rattle.lh_unit.specs.declared.table.TableLine.{TableLine}
 use Rattle.lh_unit.proofs.Lists.{Same, same, other, same_or, get_or-push_default, nat_eq-is, nat_eq-refl}
 use Rattle.lh_unit_names.proofs.Lists.{Trichotomy, before, at, past, trichotomy, Pushed, old, new, pushed, AllDistinct-push, other_keys}
 use Rattle.lh_types.proofs.Lists.{get_below, get_last}
@@ -49,7 +49,7 @@ table_at-other a u k t h = get_or-set_other a.units u k t no_table h
 pub record Keeps (n : ℕ) (t u : Table) : Type 0 where
   pub table : IsTable u
   pub kind_stays : u.kind ≡ t.kind
-  pub placed : (i : ℕ) (l : Line) → slice_get u.lines i ≡ Some l → InstWithin (sizes_of n u) l.inst
+  pub placed : (i : ℕ) (l : TableLine) → slice_get u.lines i ≡ Some l → InstWithin (sizes_of n u) l.inst
 
 pub IsArena-with_table : (a : Arena) (u : ℕ) (t : Table) → IsArena a → u < length a.units → Keeps (unit_count a) (table_at a u) t → IsArena (with_table a u t)
 IsArena-with_table a u t o h k = record {
@@ -74,7 +74,7 @@ IsArena-with_table a u t o h k = record {
     tables v w (same e) = subst IsTable (sym (here v e)) k.table
     tables v w (other e) = subst IsTable (sym (table_at-other a u v t e)) (o.tables v w)
 
-    placed : (v i : ℕ) (l : Line) → slice_get (table_at (with_table a u t) v).lines i ≡ Some l → Same v u → InstPlaced (with_table a u t) v l.inst
+    placed : (v i : ℕ) (l : TableLine) → slice_get (table_at (with_table a u t) v).lines i ≡ Some l → Same v u → InstPlaced (with_table a u t) v l.inst
     placed v i l e (same p) =
         let q : slice_get t.lines i ≡ Some l = ap (λ (x : Table). slice_get x.lines i) (sym (here v p)) ∙ e in
         subst (λ n. InstWithin (sizes_of n (table_at (with_table a u t) v)) l.inst) (sym count) (subst (λ (x : Table). InstWithin (sizes_of (unit_count a) x) l.inst) (sym (here v p)) (k.placed i l q))
@@ -95,7 +95,7 @@ IsArena-with_table a u t o h k = record {
 
 -- the lines of a table are placed
 abbrev pub LinesPlaced : ℕ → Table → Type 0
-LinesPlaced n t = (i : ℕ) (l : Line) → slice_get t.lines i ≡ Some l → InstWithin (sizes_of n t) l.inst
+LinesPlaced n t = (i : ℕ) (l : TableLine) → slice_get t.lines i ≡ Some l → InstWithin (sizes_of n t) l.inst
 
 -- where the lines stay and the sizes do not fall
 pub LinesPlaced-more : (n m : ℕ) (t u : Table) → n ≤ m → length t.values ≤ length u.values → length t.labels ≤ length u.labels → u.lines ≡ t.lines → LinesPlaced n t → LinesPlaced m u
@@ -175,7 +175,7 @@ LinesPlaced-push n t r i w p k l q = by (pushed t.lines (record { result = r; in
   where
     by : Pushed t.lines (record { result = r; inst = i }) l k → InstWithin (sizes_of n (with_line t r i)) l.inst
     by (old h e) = p k l e
-    by (new h e) = subst (λ (x : Line). InstWithin (sizes_of n t) x.inst) e w
+    by (new h e) = subst (λ (x : TableLine). InstWithin (sizes_of n t) x.inst) e w
 
 pub TakesLine-Keeps : (n : ℕ) (a : Result InstId UnitFault) (t u : Table) (r : Option ValueId) (i : Inst) → TakesLine a t u r i → 0 < length t.blocks → ResultWithin (length t.values) r
     → InstWithin (sizes_of n t) i → IsTable t → LinesPlaced n t → Keeps n t u
@@ -227,7 +227,7 @@ IsArena-begun a u t o h e w k x = record {
     tables v q (same r) = subst IsTable (sym (here v r)) w
     tables v q (other r) = subst IsTable (sym (table_at-other a u.0 v t r)) (o.tables v q)
 
-    placed : (v i : ℕ) (l : Line) → slice_get (get_or (set a.units u.0 t) v no_table).lines i ≡ Some l → Same v u.0
+    placed : (v i : ℕ) (l : TableLine) → slice_get (get_or (set a.units u.0 t) v no_table).lines i ≡ Some l → Same v u.0
         → InstWithin (sizes_of (length (set a.units u.0 t)) (get_or (set a.units u.0 t) v no_table)) l.inst
     placed v i l q (same r) =
         let z : slice_get t.lines i ≡ Some l = ap (λ (y : Table). slice_get y.lines i) (sym (here v r)) ∙ q in

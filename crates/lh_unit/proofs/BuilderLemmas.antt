@@ -4,7 +4,7 @@ use Rattle.std.proofs.lemmas.List.{get_or_append_left, set-get_or}
 use Rattle.std.proofs.lemmas.Option.{get_or_from_slice_get}
 use Rattle.lh_types.specs.Types.{TypeTree}
 use Rattle.lh_types.proofs.Lists.{push_cases}
-use Rattle.lh_types.specs.declared.ty.NoMemory.{NoMemory}
+use Rattle.lh_types.specs.declared.memory.NoMemory.{NoMemory}
 use Rattle.lh_unit.specs.Contents as text
 use Rattle.lh_unit.specs.Contents.{UnitText, change_last, defines_value, defines_label, line_count}
 use Rattle.lh_unit.specs.Table.{Table, IsTable, HasBlocks, ResultWithin, no_table, is_block, is_defined, result_defined, insts_at, line_at}

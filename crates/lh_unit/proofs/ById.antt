@@ -18,7 +18,7 @@ use Rattle.lh_unit.specs.declared.inst.ValueId.{ValueId}
 use Rattle.lh_unit.specs.declared.inst.Arg.{Arg}
 use Rattle.lh_unit.specs.declared.inst.Item.{Item}
 use Rattle.lh_unit.specs.declared.inst.Item.TheVariants as item
-use Rattle.lh_unit.specs.declared.table.Line.{Line}
+use Rattle.lh_unit.specs.declared.table.TableLine.{TableLine}
 use Rattle.lh_unit.proofs.Lists.{Same, same, other, same_or, nat_eq-refl, nat_eq-other, nat_eq-is, not_true, or_true}
 use Rattle.lh_unit.proofs.Arenas.{same_unit_name-is, same_unit_name-refl}
 use Rattle.lh_unit.proofs.Defined.{same_name-ids, arg-ids, result-ids, line-ids, flat_lines, blocks_define-flat, defines_value-ids, defines_label-ids, label_text-named, blocks-within}
@@ -34,7 +34,7 @@ chosen g true x r s e = refl
 chosen g false x r s e = e
 
 -- a result at a place of a list of lines
-pub ResultWithin-at : (n : ℕ) (ls : List Line) (i : ℕ) → ResultsWithin n ls → ResultWithin n (get_or ls i no_line).result
+pub ResultWithin-at : (n : ℕ) (ls : List TableLine) (i : ℕ) → ResultsWithin n ls → ResultWithin n (get_or ls i no_line).result
 ResultWithin-at n [] i w = tt
 ResultWithin-at n (l ∷ ls) zero w = w.0
 ResultWithin-at n (l ∷ ls) (suc i) w = ResultWithin-at n ls i w.1
@@ -184,7 +184,7 @@ module _ (a : Arena) (u : ℕ) (o : IsArena a) (h : u < unit_count a) where
       ∙ ap (line_giving (value_name_at a u v)) (flat_lines (naming a u) (table_at a u) (o.tables u h))
       ∙ by (table_at a u).lines (o.tables u h).results_within
     where
-      by : (ls : List Line) → ResultsWithin (value_count a u) ls → line_giving (value_name_at a u v) (map (line_text (naming a u)) ls) ≡ option_map (inst_text (naming a u)) (inst_making ls v)
+      by : (ls : List TableLine) → ResultsWithin (value_count a u) ls → line_giving (value_name_at a u v) (map (line_text (naming a u)) ls) ≡ option_map (inst_text (naming a u)) (inst_making ls v)
       by [] w = refl
       by (l ∷ ls) w =
           ap (λ c. if c then Some (inst_text (naming a u) l.inst) else line_giving (value_name_at a u v) (map (line_text (naming a u)) ls)) (is_result_name-by_id v l.result p w.0)

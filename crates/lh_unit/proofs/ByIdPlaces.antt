@@ -11,7 +11,7 @@ use Rattle.lh_unit.specs.declared.inst.BlockId.{BlockId}
 use Rattle.lh_unit.specs.declared.inst.InstId.{InstId}
 use Rattle.lh_unit.specs.declared.inst.Item.{Item}
 use Rattle.lh_unit.specs.declared.inst.Item.TheVariants as item
-use Rattle.lh_unit.specs.declared.table.Line.{Line}
+use Rattle.lh_unit.specs.declared.table.TableLine.{TableLine}
 use Rattle.lh_unit.proofs.Lists.{map-map}
 
 places_in-by_id : (f : Naming) (t : Table) (k : ℕ) (e : Bool) (b : BlockId) (before rest : List InstId)
@@ -149,7 +149,7 @@ inst_place-at t k s o p =
     mapped (x ∷ xs) zero q = let e : x ≡ s = cc in ap (λ (y : InstPlace). Some y.inst) e
     mapped (x ∷ xs) (suc i) q = mapped xs i q
 
-    from : (n : ℕ) (ls : List Line) (i : ℕ) (x : InstId) → slice_get (ids_from n ls) i ≡ Some x → x.0 ≡ n + i
+    from : (n : ℕ) (ls : List TableLine) (i : ℕ) (x : InstId) → slice_get (ids_from n ls) i ≡ Some x → x.0 ≡ n + i
     from n [] i x q = cc
     from n (l ∷ ls) zero x q = let e : record { 0 = n } ≡ x = some (record { 0 = n }) x q in sym (ap (λ (y : InstId). y.0) e) ∙ plus
       where

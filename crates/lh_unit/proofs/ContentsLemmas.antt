@@ -17,7 +17,7 @@ use Rattle.lh_unit.specs.declared.inst.Inst.{Inst}
 use Rattle.lh_unit.specs.declared.inst.Arg.{Arg}
 use Rattle.lh_unit.specs.declared.inst.Item.{Item}
 use Rattle.lh_unit.specs.declared.inst.Item.TheVariants as item
-use Rattle.lh_unit.specs.declared.table.Line.{Line}
+use Rattle.lh_unit.specs.declared.table.TableLine.{TableLine}
 use Rattle.lh_unit.proofs.Lists.{map-same, map-each, Each-left, Each-right}
 use Rattle.lh_types.proofs.Lists.{get_below, get_last}
 use Rattle.lh_unit_names.specs.declared.name.UnitName.{UnitName}
@@ -142,7 +142,7 @@ text-with_line a u t r i o h =
     f : Naming
     f = naming_of (unit_name_at a) t
 
-    line : Line
+    line : TableLine
     line = record { result = r; inst = i }
 
     now : Table

@@ -15,7 +15,7 @@ use Rattle.lh_unit.specs.declared.inst.BlockId.{BlockId}
 use Rattle.lh_unit.specs.declared.inst.InstId.{InstId}
 use Rattle.lh_unit.specs.declared.inst.ValueId.{ValueId}
 use Rattle.lh_unit.specs.declared.inst.Arg.{Arg}
-use Rattle.lh_unit.specs.declared.table.Line.{Line}
+use Rattle.lh_unit.specs.declared.table.TableLine.{TableLine}
 use Rattle.lh_unit.proofs.Lists.{Same, same, other, same_or, nat_eq-refl, nat_eq-other, or-assoc, not_true, map-map, map-flat}
 use Rattle.lh_unit_names.proofs.NameLists.{same_name-is, same_name-refl}
 
@@ -45,14 +45,14 @@ module _ (units : ℕ → UnitName) (t : Table) (o : IsTable t) where
   result-ids v None h w = refl
   result-ids v (Some x) h w = same_name-ids t.values x.0 v o.values_distinct w h
 
-  pub line-ids : (v : ℕ) (ls : List Line) → v < length t.values → ResultsWithin (length t.values) ls → lines_define (get_or t.values v []) (map (line_text (naming_of units t)) ls) ≡ is_made ls v
+  pub line-ids : (v : ℕ) (ls : List TableLine) → v < length t.values → ResultsWithin (length t.values) ls → lines_define (get_or t.values v []) (map (line_text (naming_of units t)) ls) ≡ is_made ls v
   line-ids v [] h w = refl
   line-ids v (l ∷ ls) h w =
       let p : is_result_name (get_or t.values v []) (maybe_text (naming_of units t) l.result) ≡ is_result l.result v = result-ids v l.result h w.0 in
       let r : lines_define (get_or t.values v []) (map (line_text (naming_of units t)) ls) ≡ is_made ls v = line-ids v ls h w.1 in λ i. p i || r i
 
 -- the lines of a unit's blocks are its instructions in file order
-lines_by_id : {Y : Type 0} (g : Line → Y) (all : List Line) (k : ℕ) (ls : List Line) → ((j : ℕ) → j < length ls → get_or all (k + j) no_line ≡ get_or ls j no_line)
+lines_by_id : {Y : Type 0} (g : TableLine → Y) (all : List TableLine) (k : ℕ) (ls : List TableLine) → ((j : ℕ) → j < length ls → get_or all (k + j) no_line ≡ get_or ls j no_line)
     → map (λ (i : InstId). g (get_or all i.0 no_line)) (ids_from k ls) ≡ map g ls
 lines_by_id g all k [] h = refl
 lines_by_id g all k (l ∷ ls) h =

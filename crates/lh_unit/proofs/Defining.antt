@@ -9,7 +9,7 @@ use Rattle.lh_unit.specs.declared.inst.ValueDef.{ValueDef}
 use Rattle.lh_unit.specs.declared.inst.ValueDef.TheVariants as value_def
 use Rattle.lh_unit.specs.declared.inst.Inst.{Inst}
 use Rattle.lh_unit.specs.declared.inst.Arg.{Arg}
-use Rattle.lh_unit.specs.declared.table.Line.{Line}
+use Rattle.lh_unit.specs.declared.table.TableLine.{TableLine}
 use Rattle.lh_unit.proofs.Lists.{nat_eq-refl, nat_eq-is, not_true, or_false, or_true, or-assoc, some_inj}
 use Rattle.lh_unit_names.proofs.Lists.{Trichotomy, before, at, past, trichotomy}
 use Rattle.lh_types.proofs.Lists.{get_below, get_last}
@@ -18,7 +18,7 @@ pub is_arg-push : (xs : List Arg) (a : Arg) (k : ℕ) → is_arg (xs ++ a ∷ []
 is_arg-push [] a k = or_false (nat_eq a.value.0 k)
 is_arg-push (x ∷ xs) a k = ap (λ b. nat_eq x.value.0 k || b) (is_arg-push xs a k) ∙ sym (or-assoc (nat_eq x.value.0 k) (is_arg xs k) (nat_eq a.value.0 k))
 
-pub is_made-push : (xs : List Line) (l : Line) (k : ℕ) → is_made (xs ++ l ∷ []) k ≡ (is_made xs k || is_result l.result k)
+pub is_made-push : (xs : List TableLine) (l : TableLine) (k : ℕ) → is_made (xs ++ l ∷ []) k ≡ (is_made xs k || is_result l.result k)
 is_made-push [] l k = or_false (is_result l.result k)
 is_made-push (x ∷ xs) l k = ap (λ b. is_result x.result k || b) (is_made-push xs l k) ∙ sym (or-assoc (is_result x.result k) (is_made xs k) (is_result l.result k))
 
@@ -28,7 +28,7 @@ is_arg-at [] j k p = cc
 is_arg-at (x ∷ xs) zero k p = let e : x.value ≡ record { 0 = k } = some_inj _ _ p in ap (λ (v : ValueId). nat_eq v.0 k || is_arg xs k) e ∙ ap (λ c. c || is_arg xs k) (nat_eq-refl k)
 is_arg-at (x ∷ xs) (suc j) k p = ap (λ c. nat_eq x.value.0 k || c) (is_arg-at xs j k p) ∙ or_true (nat_eq x.value.0 k)
 
-is_made-at : (ls : List Line) (i k : ℕ) → (get_or ls i no_line).result ≡ Some (record { 0 = k }) → is_made ls k ≡ true
+is_made-at : (ls : List TableLine) (i k : ℕ) → (get_or ls i no_line).result ≡ Some (record { 0 = k }) → is_made ls k ≡ true
 is_made-at [] i k p = cc
 is_made-at (l ∷ ls) zero k p = ap (λ r. is_result r k || is_made ls k) p ∙ ap (λ c. c || is_made ls k) (nat_eq-refl k)
 is_made-at (l ∷ ls) (suc i) k p = ap (λ c. is_result l.result k || c) (is_made-at ls i k p) ∙ or_true (is_result l.result k)
@@ -42,7 +42,7 @@ definition-tells t k (value_def.Inst i) p = ap (λ c. is_arg t.args k || c) (is_
 pub IsDefinition-same : (t u : Table) (k : ℕ) (d : ValueDef) → u.args ≡ t.args → u.lines ≡ t.lines → IsDefinition t k d → IsDefinition u k d
 IsDefinition-same t u k value_def.Missing a l p = (λ i. is_arg (a i) k || is_made (l i) k) ∙ p
 IsDefinition-same t u k (value_def.Arg j) a l p = (subst (λ (xs : List Arg). j < length xs) (sym a) p.0, ap (λ xs. option_map (λ (x : Arg). x.value) (slice_get xs j)) a ∙ p.1)
-IsDefinition-same t u k (value_def.Inst i) a l p = (subst (λ (xs : List Line). i.0 < length xs) (sym l) p.0, ap (λ xs. (get_or xs i.0 no_line).result) l ∙ p.1)
+IsDefinition-same t u k (value_def.Inst i) a l p = (subst (λ (xs : List TableLine). i.0 < length xs) (sym l) p.0, ap (λ xs. (get_or xs i.0 no_line).result) l ∙ p.1)
 
 pub is_defined-with_arg : (t : Table) (a : Arg) (k : ℕ) → is_defined (with_arg t a) k ≡ (is_defined t k || nat_eq a.value.0 k)
 is_defined-with_arg t a k = ap (λ c. c || is_made t.lines k) (is_arg-push t.args a k) ∙ swap (is_arg t.args k) (nat_eq a.value.0 k) (is_made t.lines k)
@@ -79,8 +79,8 @@ pub IsDefinition-with_line : (t : Table) (r : Option ValueId) (i : Inst) (k : �
 IsDefinition-with_line t r i k value_def.Missing n p = is_defined-with_line t r i k ∙ (λ j. p j || n j)
 IsDefinition-with_line t r i k (value_def.Arg j) n p = p
 IsDefinition-with_line t r i k (value_def.Inst x) n p =
-    let l : Line = record { result = r; inst = i } in
-    (omega (arith, p.0, length-append t.lines (l ∷ [])), ap (λ (y : Line). y.result) (get_or-push_before t.lines l no_line x.0 p.0) ∙ p.1)
+    let l : TableLine = record { result = r; inst = i } in
+    (omega (arith, p.0, length-append t.lines (l ∷ [])), ap (λ (y : TableLine). y.result) (get_or-push_before t.lines l no_line x.0 p.0) ∙ p.1)
 
 -- what was added defines its value
 pub arg-defines : (t : Table) (a : Arg) → IsDefinition (with_arg t a) a.value.0 (value_def.Arg (length t.args))
@@ -88,8 +88,8 @@ arg-defines t a = (omega (arith, length-append t.args (a ∷ [])), ap (option_ma
 
 pub line-defines : (t : Table) (v : ValueId) (i : Inst) → IsDefinition (with_line t (Some v) i) v.0 (value_def.Inst record { 0 = length t.lines })
 line-defines t v i =
-    let l : Line = record { result = Some v; inst = i } in
-    (omega (arith, length-append t.lines (l ∷ [])), ap (λ (y : Line). y.result) (get_or-push t.lines l no_line (length t.lines) refl))
+    let l : TableLine = record { result = Some v; inst = i } in
+    (omega (arith, length-append t.lines (l ∷ [])), ap (λ (y : TableLine). y.result) (get_or-push t.lines l no_line (length t.lines) refl))
 
 -- a definition after one more argument or line, where b tells whether that one gives the value: it stood before, or it is the new one
 data After (t : Table) (k : ℕ) (new : ValueDef) (b : Bool) (d : ValueDef) : Type 0 where
@@ -130,15 +130,15 @@ after-line t r i k value_def.Missing n p = let q = or_parts (is_defined t k) (is
 after-line t r i k (value_def.Arg j) n p = old p (fresh-result t r k n (definition-tells t k (value_def.Arg j) p))
 after-line t r i k (value_def.Inst x) n p = by (trichotomy (length t.lines) x.0)
   where
-    l : Line
+    l : TableLine
     l = record { result = r; inst = i }
 
     by : Trichotomy (length t.lines) x.0 → After t k (value_def.Inst record { 0 = length t.lines }) (is_result r k) (value_def.Inst x)
     by (before h) =
-        let q : IsDefinition t k (value_def.Inst x) = (h, sym (ap (λ (y : Line). y.result) (get_or-push_before t.lines (record { result = r; inst = i }) no_line x.0 h)) ∙ p.1) in
+        let q : IsDefinition t k (value_def.Inst x) = (h, sym (ap (λ (y : TableLine). y.result) (get_or-push_before t.lines (record { result = r; inst = i }) no_line x.0 h)) ∙ p.1) in
         old q (fresh-result t r k n (definition-tells t k (value_def.Inst x) q))
     by (at h) =
-        let q : r ≡ Some (record { 0 = k }) = sym (ap (λ (y : Line). y.result) (get_or-push t.lines (record { result = r; inst = i }) no_line x.0 h)) ∙ p.1 in
+        let q : r ≡ Some (record { 0 = k }) = sym (ap (λ (y : TableLine). y.result) (get_or-push t.lines (record { result = r; inst = i }) no_line x.0 h)) ∙ p.1 in
         now (ap (λ o. is_result o k) q ∙ nat_eq-refl k) (λ j. value_def.Inst record { 0 = h j })
     by (past h) = absurd (omega (arith, h, p.0, length-append t.lines ((record { result = r; inst = i }) ∷ [])))
 

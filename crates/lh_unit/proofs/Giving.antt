@@ -14,7 +14,7 @@ use Rattle.lh_unit.specs.declared.inst.ValueDef.{ValueDef}
 use Rattle.lh_unit.specs.declared.inst.ValueDef.TheVariants as value_def
 use Rattle.lh_unit.specs.declared.inst.Inst.{Inst}
 use Rattle.lh_unit.specs.declared.inst.Arg.{Arg}
-use Rattle.lh_unit.specs.declared.table.Line.{Line}
+use Rattle.lh_unit.specs.declared.table.TableLine.{TableLine}
 use Rattle.lh_unit.proofs.Lists.{nat_eq-refl, nat_eq-is, not_true, some_inj}
 use Rattle.lh_unit.proofs.ById.{arg_named-by_id, inst_giving-by_id}
 
@@ -31,7 +31,7 @@ arg_being-at (x ∷ xs) (suc j) k a p e u =
     let z : zero ≡ suc j = u zero (omega arith) (λ i. Some (record { 0 = w i })) in cc) in
     ap (λ c. if c then Some x else arg_being xs k) n ∙ arg_being-at xs j k a p e (λ i h q. let z : suc i ≡ suc j = u (suc i) (omega (arith, h)) q in omega (arith, z))
 
-inst_making-at : (ls : List Line) (j k : ℕ) → (get_or ls j no_line).result ≡ Some (record { 0 = k }) → ((i : ℕ) → i < length ls → (get_or ls i no_line).result ≡ Some (record { 0 = k }) → i ≡ j)
+inst_making-at : (ls : List TableLine) (j k : ℕ) → (get_or ls j no_line).result ≡ Some (record { 0 = k }) → ((i : ℕ) → i < length ls → (get_or ls i no_line).result ≡ Some (record { 0 = k }) → i ≡ j)
     → inst_making ls k ≡ Some (get_or ls j no_line).inst
 inst_making-at [] j k e u = cc
 inst_making-at (l ∷ ls) zero k e u =
@@ -54,7 +54,7 @@ arg_being-none : (xs : List Arg) (k : ℕ) → is_arg xs k ≡ false → arg_bei
 arg_being-none [] k p = refl
 arg_being-none (x ∷ xs) k p = not-found (nat_eq x.value.0 k) (is_arg xs k) x (arg_being xs k) p (arg_being-none xs k)
 
-inst_making-none : (ls : List Line) (k : ℕ) → is_made ls k ≡ false → inst_making ls k ≡ None
+inst_making-none : (ls : List TableLine) (k : ℕ) → is_made ls k ≡ false → inst_making ls k ≡ None
 inst_making-none [] k p = refl
 inst_making-none (l ∷ ls) k p = not-found (is_result l.result k) (is_made ls k) l.inst (inst_making ls k) p (inst_making-none ls k)
 

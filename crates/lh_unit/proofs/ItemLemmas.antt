@@ -6,7 +6,7 @@ use Rattle.std.proofs.lemmas.List.{map-append, get_or-set_same, get_or_append_le
 use Rattle.std.proofs.lemmas.Option.{slice_get-get_or, get_or_from_slice_get}
 use Rattle.indexmap.specs.IndexSet.{insert_key}
 use Rattle.lh_types.specs.Types.{void_type}
-use Rattle.lh_types.specs.declared.ty.NoMemory.{NoMemory}
+use Rattle.lh_types.specs.declared.memory.NoMemory.{NoMemory}
 use Rattle.lh_unit.specs.Contents.{unit_text, new_unit, defines_unit}
 use Rattle.lh_unit_names.specs.UnitNames.{same_unit_name}
 use Rattle.lh_unit.specs.Table.{Table, IsTable, no_table, entity_block, insts_at, line_at}

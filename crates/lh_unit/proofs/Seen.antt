@@ -5,7 +5,7 @@ use Rattle.lh_unit.specs.Table.{Table, IsTable, line_at, no_line}
 use Rattle.lh_unit.specs.Arena.{Arena, IsArena, InstPlaced, table_at, unit_count, inst_count}
 use Rattle.lh_unit.specs.ArenaOf.{arena_of}
 use Rattle.lh_unit.specs.declared.module.Module.TheInside.{Inside}
-use Rattle.lh_unit.specs.declared.table.Line.{Line}
+use Rattle.lh_unit.specs.declared.table.TableLine.{TableLine}
 use Rattle.lh_unit.proofs.Writes.{read}
 
 module _ (m : Inside) (a : Arena) (e : arena_of m ≡ a) (u : ℕ) (h : u < unit_count a) where
@@ -22,7 +22,7 @@ module _ (m : Inside) (a : Arena) (e : arena_of m ≡ a) (u : ℕ) (h : u < unit
   table-sound s q o = subst IsTable (sym (read (arena_of m) u s within q)) (o.tables u within)
 
   -- its instructions have their ids in their places
-  pub line-placed : (s : Table) → s ≡ get_or m.units.items u s → IsArena (arena_of m) → (i : ℕ) (l : Line) → i < inst_count a u → l ≡ line_at s i → InstPlaced a u l.inst
+  pub line-placed : (s : Table) → s ≡ get_or m.units.items u s → IsArena (arena_of m) → (i : ℕ) (l : TableLine) → i < inst_count a u → l ≡ line_at s i → InstPlaced a u l.inst
   line-placed s q o i l w p =
       let r : table_at (arena_of m) u ≡ s = sym (read (arena_of m) u s within q) in
       let v : i < length s.lines = subst (λ (t : Table). i < length t.lines) (sym (table-read s q)) w in

@@ -15,7 +15,7 @@ use Rattle.lh_unit.specs.declared.inst.ValueDef.{ValueDef}
 use Rattle.lh_unit.specs.declared.inst.ValueDef.TheVariants as value_def
 use Rattle.lh_unit.specs.declared.inst.Inst.{Inst}
 use Rattle.lh_unit.specs.declared.inst.Arg.{Arg}
-use Rattle.lh_unit.specs.declared.table.Line.{Line}
+use Rattle.lh_unit.specs.declared.table.TableLine.{TableLine}
 pub use Rattle.lh_unit.proofs.Defining.{is_arg-push, is_made-push}
 use Rattle.lh_unit.proofs.Defining.{definition-tells, IsDefinition-with_arg, IsDefinition-with_line, IsDefinition-same, arg-defines, line-defines, once-with_arg, once-with_line}
 use Rattle.lh_unit.proofs.Lists.{Same, same, other, same_or, nat_eq-refl, nat_eq-other, or_false, or_true, or-assoc, get_or-push_default, front_last, map-ext, map-same, flat-append}
@@ -32,7 +32,7 @@ ResultWithin-more : (n m : ℕ) (r : Option ValueId) → n ≤ m → ResultWithi
 ResultWithin-more n m None h w = tt
 ResultWithin-more n m (Some v) h w = omega arith
 
-ResultsWithin-more : (n m : ℕ) (xs : List Line) → n ≤ m → ResultsWithin n xs → ResultsWithin m xs
+ResultsWithin-more : (n m : ℕ) (xs : List TableLine) → n ≤ m → ResultsWithin n xs → ResultsWithin m xs
 ResultsWithin-more n m [] h w = tt
 ResultsWithin-more n m (l ∷ xs) h w = (ResultWithin-more n m l.result h w.0, ResultsWithin-more n m xs h w.1)
 
@@ -51,7 +51,7 @@ ArgsWithin-push : (n : ℕ) (xs : List Arg) (a : Arg) → ArgsWithin n xs → a.
 ArgsWithin-push n [] a w h = (h, tt)
 ArgsWithin-push n (x ∷ xs) a w h = (w.0, ArgsWithin-push n xs a w.1 h)
 
-ResultsWithin-push : (n : ℕ) (xs : List Line) (l : Line) → ResultsWithin n xs → ResultWithin n l.result → ResultsWithin n (xs ++ l ∷ [])
+ResultsWithin-push : (n : ℕ) (xs : List TableLine) (l : TableLine) → ResultsWithin n xs → ResultWithin n l.result → ResultsWithin n (xs ++ l ∷ [])
 ResultsWithin-push n [] l w h = (h, tt)
 ResultsWithin-push n (x ∷ xs) l w h = (w.0, ResultsWithin-push n xs l w.1 h)
 
@@ -68,14 +68,14 @@ is_block-at [] i b p = cc
 is_block-at (x ∷ xs) zero b p = let e : x ≡ b = cc in ap (λ z. nat_eq z.0 b.0 || is_block xs b.0) e ∙ ap (λ c. c || is_block xs b.0) (nat_eq-refl b.0)
 is_block-at (x ∷ xs) (suc i) b p = ap (λ c. nat_eq x.0 b.0 || c) (is_block-at xs i b p) ∙ or_true (nat_eq x.0 b.0)
 
-ids_from-push : (k : ℕ) (ls : List Line) (l : Line) → ids_from k (ls ++ l ∷ []) ≡ ids_from k ls ++ record { 0 = k + length ls } ∷ []
+ids_from-push : (k : ℕ) (ls : List TableLine) (l : TableLine) → ids_from k (ls ++ l ∷ []) ≡ ids_from k ls ++ record { 0 = k + length ls } ∷ []
 ids_from-push k [] l = let e : k ≡ k + 0 = omega arith in ap (λ n. record { 0 = n } ∷ []) e
 ids_from-push k (x ∷ ls) l =
     let e : k + 1 + length ls ≡ k + length (x ∷ ls) = omega arith in
     let r : ids_from (k + 1) (ls ++ l ∷ []) ≡ ids_from (k + 1) ls ++ record { 0 = k + 1 + length ls } ∷ [] = ids_from-push (k + 1) ls l in
     ap (λ z. record { 0 = k } ∷ z) (r ∙ ap (λ n. ids_from (k + 1) ls ++ record { 0 = n } ∷ []) e)
 
-no_lines : (k : ℕ) (ls : List Line) → [] ≡ ids_from k ls → ls ≡ []
+no_lines : (k : ℕ) (ls : List TableLine) → [] ≡ ids_from k ls → ls ≡ []
 no_lines k [] p = refl
 no_lines k (l ∷ ls) p = cc
 
@@ -370,7 +370,7 @@ IsTable-with_line t r i h w few n o = record {
   few_labels = o.few_labels;
 }
   where
-    line : Line
+    line : TableLine
     line = record { result = r; inst = i }
 
     b : ℕ
@@ -421,7 +421,7 @@ is_result-past : (n k : ℕ) (r : Option ValueId) → ResultWithin n r → n ≤
 is_result-past n k None w h = refl
 is_result-past n k (Some v) w h = nat_eq-other v.0 k (λ e. omega (arith, e))
 
-is_made-past : (n k : ℕ) (xs : List Line) → ResultsWithin n xs → n ≤ k → is_made xs k ≡ false
+is_made-past : (n k : ℕ) (xs : List TableLine) → ResultsWithin n xs → n ≤ k → is_made xs k ≡ false
 is_made-past n k [] w h = refl
 is_made-past n k (l ∷ xs) w h = rw (is_result-past n k l.result w.0 h) (is_made-past n k xs w.1 h)
 
@@ -548,7 +548,7 @@ result-told t defs None f h = refl
 result-told t defs (Some v) f h = sym (definition-tells t v.0 (get_or defs v.0 value_def.Missing) (f.right v.0 h))
 
 -- the lines and bodies that were written
-pub line-laid : (t : Table) (b : BlockId) (lines : List Line) (bodies : List (Option (List InstId))) (r : Option ValueId) (i : Inst) → b ≡ last_block t
+pub line-laid : (t : Table) (b : BlockId) (lines : List TableLine) (bodies : List (Option (List InstId))) (r : Option ValueId) (i : Inst) → b ≡ last_block t
     → lines ≡ t.lines ++ record { result = r; inst = i } ∷ []
     → bodies ≡ set t.bodies b.0 (Some (unwrap_or (get_or t.bodies b.0 None) [] ++ record { 0 = length t.lines } ∷ [])) → record t { lines = lines; bodies = bodies } ≡ with_line t r i
 line-laid t b lines bodies r i e l d =

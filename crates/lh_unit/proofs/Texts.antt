@@ -16,7 +16,7 @@ use Rattle.lh_unit.specs.declared.inst.PhiEdge.{PhiEdge}
 use Rattle.lh_unit.specs.declared.inst.Inst.{Inst}
 use Rattle.lh_unit.specs.declared.inst.Inst.TheVariants as inst
 use Rattle.lh_unit.specs.declared.inst.Arg.{Arg}
-use Rattle.lh_unit.specs.declared.table.Line.{Line}
+use Rattle.lh_unit.specs.declared.table.TableLine.{TableLine}
 use Rattle.std.proofs.lemmas.Option.{slice_get-get_or}
 use Rattle.lh_unit.proofs.Lists.{map-each, map-same, Each-part}
 use Rattle.lh_unit.proofs.Tables.{BlocksWithin-at}
@@ -102,16 +102,16 @@ module _ (s : Sizes) (f g : Naming) (e : Agree s f g) where
       let r : map (arg_text f) xs ≡ map (arg_text g) xs = args-same xs h.1 in
       λ i. record { name = p i; ty = a.ty; output = a.output } ∷ r i
 
-  result_within : (ls : List Line) (i : ℕ) (l : Line) → slice_get ls i ≡ Some l → ResultsWithin s.values ls → ResultWithin s.values l.result
+  result_within : (ls : List TableLine) (i : ℕ) (l : TableLine) → slice_get ls i ≡ Some l → ResultsWithin s.values ls → ResultWithin s.values l.result
   result_within [] i l p w = cc
-  result_within (x ∷ ls) zero l p w = let q : x ≡ l = cc in subst (λ (y : Line). ResultWithin s.values y.result) q w.0
+  result_within (x ∷ ls) zero l p w = let q : x ≡ l = cc in subst (λ (y : TableLine). ResultWithin s.values y.result) q w.0
   result_within (x ∷ ls) (suc i) l p w = result_within ls i l p w.1
 
   maybe-of : (r : Option ValueId) → ResultWithin s.values r → MaybeWithin s r
   maybe-of None h = tt
   maybe-of (Some v) h = h
 
-  line-same : (t : Table) (i : ℕ) → i < length t.lines → ResultsWithin s.values t.lines → ((k : ℕ) (l : Line) → slice_get t.lines k ≡ Some l → InstWithin s l.inst)
+  line-same : (t : Table) (i : ℕ) → i < length t.lines → ResultsWithin s.values t.lines → ((k : ℕ) (l : TableLine) → slice_get t.lines k ≡ Some l → InstWithin s l.inst)
       → line_text f (line_at t i) ≡ line_text g (line_at t i)
   line-same t i h w p =
       let q : slice_get t.lines i ≡ Some (line_at t i) = slice_get-get_or t.lines i no_line h in
@@ -120,7 +120,7 @@ module _ (s : Sizes) (f g : Naming) (e : Agree s f g) where
       λ j. record { result = r j; inst = n j }
 
 -- the ids of the instructions are within
-pub ids-within : (n k : ℕ) (ls : List Line) → k + length ls ≤ n → Each (λ (i : InstId). i.0 < n) (ids_from k ls)
+pub ids-within : (n k : ℕ) (ls : List TableLine) → k + length ls ≤ n → Each (λ (i : InstId). i.0 < n) (ids_from k ls)
 ids-within n k [] h = tt
 ids-within n k (l ∷ ls) h = (omega arith, ids-within n (k + 1) ls (omega arith))
 
@@ -138,7 +138,7 @@ label-same s f g e (Some kind.Entity) t n w j b p = refl
 
 -- the text of a unit under two namings
 pub table_text-same : (n : ℕ) (f g : Naming) (name : UnitName) (t : Table) → Agree (sizes_of n t) f g → IsTable t
-    → ((k : ℕ) (l : Line) → slice_get t.lines k ≡ Some l → InstWithin (sizes_of n t) l.inst) → table_text f name t ≡ table_text g name t
+    → ((k : ℕ) (l : TableLine) → slice_get t.lines k ≡ Some l → InstWithin (sizes_of n t) l.inst) → table_text f name t ≡ table_text g name t
 table_text-same n f g name t e o p =
     let xs : map (arg_text f) t.args ≡ map (arg_text g) t.args = args-same (sizes_of n t) f g e t.args o.args_within in
     let bs : map (block_text f t) t.blocks ≡ map (block_text g t) t.blocks = map-same (block_text f t) (block_text g t) t.blocks block in

@@ -2,7 +2,7 @@
 use Rattle.std.proofs.Common.{◌≡◌, ℕ, ◌-◌, ◌^◌, ◌<◌, List, length, get_or, Option, Some, None, IsSome, Result, ap, ◌∙◌, subst, arith}
 use Rattle.std.proofs.lemmas.List.{get_or_read, length-map}
 use Rattle.lh_types.specs.Types.{TypeTree}
-use Rattle.lh_types.specs.declared.ty.NoMemory.{NoMemory}
+use Rattle.lh_types.specs.declared.memory.NoMemory.{NoMemory}
 use Rattle.lh_unit.specs.Table.{Table, HasBlocks, ResultWithin, no_table}
 use Rattle.lh_unit.specs.TableCalls.{FindsValueIn, FindsLabelIn, TakesArg, TakesBlock, TakesLine, with_result}
 use Rattle.lh_unit.specs.Within.{MaybeWithin}

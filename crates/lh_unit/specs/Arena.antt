@@ -16,7 +16,7 @@ use Rattle.lh_unit.specs.declared.inst.Inst.{Inst}
 use Rattle.lh_unit.specs.declared.inst.Arg.{Arg}
 use Rattle.lh_unit.specs.declared.inst.Item.{Item}
 use Rattle.lh_unit.specs.declared.inst.Item.TheVariants as item
-use Rattle.lh_unit.specs.declared.table.Line.{Line}
+use Rattle.lh_unit.specs.declared.table.TableLine.{TableLine}
 
 pub record Arena : Type 0 where
   pub names : List UnitName
@@ -126,7 +126,7 @@ pub record IsArena (a : Arena) : Type 0 where
   pub few : length a.units < 2 ^ 32
   pub names_distinct : AllDistinct a.names
   pub tables : (u : ℕ) → u < length a.units → IsTable (table_at a u)
-  pub placed : (u i : ℕ) (l : Line) → slice_get (table_at a u).lines i ≡ Some l → InstPlaced a u l.inst
+  pub placed : (u i : ℕ) (l : TableLine) → slice_get (table_at a u).lines i ≡ Some l → InstPlaced a u l.inst
   pub items_within : (i : ℕ) (u : UnitId) → slice_get a.items i ≡ Some (item.Unit u) → u.0 < length a.units
   pub items_begun : (i : ℕ) (u : UnitId) → slice_get a.items i ≡ Some (item.Unit u) → IsSome (kind_at a u.0)
   pub items_distinct : (i j : ℕ) (u : UnitId) → slice_get a.items i ≡ Some (item.Unit u) → slice_get a.items j ≡ Some (item.Unit u) → i ≡ j

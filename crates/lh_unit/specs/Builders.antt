@@ -1,7 +1,7 @@
 -- What each call that builds a module answers, and what it does to the contents.
 use Rattle.std.specs.Prelude.{◌≡◌, ◌⊎◌, ℕ, ◌+◌, ◌<◌, Bool, true, false, List, [], ◌∷◌, ◌++◌, Option, Some, None, Result, Ok, Err}
 use Rattle.lh_types.specs.Types.{TypeTree}
-use Rattle.lh_types.specs.declared.ty.NoMemory.{NoMemory}
+use Rattle.lh_types.specs.declared.memory.NoMemory.{NoMemory}
 use Rattle.lh_unit.specs.Contents.{ItemText, UnitText, LineText, ArgText, unit_text, declare_text, new_unit, change_last, with_arg, with_result, with_block, with_line, line_count, defines_unit, defines_value, defines_label}
 use Rattle.lh_unit.specs.Naming.{maybe_text}
 use Rattle.lh_unit.specs.Arena.{Arena, KeepsEntries, Grows, HasAtMost, HasFewMore, none_more, one_more_in, IsOpen, OfOpen, contents, naming, unit_count, value_count, label_count, inst_count, unit_name_at, value_name_at, label_name_at, inst_text_at}

@@ -18,7 +18,7 @@ use Rattle.lh_unit.specs.declared.inst.Inst.TheVariants as inst
 use Rattle.lh_unit.specs.declared.inst.Arg.{Arg}
 use Rattle.lh_unit.specs.declared.inst.Item.{Item}
 use Rattle.lh_unit.specs.declared.inst.Item.TheVariants as item
-use Rattle.lh_unit.specs.declared.table.Line.{Line}
+use Rattle.lh_unit.specs.declared.table.TableLine.{TableLine}
 
 -- an instruction makes a signal
 abbrev pub is_sig : Inst → Bool
@@ -113,7 +113,7 @@ arg_being [] v = None
 arg_being (x ∷ more) v = if nat_eq x.value.0 v then Some x else arg_being more v
 
 -- the instruction that gives the value v
-abbrev pub inst_making : List Line → ℕ → Option Inst
+abbrev pub inst_making : List TableLine → ℕ → Option Inst
 inst_making [] v = None
 inst_making (l ∷ more) v = if is_result l.result v then Some l.inst else inst_making more v
 

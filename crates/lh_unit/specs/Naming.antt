@@ -13,7 +13,7 @@ use Rattle.lh_unit.specs.declared.inst.PhiEdge.{PhiEdge}
 use Rattle.lh_unit.specs.declared.inst.Inst.{Inst}
 use Rattle.lh_unit.specs.declared.inst.Inst.TheVariants as inst
 use Rattle.lh_unit.specs.declared.inst.Arg.{Arg}
-use Rattle.lh_unit.specs.declared.table.Line.{Line}
+use Rattle.lh_unit.specs.declared.table.TableLine.{TableLine}
 
 -- the names that the ids of one unit stand for
 pub record Naming : Type 0 where
@@ -61,7 +61,7 @@ inst_text f inst.Halt = halt_text
 inst_text f (inst.Ret None) = ret_text None
 inst_text f (inst.Ret (Some t)) = ret_text (Some (operand_text f t))
 
-abbrev pub line_text : Naming → Line → LineText
+abbrev pub line_text : Naming → TableLine → LineText
 line_text f l = record { result = maybe_text f l.result; inst = inst_text f l.inst }
 
 abbrev pub arg_text : Naming → Arg → ArgText

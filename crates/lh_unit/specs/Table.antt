@@ -12,7 +12,7 @@ use Rattle.lh_unit.specs.declared.inst.ValueDef.{ValueDef}
 use Rattle.lh_unit.specs.declared.inst.ValueDef.TheVariants as value_def
 use Rattle.lh_unit.specs.declared.inst.Inst.TheVariants.{Halt}
 use Rattle.lh_unit.specs.declared.inst.Arg.{Arg}
-use Rattle.lh_unit.specs.declared.table.Line.{Line}
+use Rattle.lh_unit.specs.declared.table.TableLine.{TableLine}
 
 -- the names of values and labels by their ids; the blocks in file order; of each block that stands, its instructions; the instructions in file order
 pub record Table : Type 0 where
@@ -23,17 +23,17 @@ pub record Table : Type 0 where
   pub result : Option TypeTree
   pub blocks : List BlockId
   pub bodies : List (Option (List InstId))
-  pub lines : List Line
+  pub lines : List TableLine
 
 -- a unit that is Missing, with no entries
 abbrev pub no_table : Table
 no_table = record { kind = None; values = []; labels = []; args = []; result = None; blocks = []; bodies = []; lines = [] }
 
-abbrev pub no_line : Line
+abbrev pub no_line : TableLine
 no_line = record { result = None; inst = Halt }
 
 -- the instruction i, with its result
-abbrev pub line_at : Table → ℕ → Line
+abbrev pub line_at : Table → ℕ → TableLine
 line_at t i = slice_index_or t.lines i no_line
 
 -- the instructions of the block b, in order
@@ -50,7 +50,7 @@ is_result None k = false
 is_result (Some v) k = nat_eq v.0 k
 
 -- whether the value k is the result of an instruction
-abbrev pub is_made : List Line → ℕ → Bool
+abbrev pub is_made : List TableLine → ℕ → Bool
 is_made [] k = false
 is_made (l ∷ ls) k = is_result l.result k || is_made ls k
 
@@ -89,7 +89,7 @@ flat [] = []
 flat (xs ∷ more) = xs ++ flat more
 
 -- n ids from k on
-abbrev pub ids_from : ℕ → List Line → List InstId
+abbrev pub ids_from : ℕ → List TableLine → List InstId
 ids_from k [] = []
 ids_from k (l ∷ ls) = record { 0 = k } ∷ ids_from (k + 1) ls
 
@@ -101,7 +101,7 @@ abbrev pub ResultWithin : ℕ → Option ValueId → Type 0
 ResultWithin n None = Unit {0}
 ResultWithin n (Some v) = v.0 < n
 
-abbrev pub ResultsWithin : ℕ → List Line → Type 0
+abbrev pub ResultsWithin : ℕ → List TableLine → Type 0
 ResultsWithin n [] = Unit {0}
 ResultsWithin n (l ∷ ls) = ResultWithin n l.result × ResultsWithin n ls
 

@@ -1,7 +1,7 @@
 -- What each call on one unit answers, and what it does to the unit's table.
 use Rattle.std.specs.Prelude.{◌≡◌, ℕ, ◌-◌, ◌<◌, true, false, if◌then◌else◌, List, [], ◌∷◌, ◌++◌, length, Option, Some, None, Result, Ok, Err, slice_get, slice_set, slice_index_or}
 use Rattle.lh_types.specs.Types.{TypeTree, void_type}
-use Rattle.lh_types.specs.declared.ty.NoMemory.{NoMemory}
+use Rattle.lh_types.specs.declared.memory.NoMemory.{NoMemory}
 use Rattle.lh_unit_names.specs.Distinct.{has_name}
 use Rattle.lh_unit.specs.Table.{Table, is_block, is_defined, result_defined, entity_block, insts_at}
 use Rattle.lh_unit.specs.declared.inst.UnitKind.{UnitKind}

@@ -3,7 +3,7 @@ ghost use Rattle.std.specs.Prelude.{◌≡◌, IfOk};
 ghost use Rattle.lh_types.specs.Values.{int_value};
 ghost use Rattle.lh_types.specs.ValueOf.{datum_of};
 
-use lh_types::ty::NoMemory;
+use lh_types::memory::NoMemory;
 use lh_types::val::Val;
 use std::alloc::Global;
 use std::boxed::Box;

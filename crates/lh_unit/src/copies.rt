@@ -6,8 +6,9 @@ use crate::inst::{
     BlockId, Declare, Inst, OperandList, PhiEdgeList, RegTriggerList, Typed, TypedList, UnitId,
     ValueId, ValueIdList,
 };
+use lh_types::memory::NoMemory;
 use lh_types::op::Op;
-use lh_types::ty::{NoMemory, Ty, TyList};
+use lh_types::ty::{Ty, TyList};
 use lh_unit_names::name::UnitName;
 use std::alloc::Global;
 

@@ -7,7 +7,8 @@ ghost use Rattle.lh_unit.specs.TableCalls.{FindsValueIn, FindsLabelIn, BeginsTab
 
 use crate::inst::{Arg, BlockId, Inst, InstId, UnitFault, UnitKind, ValueDef, ValueId};
 use lh_types::list::ListOf;
-use lh_types::ty::{NoMemory, Ty};
+use lh_types::memory::NoMemory;
+use lh_types::ty::Ty;
 use lh_unit_names::name::Name;
 use lh_unit_names::table::NameTable;
 use std::alloc::Global;
@@ -15,7 +16,7 @@ use std::marker::Model;
 
 /// An instruction and its result.
 #[derive(Drop)]
-pub struct Line {
+pub struct TableLine {
     pub result: Option<ValueId>,
     pub inst: Inst,
 }
@@ -36,7 +37,7 @@ pub struct UnitTable {
     blocks: Vec<BlockId>,
     args: Vec<Arg>,
     result: Option<Ty>,
-    lines: Vec<Line>,
+    lines: Vec<TableLine>,
 }
 
 impl Model for UnitTable {
@@ -185,7 +186,7 @@ impl UnitTable {
         if push_id(&mut self.bodies, last, InstId(id as u32)).is_err() {
             return refuse(inst, UnitFault::OutOfMemory);
         }
-        self.lines.push_reserved(Line {
+        self.lines.push_reserved(TableLine {
             result: value,
             inst,
         });
@@ -246,7 +247,7 @@ impl UnitTable {
     }
 
     /// An instruction and its result.
-    pub fn line(&self, inst: InstId) -> &Line
+    pub fn line(&self, inst: InstId) -> &TableLine
         requires { inst.0 < length self.now.lines }
         ensures { result.now ≡ line_at self.now inst.0 }
     {

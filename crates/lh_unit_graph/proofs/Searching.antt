@@ -12,7 +12,7 @@ use Rattle.lh_verify_laws.proofs.Graphs.{Distinct, not_open, is_open-in, first-a
 use Rattle.lh_unit_graph.specs.declared.search.Mark.{Mark}
 use Rattle.lh_unit_graph.specs.declared.search.Mark.TheVariants as mark
 use Rattle.lh_unit_graph.specs.declared.search.OpenUnit.{OpenUnit}
-use Rattle.lh_unit_graph.specs.declared.search.Search.{Search}
+use Rattle.lh_unit_graph.specs.declared.search.UnitSearch.{UnitSearch}
 use Rattle.lh_unit_graph.specs.Measures.{Measuring, node_at, targets_at, IsMeasure, cycle_in, HasBusy}
 use Rattle.lh_unit_graph.specs.Searches.{mark_at, entered, passed, IsDone, IsQuiet, LeftUnitsAreKnown, units, Covered}
 use Rattle.lh_unit_graph.proofs.Measuring.{IsSum, IsSum-none, IsSum-beside, IsMeasure-around}
@@ -49,7 +49,7 @@ module _ {N M : Type 0} (C : Measuring N M) where
   SearchingBy g top marks [] = Over g top marks
   SearchingBy g top marks (f ∷ rest) = Below g top marks f rest
 
-  abbrev pub Searching : List N → (top : ℕ) → Search M → Type 0
+  abbrev pub Searching : List N → (top : ℕ) → UnitSearch M → Type 0
   Searching g top s = SearchingBy g top s.marks.items (reverse s.stack.items)
 
   -- what was left stays left

@@ -8,7 +8,7 @@ use Rattle.lh_unit_graph.specs.declared.fault.DescentFault.TheVariants as fault
 use Rattle.lh_unit_graph.specs.declared.search.Mark.{Mark}
 use Rattle.lh_unit_graph.specs.declared.search.Mark.TheVariants as mark
 use Rattle.lh_unit_graph.specs.declared.search.OpenUnit.{OpenUnit}
-use Rattle.lh_unit_graph.specs.declared.search.Search.{Search}
+use Rattle.lh_unit_graph.specs.declared.search.UnitSearch.{UnitSearch}
 use Rattle.lh_unit_graph.specs.Measures.{Measuring, node_at, targets_at, cycle_in, IsMeasure}
 
 -- the mark of the unit u
@@ -24,16 +24,16 @@ abbrev pub units : {M : Type 0} → List (OpenUnit M) → List ℕ
 units {M} fs = map (λ (f : OpenUnit M). f.unit.0) fs
 
 -- a unit taken from the stack, and those on it, have marks
-abbrev pub InPlace : {M : Type 0} → Search M → OpenUnit M → Type 0
+abbrev pub InPlace : {M : Type 0} → UnitSearch M → OpenUnit M → Type 0
 InPlace {M} s f = (f.unit.0 < length s.marks.items) × Each (λ (p : OpenUnit M). p.unit.0 < length s.marks.items) (reverse s.stack.items)
 
 -- nothing is changed
-pub record Stays {M : Type 0} (old new : Search M) : Type 0 where
+pub record Stays {M : Type 0} (old new : UnitSearch M) : Type 0 where
   pub marks : new.marks.items ≡ old.marks.items
   pub stack : new.stack.items ≡ old.stack.items
 
 -- what holds after a call that may find no memory; nothing is changed then
-abbrev pub Done : {M : Type 0} → Result (Unit {0}) DescentFault → (old new : Search M) → Type 0 → Type 0
+abbrev pub Done : {M : Type 0} → Result (Unit {0}) DescentFault → (old new : UnitSearch M) → Type 0 → Type 0
 Done (Ok x) old new P = P
 Done (Err e) old new P = (e ≡ fault.OutOfMemory) × Stays old new
 
@@ -55,16 +55,16 @@ module _ {N M : Type 0} (c : Measuring N M) where
     pub waiting : (u : ℕ) → IsIn (units fs) u → IsDone marks u → ⊥
 
   -- between two questions no unit is open
-  pub record IsSettled (g : List N) (s : Search M) : Type 0 where
+  pub record IsSettled (g : List N) (s : UnitSearch M) : Type 0 where
     pub covered : Covered g s.marks.items []
     pub empty : s.stack.items ≡ []
 
   -- where units are open, the innermost last, giving the search up leaves it settled
-  abbrev pub Settles : (old new : Search M) → OpenUnit M → Type 0
+  abbrev pub Settles : (old new : UnitSearch M) → OpenUnit M → Type 0
   Settles old new f = (g : List N) → Covered g old.marks.items (f ∷ reverse old.stack.items) → IsSettled g new
 
   -- a new search over this many units is settled
-  abbrev pub StartsSettled : ℕ → Search M → Type 0
+  abbrev pub StartsSettled : ℕ → UnitSearch M → Type 0
   StartsSettled n s = (g : List N) → length g ≡ n → IsSettled g s
 
   -- a unit that is just opened
@@ -76,31 +76,31 @@ module _ {N M : Type 0} (c : Measuring N M) where
   passed f m = record { unit = f.unit; next = f.next + 1; inside = c.beside f.inside m }
 
   -- a unit is opened, after these
-  pub record Opens (fs : List (OpenUnit M)) (t : UnitId) (old new : Search M) : Type 0 where
+  pub record Opens (fs : List (OpenUnit M)) (t : UnitId) (old new : UnitSearch M) : Type 0 where
     pub marks : new.marks.items ≡ slice_set old.marks.items t.0 mark.Opened
     pub stack : new.stack.items ≡ (old.stack.items ++ fs) ++ entered t ∷ []
 
   -- a unit without more targets is left
-  pub record Finishes (f : OpenUnit M) (n : N) (old new : Search M) : Type 0 where
+  pub record Finishes (f : OpenUnit M) (n : N) (old new : UnitSearch M) : Type 0 where
     pub marks : new.marks.items ≡ slice_set old.marks.items f.unit.0 (mark.Done (c.around f.inside n))
     pub stack : new.stack.items ≡ old.stack.items
 
   -- the search passes a target that it has left
-  pub record Passed (f : OpenUnit M) (m : M) (old new : Search M) : Type 0 where
+  pub record Passed (f : OpenUnit M) (m : M) (old new : UnitSearch M) : Type 0 where
     pub marks : new.marks.items ≡ old.marks.items
     pub stack : new.stack.items ≡ old.stack.items ++ passed f m ∷ []
 
   -- by the mark of the next target
-  abbrev pub StepsTo : Mark M → OpenUnit M → UnitId → (old new : Search M) → Result (Unit {0}) DescentFault → Type 0
+  abbrev pub StepsTo : Mark M → OpenUnit M → UnitId → (old new : UnitSearch M) → Result (Unit {0}) DescentFault → Type 0
   StepsTo mark.New f t old new r = Done r old new (Opens (f ∷ []) t old new)
   StepsTo mark.Opened f t old new r = (r ≡ Err (fault.Cycle t)) × Stays old new
   StepsTo (mark.Done m) f t old new r = Done r old new (Passed f m old new)
 
   -- by the next target, if there is one
-  abbrev pub StepsBy : Option UnitId → List N → OpenUnit M → (old new : Search M) → Result (Unit {0}) DescentFault → Type 0
+  abbrev pub StepsBy : Option UnitId → List N → OpenUnit M → (old new : UnitSearch M) → Result (Unit {0}) DescentFault → Type 0
   StepsBy None g f old new r = (r ≡ Ok tt) × Finishes f (node_at c g f.unit.0) old new
   StepsBy (Some t) g f old new r = StepsTo (mark_at old.marks.items t.0) f t old new r
 
   -- one step below an open unit
-  abbrev pub Steps : List N → OpenUnit M → (old new : Search M) → Result (Unit {0}) DescentFault → Type 0
+  abbrev pub Steps : List N → OpenUnit M → (old new : UnitSearch M) → Result (Unit {0}) DescentFault → Type 0
   Steps g f old new r = StepsBy (slice_get (targets_at c g f.unit.0) f.next) g f old new r

@@ -1,6 +1,6 @@
 //! Why a unit has no measure.
 
-use lh_types::ty::NoMemory;
+use lh_types::memory::NoMemory;
 use lh_unit::inst::UnitId;
 use thiserror::Error;
 

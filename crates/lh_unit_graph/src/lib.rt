@@ -7,4 +7,4 @@ pub mod search;
 
 pub use crate::fault::DescentFault;
 pub use crate::measured::Measured;
-pub use crate::search::Search;
+pub use crate::search::UnitSearch;

@@ -6,7 +6,7 @@ ghost use Rattle.lh_unit_graph.specs.Searches.{mark_at, entered, passed, InPlace
 
 use crate::fault::DescentFault;
 use crate::measured::Measured;
-use lh_types::ty::NoMemory;
+use lh_types::memory::NoMemory;
 use lh_unit::inst::UnitId;
 use std::alloc::Global;
 
@@ -33,7 +33,7 @@ struct OpenUnit<M> {
 
 /// The marks of all units, and the open units, the innermost last.
 #[derive(Drop)]
-pub struct Search<M> {
+pub struct UnitSearch<M> {
     marks: Vec<Mark<M>>,
     stack: Vec<OpenUnit<M>>,
 }
@@ -48,16 +48,16 @@ fn next_target<M: Measured>(nodes: &[M::Node], frame: OpenUnit<M>) -> Option<Uni
     targets.get(frame.next).copied()
 }
 
-impl<M: Measured> Search<M> {
+impl<M: Measured> UnitSearch<M> {
     /// Of these units none was met yet.
-    pub fn new(alloc: Global, units: usize) -> Result<Search<M>, NoMemory>
+    pub fn new(alloc: Global, units: usize) -> Result<UnitSearch<M>, NoMemory>
         ensures { IfOk result (StartsSettled M.measuring units) }
     {
         let mut marks = Vec::new(alloc);
         for _unit in 0..units {
             marks.push(Mark::New)?;
         }
-        Ok(Search {
+        Ok(UnitSearch {
             marks,
             stack: Vec::new(alloc),
         })

@@ -4,7 +4,7 @@ use Rattle.indexmap.specs.IndexSet.{insert_key}
 use lib.Pointwise.{pointwise, bytes_decides}
 use Rattle.std.specs.Cmp.Lexicographic.{same_text}
 use Rattle.std.proofs.lemmas.Option.{slice_get-get_or}
-use Rattle.lh_types.specs.declared.ty.NoMemory.{NoMemory}
+use Rattle.lh_types.specs.declared.memory.NoMemory.{NoMemory}
 use Rattle.lh_unit_names.specs.Distinct.{AllDistinct, has_name}
 use Rattle.lh_unit_names.proofs.Lists.{AllDistinct-push, other_keys}
 

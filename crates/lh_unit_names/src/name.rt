@@ -4,7 +4,7 @@ ghost use Rattle.lh_unit_names.specs.Names.{IsName};
 ghost use Rattle.lh_unit_names.specs.NameBytes.{bytes_of, IsInPlace};
 ghost use Rattle.lh_unit_names.specs.UnitNames.{is_assert};
 
-use lh_types::ty::NoMemory;
+use lh_types::memory::NoMemory;
 use std::alloc::Global;
 use std::boxed::Box;
 use std::fmt;

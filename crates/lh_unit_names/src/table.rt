@@ -7,7 +7,7 @@ ghost use Rattle.lh_unit_names.specs.NameTables.{names_of, IsIndexed};
 
 use crate::name::Name;
 use indexmap::IndexSet;
-use lh_types::ty::NoMemory;
+use lh_types::memory::NoMemory;
 use std::alloc::Global;
 use std::marker::Model;
 use std::mem;

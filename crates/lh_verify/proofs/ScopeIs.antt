@@ -20,7 +20,7 @@ use Rattle.lh_unit.specs.ById as byid
 use Rattle.lh_unit.specs.WellFormed.{depends_on_probe}
 use Rattle.lh_unit.specs.declared.inst.Arg.{Arg}
 use Rattle.lh_unit.specs.declared.inst.Inst.{Inst}
-use Rattle.lh_unit.specs.declared.table.Line.{Line}
+use Rattle.lh_unit.specs.declared.table.TableLine.{TableLine}
 use Rattle.lh_unit.proofs.ById.{defines_value-by_id, arg_named-by_id, inst_giving-by_id}
 use Rattle.lh_unit.proofs.ByIdPlaces.{places-by_id, inst_places-insts}
 use Rattle.lh_verify_values.specs.declared.scope.Scope.{Scope}
@@ -32,7 +32,7 @@ use Rattle.lh_verify_values.specs.Numbers.{NumbersParams}
 use Rattle.lh_verify_values.specs.Facts.{IsScope, FactHolds, text_in, naming_in, sizes_in, from_probe}
 use Rattle.lh_unit.proofs.Texts.{ids-within}
 
-length-ids : (k : ℕ) (ls : List Line) → length (ids_from k ls) ≡ length ls
+length-ids : (k : ℕ) (ls : List TableLine) → length (ids_from k ls) ≡ length ls
 length-ids k [] = refl
 length-ids k (l ∷ ls) = ap suc (length-ids (k + 1) ls)
 

@@ -8,7 +8,7 @@ use Rattle.lh_unit.specs.Places.{InstPlaceText, places, is_terminator}
 use Rattle.lh_unit.specs.Naming.{inst_text}
 use Rattle.lh_unit.specs.Within.{Each}
 use Rattle.lh_unit.specs.Table.{no_line}
-use Rattle.lh_unit.specs.declared.table.Line.{Line}
+use Rattle.lh_unit.specs.declared.table.TableLine.{TableLine}
 use Rattle.lh_unit.proofs.Lists.{some_inj}
 use Rattle.lh_unit.specs.Arena.{IsArena, InstPlaced, naming, table_at, unit_text_at, unit_count, inst_count, inst_at}
 use Rattle.lh_unit.specs.ById.{inst_line_text, place_text, arg_being, inst_making}
@@ -29,7 +29,7 @@ use Rattle.lh_verify.proofs.PlacesById.{spot_of, spots-map, empty-is, phi-is}
 use Rattle.lh_verify.proofs.FirstFaults.{Numbered, AllMatch, FindsAmong, finds, lacking}
 
 -- each instruction of a unit is in place
-any-placed : (P : Inst → Type 0) (ls : List Line) → ((j : ℕ) (l : Line) → slice_get ls j ≡ Some l → P l.inst) → P no_line.inst → (i : ℕ) → P (get_or ls i no_line).inst
+any-placed : (P : Inst → Type 0) (ls : List TableLine) → ((j : ℕ) (l : TableLine) → slice_get ls j ≡ Some l → P l.inst) → P no_line.inst → (i : ℕ) → P (get_or ls i no_line).inst
 any-placed P [] h z i = by i
   where
     by : (j : ℕ) → P (get_or [] j no_line).inst

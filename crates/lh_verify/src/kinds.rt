@@ -10,21 +10,21 @@ ghost use Rattle.lh_verify_values.specs.Facts.{IsScope, kind_as, text_in, naming
 ghost use Rattle.lh_verify_operands.specs.Uses.{use_text, need_as};
 
 use lh_verify_operands::uses::{Need, Use};
-use lh_verify_values::scope::{Kind, Scope};
+use lh_verify_values::scope::{Scope, ValueKind};
 
 /// Whether a place takes a value of this kind.
-fn takes(need: Need, kind: Kind) -> bool
+fn takes(need: Need, kind: ValueKind) -> bool
     ensures { result ≡ takes_kind (need_as need) (kind_as kind) }
 {
     match (need, kind) {
-        (Need::Data, Kind::Datum)
-        | (Need::Time, Kind::Time)
-        | (Need::Signal, Kind::Signal)
-        | (Need::Pointer, Kind::Pointer)
-        | (Need::DataOrTime, Kind::Datum)
-        | (Need::DataOrTime, Kind::Time)
-        | (Need::DataOrSignal, Kind::Datum)
-        | (Need::DataOrSignal, Kind::Signal) => true,
+        (Need::Data, ValueKind::Datum)
+        | (Need::Time, ValueKind::Time)
+        | (Need::Signal, ValueKind::Signal)
+        | (Need::Pointer, ValueKind::Pointer)
+        | (Need::DataOrTime, ValueKind::Datum)
+        | (Need::DataOrTime, ValueKind::Time)
+        | (Need::DataOrSignal, ValueKind::Datum)
+        | (Need::DataOrSignal, ValueKind::Signal) => true,
         _ => false,
     }
 }

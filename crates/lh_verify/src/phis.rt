@@ -11,7 +11,7 @@ ghost use Rattle.lh_verify.specs.SpotsWithin.{SpotWithin};
 
 use crate::predecessors::{BlockList, predecessors};
 use crate::spots::Spot;
-use lh_types::ty::NoMemory;
+use lh_types::memory::NoMemory;
 use lh_unit::inst::{BlockId, Inst, PhiEdge, UnitId};
 use lh_unit::module::Module;
 use std::alloc::Global;

@@ -18,7 +18,7 @@ use crate::kinds::{any_has_no_kind, any_has_wrong_kind};
 use crate::spots::Spot;
 use crate::undefined::is_undefined;
 use crate::units::names_function;
-use lh_types::ty::NoMemory;
+use lh_types::memory::NoMemory;
 use lh_unit::inst::Inst;
 use lh_verify_operands::uses::{Use, UseList, uses};
 use lh_verify_types::types_fit;

@@ -8,7 +8,7 @@ ghost use Rattle.lh_unit.specs.Placed.{IsBlockOf};
 ghost use Rattle.lh_verify.specs.Predecessors.{IsPredecessors, AddsPredecessor};
 
 use lh_types::list::ListOf;
-use lh_types::ty::NoMemory;
+use lh_types::memory::NoMemory;
 use lh_unit::inst::{BlockId, UnitId};
 use lh_unit::module::Module;
 use lh_verify_operands::successors::{Successors, successors_of};

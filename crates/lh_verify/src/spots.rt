@@ -8,7 +8,7 @@ ghost use Rattle.lh_unit.specs.Placed.{IsInstOf, IsBlockOf};
 ghost use Rattle.lh_verify.specs.Spots.{is_other as inst_is_other, spots_in, spots_from, spots_of};
 
 use lh_types::list::ListOf;
-use lh_types::ty::NoMemory;
+use lh_types::memory::NoMemory;
 use lh_unit::inst::{BlockId, Inst, InstId, UnitId};
 use lh_unit::module::Module;
 use std::alloc::Global;

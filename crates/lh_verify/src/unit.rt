@@ -16,7 +16,7 @@ use crate::phis::wrong_phis;
 use crate::place::{hides_paths, lowest};
 use crate::spots::{Spot, spots};
 use lh_defined::{DefinedFault, defined};
-use lh_types::ty::NoMemory;
+use lh_types::memory::NoMemory;
 use lh_unit::inst::{InstId, UnitId};
 use lh_unit::module::Module;
 use lh_verify_labels::labels::labels;

@@ -8,7 +8,7 @@ ghost use Rattle.lh_verify_values.specs.Numbers.{Grows, NumbersParams};
 ghost use Rattle.lh_verify.specs.Verifying.{Verifies, FirstFaultOf, FirstFaultOfItem, ItemBegun, named_fault};
 
 use crate::unit::{InstFault, first_fault};
-use lh_types::ty::NoMemory;
+use lh_types::memory::NoMemory;
 use lh_unit::inst::{Item, UnitId};
 use lh_unit::module::Module;
 use lh_verify_values::numbers::Types;

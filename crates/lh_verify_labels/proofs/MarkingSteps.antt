@@ -18,7 +18,7 @@ use Rattle.lh_unit.specs.declared.inst.ValueId.{ValueId}
 use Rattle.lh_unit.specs.declared.inst.BlockId.{BlockId}
 use Rattle.lh_unit.specs.declared.inst.Inst.{Inst}
 use Rattle.lh_unit.specs.declared.inst.Inst.TheVariants as inst
-use Rattle.lh_unit.specs.declared.table.Line.{Line}
+use Rattle.lh_unit.specs.declared.table.TableLine.{TableLine}
 use Rattle.lh_unit.proofs.Lists.{Same, same, other, same_or, nat_eq-refl, nat_eq-other, or_false, or_true, some_inj}
 use Rattle.lh_unit.proofs.ById.{defines_label-by_id, inst_giving-by_id}
 use Rattle.lh_verify_operands.specs.declared.uses.Use.{Use}
@@ -90,13 +90,13 @@ advance-none old marks n e = record {
   marked = λ v x g. replicate-false n v x (sym (ap (λ l. slice_get l v) e) ∙ g);
 }
 
-pub advance-same : (ls : List Line) (l : Line) (old marks : List Bool) (n : ℕ) → l.result ≡ None → Advances ls old n marks → Advances (l ∷ ls) old n marks
+pub advance-same : (ls : List TableLine) (l : TableLine) (old marks : List Bool) (n : ℕ) → l.result ≡ None → Advances ls old n marks → Advances (l ∷ ls) old n marks
 advance-same ls l old marks n r m = record {
   long = m.long;
   marked = λ v x g. m.marked v x g ∙ sym (ap (λ o. option_map_or (comes_from old) (if is_result o v then Some l.inst else inst_making ls v) false) r);
 }
 
-pub advance-more : (ls : List Line) (l : Line) (w : ValueId) (old marks : List Bool) (n : ℕ) (b : Bool) → l.result ≡ Some w → w.0 < n → b ≡ comes_from old l.inst → Advances ls old n marks
+pub advance-more : (ls : List TableLine) (l : TableLine) (w : ValueId) (old marks : List Bool) (n : ℕ) (b : Bool) → l.result ≡ Some w → w.0 < n → b ≡ comes_from old l.inst → Advances ls old n marks
     → Advances (l ∷ ls) old n (set marks w.0 b)
 advance-more ls l w old marks n b r h c m = record {
   long = length-set marks w.0 b ∙ m.long;
@@ -145,7 +145,7 @@ module _ (f : Naming) (s : Sizes) (marks : List Bool) (D : List ℕ → Bool) (t
   comes-text (inst.Ret (Some x)) h = others (inst.Ret (Some x)) h
 
 -- what holds of each instruction holds of the one that gives a value
-pub making-has : (P : Inst → Type 0) (ls : List Line) → ((j : ℕ) (l : Line) → slice_get ls j ≡ Some l → P l.inst) → (v : ℕ) (i : Inst) → inst_making ls v ≡ Some i → P i
+pub making-has : (P : Inst → Type 0) (ls : List TableLine) → ((j : ℕ) (l : TableLine) → slice_get ls j ≡ Some l → P l.inst) → (v : ℕ) (i : Inst) → inst_making ls v ≡ Some i → P i
 making-has P [] h v i e = absurd cc
 making-has P (x ∷ ls) h v i e = by (is_result x.result v) e (making-has P ls (λ j l g. h (suc j) l g) v i)
   where
@@ -189,5 +189,5 @@ blocks-item n [] i d p h = absurd (omega arith)
 blocks-item n (b ∷ bs) zero d p h = p.0
 blocks-item n (b ∷ bs) (suc i) d p h = blocks-item n bs i d p.1 (omega arith)
 
-pub drop-before : (ls : List Line) (i : ℕ) (d : Line) → 0 < i → i ≤ length ls → get_or ls (i - 1) d ∷ drop i ls ≡ drop (i - 1) ls
+pub drop-before : (ls : List TableLine) (i : ℕ) (d : TableLine) → 0 < i → i ≤ length ls → get_or ls (i - 1) d ∷ drop i ls ≡ drop (i - 1) ls
 drop-before ls i d p h = let e : (i - 1) + 1 ≡ i = omega arith in ap (λ k. get_or ls (i - 1) d ∷ drop k ls) (sym e) ∙ sym (drop_more ls (i - 1) d (omega arith))

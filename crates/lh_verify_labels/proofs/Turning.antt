@@ -15,7 +15,7 @@ use Rattle.lh_unit.specs.Arena.{Arena, IsArena, naming, sizes, table_at, unit_te
 use Rattle.lh_unit.specs.declared.inst.ValueId.{ValueId}
 use Rattle.lh_unit.specs.declared.inst.Inst.{Inst}
 use Rattle.lh_unit.specs.declared.inst.Inst.TheVariants as inst
-use Rattle.lh_unit.specs.declared.table.Line.{Line}
+use Rattle.lh_unit.specs.declared.table.TableLine.{TableLine}
 use Rattle.lh_unit.proofs.Lists.{nat_eq-is, some_inj}
 use Rattle.lh_unit.proofs.ById.{inst_giving-by_id}
 use Rattle.lh_verify_operands.specs.declared.uses.Use.{Use}
@@ -117,7 +117,7 @@ module _ (f : Naming) (D : List ℕ → Bool) where
 -- ---- the line that gives a value
 
 -- the line that gives a value is led, where all lines are
-making-led : (n : ℕ) (turns : List ℕ) (ls : List Line) (v : ValueId) (i : Inst) → all_led n turns ls ≡ true → inst_making ls v.0 ≡ Some i → result_led n turns (Some v) i ≡ true
+making-led : (n : ℕ) (turns : List ℕ) (ls : List TableLine) (v : ValueId) (i : Inst) → all_led n turns ls ≡ true → inst_making ls v.0 ≡ Some i → result_led n turns (Some v) i ≡ true
 making-led n turns [] v i h e = absurd cc
 making-led n turns (l ∷ ls) v i h e = by (is_result l.result v.0) refl e (making-led n turns ls v i (and_parts (line_led n turns l) (all_led n turns ls) h).1)
   where

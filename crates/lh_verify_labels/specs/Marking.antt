@@ -12,7 +12,7 @@ use Rattle.lh_unit.specs.declared.inst.UnitKind.TheVariants as kind
 use Rattle.lh_unit.specs.declared.inst.BlockId.{BlockId}
 use Rattle.lh_unit.specs.declared.inst.Inst.{Inst}
 use Rattle.lh_unit.specs.declared.inst.Inst.TheVariants as inst
-use Rattle.lh_unit.specs.declared.table.Line.{Line}
+use Rattle.lh_unit.specs.declared.table.TableLine.{TableLine}
 use Rattle.lh_verify_operands.specs.declared.uses.Use.{Use}
 use Rattle.lh_verify_values.specs.Facts.{any_sig}
 use Rattle.lh_verify_operands.specs.Uses.{uses_of}
@@ -45,7 +45,7 @@ pub record Reaches (a : Arena) (u k : ℕ) (marks : List Bool) : Type 0 where
   pub marked : (v : ℕ) (x : Bool) → slice_get marks v ≡ Some x → x ≡ depends_on_probe k (unit_text_at a u) (value_name_at a u v)
 
 -- the marks of one round more, so far as these lines give values
-pub record Advances (lines : List Line) (old : List Bool) (n : ℕ) (marks : List Bool) : Type 0 where
+pub record Advances (lines : List TableLine) (old : List Bool) (n : ℕ) (marks : List Bool) : Type 0 where
   pub long : length marks ≡ n
   pub marked : (v : ℕ) (x : Bool) → slice_get marks v ≡ Some x → x ≡ option_map_or (comes_from old) (inst_making lines v) false
 

@@ -4,7 +4,7 @@ use Rattle.std.specs.List.{list_any, list_all}
 use Rattle.lh_unit.specs.declared.inst.ValueId.{ValueId}
 use Rattle.lh_unit.specs.declared.inst.Inst.{Inst}
 use Rattle.lh_unit.specs.declared.inst.Inst.TheVariants as inst
-use Rattle.lh_unit.specs.declared.table.Line.{Line}
+use Rattle.lh_unit.specs.declared.table.TableLine.{TableLine}
 use Rattle.lh_verify_operands.specs.declared.uses.Use.{Use}
 use Rattle.lh_verify_operands.specs.Uses.{uses_of}
 
@@ -26,11 +26,11 @@ abbrev pub result_led : (n : ℕ) → List ℕ → Option ValueId → Inst → B
 result_led n turns None i = true
 result_led n turns (Some v) i = nat_eq (turn_of turns v) 0 || (nat_le (turn_of turns v) n && comes_by (is_before turns (turn_of turns v)) i)
 
-abbrev pub line_led : (n : ℕ) → List ℕ → Line → Bool
+abbrev pub line_led : (n : ℕ) → List ℕ → TableLine → Bool
 line_led n turns l = result_led n turns l.result l.inst
 
 -- so has each result of these lines
-abbrev pub all_led : (n : ℕ) → List ℕ → List Line → Bool
+abbrev pub all_led : (n : ℕ) → List ℕ → List TableLine → Bool
 all_led n turns ls = list_all (line_led n turns) ls
 
 -- which values have a turn

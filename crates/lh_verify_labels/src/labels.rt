@@ -4,7 +4,7 @@ ghost use Rattle.lh_unit.specs.Table.{BlocksWithin};
 ghost use Rattle.lh_unit.specs.Arena.{unit_count, label_count};
 ghost use Rattle.lh_verify_labels.specs.Marking.{BlockMarks, MarksLabels, has_labels as kind_has_labels};
 
-use lh_types::ty::NoMemory;
+use lh_types::memory::NoMemory;
 use lh_unit::inst::{BlockId, UnitId, UnitKind};
 use lh_unit::module::Module;
 use lh_verify_values::facts::no_marks;

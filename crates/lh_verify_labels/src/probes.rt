@@ -3,13 +3,13 @@ ghost use Rattle.std.specs.Prelude.{◌≡◌, ◌<◌, ◌+◌, ◌∷◌, List
 ghost use Rattle.std.specs.List.{list_any};
 ghost use Rattle.lh_unit.specs.Table.{line_at};
 ghost use Rattle.lh_unit.specs.Arena.{unit_count, value_count, inst_count, table_at};
-ghost use Rattle.lh_unit.specs.declared.table.Line.{Line};
+ghost use Rattle.lh_unit.specs.declared.table.TableLine.{TableLine};
 ghost use Rattle.lh_verify_labels.specs.Marking.{IsProbed, Reaches, Advances, comes_from as inst_comes_from};
 ghost use Rattle.lh_verify_labels.specs.Turns.{turn_of as value_turn, is_before, comes_by, result_led, all_led, with_turns};
 ghost use Rattle.lh_verify_values.specs.Facts.{any_sig};
 
 use crate::turns::turns_of;
-use lh_types::ty::NoMemory;
+use lh_types::memory::NoMemory;
 use lh_unit::inst::{Inst, InstId, UnitId, ValueId};
 use lh_unit::module::Module;
 use lh_verify_operands::uses::{Use, uses};
@@ -240,7 +240,7 @@ fn mark_inst(
     requires inst { inst.0 < inst_count m.now unit.0 }
     requires long { length marks.now ≡ value_count m.now unit.0 }
     requires next { length next.old ≡ value_count m.now unit.0 }
-    ensures { (ls : List Line) → Advances ls marks.now (value_count m.now unit.0) next.old → OnOk result (Advances (line_at (table_at m.now unit.0) inst.0 ∷ ls) marks.now (value_count m.now unit.0) next.new) }
+    ensures { (ls : List TableLine) → Advances ls marks.now (value_count m.now unit.0) next.old → OnOk result (Advances (line_at (table_at m.now unit.0) inst.0 ∷ ls) marks.now (value_count m.now unit.0) next.new) }
 {
     match m.result_of(unit, inst) {
         None => Ok(()),

@@ -3,7 +3,7 @@
 ghost use Rattle.std.specs.Prelude.{◌≡◌, ◌<◌};
 ghost use Rattle.lh_unit.specs.Arena.{unit_count, inst_count};
 
-use lh_types::ty::NoMemory;
+use lh_types::memory::NoMemory;
 use lh_unit::inst::{Inst, InstId, UnitId};
 use lh_unit::module::Module;
 use lh_verify_flow::numbers::{at, put};
@@ -29,7 +29,7 @@ struct User {
 
 /// A search from value to value.
 #[derive(Drop)]
-struct Search {
+struct TurnSearch {
     /// By value, its turn, from 1; 0 where the search did not come to it.
     turns: Vec<u32>,
     last: u32,
@@ -43,7 +43,7 @@ pub fn turns_of(alloc: Global, m: &Module, unit: UnitId, insts: u32) -> Result<V
     requires insts { insts ≡ inst_count m.now unit.0 }
 {
     let users = users_of(alloc, m, unit, insts)?;
-    let mut search = Search {
+    let mut search = TurnSearch {
         turns: vec![in alloc; 0u32; m.values(unit) as usize]?,
         last: 0,
         open: Vec::new(alloc),
@@ -92,7 +92,7 @@ impl Users {
     }
 }
 
-impl Search {
+impl TurnSearch {
     /// Comes to the results of the `prb` instructions.
     fn begin(&mut self, m: &Module, unit: UnitId, insts: u32) -> Result<(), NoMemory>
         requires unit { unit.0 < unit_count m.now }

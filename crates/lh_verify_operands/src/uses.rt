@@ -6,8 +6,9 @@ ghost use Rattle.lh_types.specs.Kind.{type_of_kind};
 ghost use Rattle.lh_verify_operands.specs.Uses as spec;
 ghost use Rattle.lh_verify_operands.specs.Uses.{first_type, uses_of, used, all_used, values_used, maybe_used, edges_used, trigger_uses, triggers_uses};
 
+use lh_types::memory::NoMemory;
 use lh_types::op::Op;
-use lh_types::ty::{NoMemory, TyKind};
+use lh_types::ty::TyKind;
 use lh_unit::inst::{Inst, PhiEdge, RegTrigger, Typed, ValueId};
 use smallvec::SmallVec;
 use std::alloc::Global;

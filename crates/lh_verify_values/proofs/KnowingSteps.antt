@@ -13,7 +13,7 @@ use Rattle.lh_unit.specs.Kinds.{kind_of, result_kind}
 use Rattle.lh_unit.specs.declared.inst.ValueId.{ValueId}
 use Rattle.lh_unit.specs.declared.inst.Arg.{Arg}
 use Rattle.lh_unit.specs.declared.inst.Inst.{Inst}
-use Rattle.lh_unit.specs.declared.table.Line.{Line}
+use Rattle.lh_unit.specs.declared.table.TableLine.{TableLine}
 use Rattle.lh_unit.proofs.Lists.{Same, same, other, same_or, nat_eq-refl, nat_eq-other, or_false, or_true, some_inj, or_else-none}
 use Rattle.lh_verify_values.specs.declared.scope.Fact.{Fact}
 use Rattle.lh_verify_values.specs.FactsOfUnit.{FactAfter, FactsAfter, GivenBy, GivenArg, FactOfInst, FactOfArg, Marks, blank, line_kind, line_type, arg_type}
@@ -36,7 +36,7 @@ get-set-other (x ∷ xs) (suc k) zero y h = refl
 get-set-other (x ∷ xs) (suc k) (suc v) y h = get-set-other xs k v y (λ e. h (ap suc e))
 
 -- one more line, and one more argument
-making-more : (ls : List Line) (l : Line) (v : ℕ) → inst_making (ls ++ l ∷ []) v ≡ or_else (inst_making ls v) (if is_result l.result v then Some l.inst else None)
+making-more : (ls : List TableLine) (l : TableLine) (v : ℕ) → inst_making (ls ++ l ∷ []) v ≡ or_else (inst_making ls v) (if is_result l.result v then Some l.inst else None)
 making-more [] l v = refl
 making-more (x ∷ ls) l v = by (is_result x.result v) (making-more ls l v)
   where
@@ -45,7 +45,7 @@ making-more (x ∷ ls) l v = by (is_result x.result v) (making-more ls l v)
     by true r = refl
     by false r = r
 
-making-made : (ls : List Line) (v : ℕ) → is_some (inst_making ls v) ≡ is_made ls v
+making-made : (ls : List TableLine) (v : ℕ) → is_some (inst_making ls v) ≡ is_made ls v
 making-made [] v = refl
 making-made (x ∷ ls) v = by (is_result x.result v) (making-made ls v)
   where
@@ -79,7 +79,7 @@ kept None p h = cc
 kept (Some x) p h = refl
 
 -- what an instruction tells
-module _ (ts : List TypeTree) (f : Naming) (ls : List Line) (l : Line) (v : ℕ) where
+module _ (ts : List TypeTree) (f : Naming) (ls : List TableLine) (l : TableLine) (v : ℕ) where
   -- another value
   pub line-other : (x : Fact) → is_result l.result v ≡ false → FactAfter ts f [] ls v x → FactAfter ts f [] (ls ++ l ∷ []) v x
   line-other x h k =
@@ -112,7 +112,7 @@ module _ (ts : List TypeTree) (f : Naming) (ls : List Line) (l : Line) (v : ℕ)
       }
 
 -- by whether the value was given already
-line-told : (ts : List TypeTree) (f : Naming) (ls : List Line) (l : Line) (v : ℕ) (old new : Fact) (b : Bool) → old.defined ≡ b → FactOfInst ts b f l.inst old new → is_result l.result v ≡ true
+line-told : (ts : List TypeTree) (f : Naming) (ls : List TableLine) (l : TableLine) (v : ℕ) (old new : Fact) (b : Bool) → old.defined ≡ b → FactOfInst ts b f l.inst old new → is_result l.result v ≡ true
     → FactAfter ts f [] ls v old → FactAfter ts f [] (ls ++ l ∷ []) v new
 line-told ts f ls l v old new true d t r k = subst (FactAfter ts f [] (ls ++ l ∷ []) v) (sym t) (line-again ts f ls l v old (sym k.defined ∙ d) k)
 line-told ts f ls l v old new false d t r k = line-first ts f ls l v new r (sym k.defined ∙ d) t
@@ -137,7 +137,7 @@ knows-nothing ts n f facts e = record {
 }
 
 -- one more instruction, with a result
-pub knows-told : (ts : List TypeTree) (n : ℕ) (f : Naming) (ls : List Line) (l : Line) (w : ValueId) (old new : List Fact) (fact d : Fact) → FactsAfter ts n f [] ls old → l.result ≡ Some w → w.0 < n
+pub knows-told : (ts : List TypeTree) (n : ℕ) (f : Naming) (ls : List TableLine) (l : TableLine) (w : ValueId) (old new : List Fact) (fact d : Fact) → FactsAfter ts n f [] ls old → l.result ≡ Some w → w.0 < n
     → FactOfInst ts (get_or old w.0 d).defined f l.inst (get_or old w.0 d) fact → new ≡ set old w.0 fact → FactsAfter ts n f [] (ls ++ l ∷ []) new
 knows-told ts n f ls l w old new fact d k r h t is = record {
   long = ap length is ∙ length-set old w.0 fact ∙ k.long;
@@ -159,7 +159,7 @@ knows-told ts n f ls l w old new fact d k r h t is = record {
         subst (λ (u : ℕ). FactAfter ts f [] (ls ++ l ∷ []) u x) e (subst (FactAfter ts f [] (ls ++ l ∷ []) w.0) q z)
 
 -- the same, by what was known of the value
-pub knows-after : (was fact : Fact) (i : Inst) (ts : List TypeTree) (n : ℕ) (f : Naming) (ls : List Line) (l : Line) (w : ValueId) (old new : List Fact) → FactOfInst ts was.defined f i was fact
+pub knows-after : (was fact : Fact) (i : Inst) (ts : List TypeTree) (n : ℕ) (f : Naming) (ls : List TableLine) (l : TableLine) (w : ValueId) (old new : List Fact) → FactOfInst ts was.defined f i was fact
     → i ≡ l.inst → slice_get old w.0 ≡ Some was → FactsAfter ts n f [] ls old → l.result ≡ Some w → w.0 < n → new ≡ set old w.0 fact → FactsAfter ts n f [] (ls ++ l ∷ []) new
 knows-after was fact i ts n f ls l w old new t e s k r h is =
     let there : get_or old w.0 was ≡ was = get_or_from_slice_get old w.0 was was s in
@@ -168,14 +168,14 @@ knows-after was fact i ts n f ls l w old new t e s k r h is =
     knows-told ts n f ls l w old new fact was k r h (subst Q (sym there) (subst P e t)) is
 
 -- one more instruction, with no result
-pub knows-more : (ts : List TypeTree) (n : ℕ) (f : Naming) (ls : List Line) (l : Line) (facts : List Fact) → FactsAfter ts n f [] ls facts → l.result ≡ None → FactsAfter ts n f [] (ls ++ l ∷ []) facts
+pub knows-more : (ts : List TypeTree) (n : ℕ) (f : Naming) (ls : List TableLine) (l : TableLine) (facts : List Fact) → FactsAfter ts n f [] ls facts → l.result ≡ None → FactsAfter ts n f [] (ls ++ l ∷ []) facts
 knows-more ts n f ls l facts k r = record {
   long = k.long;
   known = λ v x g. line-other ts f ls l v x (ap (λ o. is_result o v) r) (k.known v x g);
 }
 
 -- one more argument
-module _ (ts : List TypeTree) (f : Naming) (xs : List Arg) (a : Arg) (ls : List Line) (v : ℕ) where
+module _ (ts : List TypeTree) (f : Naming) (xs : List Arg) (a : Arg) (ls : List TableLine) (v : ℕ) where
   pub arg-other : (x : Fact) → nat_eq a.value.0 v ≡ false → FactAfter ts f xs ls v x → FactAfter ts f (xs ++ a ∷ []) ls v x
   arg-other x h k =
       let m : arg_being (xs ++ a ∷ []) v ≡ arg_being xs v = being-more xs a v ∙ ap (λ b. or_else (arg_being xs v) (if b then Some a else None)) h ∙ or_else-none (arg_being xs v) in
@@ -205,12 +205,12 @@ module _ (ts : List TypeTree) (f : Naming) (xs : List Arg) (a : Arg) (ls : List 
         ty = g.ty ∙ sym (ap (λ o. option_map Some (or_else (option_map (λ (y : Arg). y.ty) o) (line_type f ls v))) m);
       }
 
-arg-told : (ts : List TypeTree) (f : Naming) (xs : List Arg) (a : Arg) (ls : List Line) (v : ℕ) (old new : Fact) (b : Bool) → b ≡ is_arg xs v → FactOfArg ts b a old new → nat_eq a.value.0 v ≡ true
+arg-told : (ts : List TypeTree) (f : Naming) (xs : List Arg) (a : Arg) (ls : List TableLine) (v : ℕ) (old new : Fact) (b : Bool) → b ≡ is_arg xs v → FactOfArg ts b a old new → nat_eq a.value.0 v ≡ true
     → FactAfter ts f xs ls v old → FactAfter ts f (xs ++ a ∷ []) ls v new
 arg-told ts f xs a ls v old new true d t r k = subst (FactAfter ts f (xs ++ a ∷ []) ls v) (sym t) (arg-again ts f xs a ls v old (sym d) k)
 arg-told ts f xs a ls v old new false d t r k = arg-first ts f xs a ls v old new r (sym d) t k
 
-pub knows-arg : (ts : List TypeTree) (n : ℕ) (f : Naming) (xs : List Arg) (a : Arg) (ls : List Line) (old new : List Fact) (seen : List Bool) (fact d : Fact) (b : Bool) → FactsAfter ts n f xs ls old
+pub knows-arg : (ts : List TypeTree) (n : ℕ) (f : Naming) (xs : List Arg) (a : Arg) (ls : List TableLine) (old new : List Fact) (seen : List Bool) (fact d : Fact) (b : Bool) → FactsAfter ts n f xs ls old
     → Marks xs n seen → a.value.0 < n → slice_get seen a.value.0 ≡ Some b → FactOfArg ts b a (get_or old a.value.0 d) fact → new ≡ set old a.value.0 fact → FactsAfter ts n f (xs ++ a ∷ []) ls new
 knows-arg ts n f xs a ls old new seen fact d b k m h s t w = record {
   long = ap length w ∙ length-set old a.value.0 fact ∙ k.long;
@@ -229,7 +229,7 @@ knows-arg ts n f xs a ls old new seen fact d b k m h s t w = record {
         subst (λ (u : ℕ). FactAfter ts f (xs ++ a ∷ []) ls u x) e (subst (FactAfter ts f (xs ++ a ∷ []) ls a.value.0) q z)
 
 -- the same, by what was known of the value
-pub knows-arg-after : (was fact : Fact) (b : Bool) (ts : List TypeTree) (n : ℕ) (f : Naming) (xs : List Arg) (a : Arg) (ls : List Line) (old new : List Fact) (seen : List Bool)
+pub knows-arg-after : (was fact : Fact) (b : Bool) (ts : List TypeTree) (n : ℕ) (f : Naming) (xs : List Arg) (a : Arg) (ls : List TableLine) (old new : List Fact) (seen : List Bool)
     → FactOfArg ts b a was fact → slice_get old a.value.0 ≡ Some was → slice_get seen a.value.0 ≡ Some b → FactsAfter ts n f xs ls old → Marks xs n seen → a.value.0 < n → new ≡ set old a.value.0 fact
     → FactsAfter ts n f (xs ++ a ∷ []) ls new
 knows-arg-after was fact b ts n f xs a ls old new seen t s e k m h is =
@@ -279,7 +279,7 @@ taken xs i d h = grind (arith, common_steps)
 pub take-item : {X : Type 0} → (xs : List X) (i : ℕ) (x : X) → i < length xs → x ≡ get_or xs i x → take i xs ++ x ∷ [] ≡ take (i + 1) xs
 take-item xs i x h e = ap (λ y. take i xs ++ y ∷ []) e ∙ taken xs i x h
 
-pub take-line : (ls : List Line) (i : ℕ) (d : Line) → i < length ls → take i ls ++ get_or ls i d ∷ [] ≡ take (i + 1) ls
+pub take-line : (ls : List TableLine) (i : ℕ) (d : TableLine) → i < length ls → take i ls ++ get_or ls i d ∷ [] ≡ take (i + 1) ls
 take-line ls i d h = grind (arith, common_steps)
 
 pub take-all : {X : Type 0} → (xs : List X) (i : ℕ) → length xs ≤ i → take i xs ≡ xs
@@ -294,9 +294,9 @@ pub written-back : {X : Type 0} → (new rest : List X) (n : ℕ) → length new
 written-back new rest n e = ap (λ k. take k (new ++ rest)) (sym e) ∙ front new rest
 
 -- what is known stays so where types get numbers
-known-grows : (old new : List TypeTree) (f : Naming) (args : List Arg) (lines : List Line) (v : ℕ) (x : Fact) → Grows old new → FactAfter old f args lines v x → FactAfter new f args lines v x
+known-grows : (old new : List TypeTree) (f : Naming) (args : List Arg) (lines : List TableLine) (v : ℕ) (x : Fact) → Grows old new → FactAfter old f args lines v x → FactAfter new f args lines v x
 known-grows old new f args lines v x g k = record { defined = k.defined; kind = k.kind; ty = number-grows old new x.ty (or_else (arg_type args v) (line_type f lines v)) g k.ty }
 
-pub knows-grows : (old new : List TypeTree) (n : ℕ) (f : Naming) (args : List Arg) (lines : List Line) (facts : List Fact) → Grows old new → FactsAfter old n f args lines facts
+pub knows-grows : (old new : List TypeTree) (n : ℕ) (f : Naming) (args : List Arg) (lines : List TableLine) (facts : List Fact) → Grows old new → FactsAfter old n f args lines facts
     → FactsAfter new n f args lines facts
 knows-grows old new n f args lines facts g k = record { long = k.long; known = λ v x e. known-grows old new f args lines v x g (k.known v x e) }

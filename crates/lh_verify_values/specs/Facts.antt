@@ -15,16 +15,16 @@ use Rattle.lh_unit.specs.declared.inst.ValueId.{ValueId}
 use Rattle.lh_unit.specs.declared.inst.BlockId.{BlockId}
 use Rattle.lh_unit.specs.declared.inst.Inst.{Inst}
 use Rattle.lh_unit.specs.declared.inst.Inst.TheVariants as inst
-use Rattle.lh_unit.specs.declared.table.Line.{Line}
+use Rattle.lh_unit.specs.declared.table.TableLine.{TableLine}
 use Rattle.lh_types.specs.Types.{TypeTree}
 use Rattle.lh_verify_values.specs.Numbers.{IsNumberOf, NumbersParams}
-use Rattle.lh_verify_values.specs.declared.scope.Kind.{Kind}
-use Rattle.lh_verify_values.specs.declared.scope.Kind.TheVariants.{Datum, Time, Signal, Pointer}
+use Rattle.lh_verify_values.specs.declared.scope.ValueKind.{ValueKind}
+use Rattle.lh_verify_values.specs.declared.scope.ValueKind.TheVariants.{Datum, Time, Signal, Pointer}
 use Rattle.lh_verify_values.specs.declared.scope.Fact.{Fact}
 use Rattle.lh_verify_values.specs.declared.scope.Scope.{Scope}
 
 -- the four kinds
-abbrev pub kind_as : Kind → kinds.Kind
+abbrev pub kind_as : ValueKind → kinds.ValueKind
 kind_as Datum = kinds.a_datum
 kind_as Time = kinds.a_time
 kind_as Signal = kinds.a_signal
@@ -54,8 +54,8 @@ unfoldable pub items_in : Scope → List ItemText
 items_in s = contents s.module.now
 
 -- one of these instructions is a `sig`
-abbrev pub any_sig : List Line → Bool
-any_sig lines = list_any (λ (l : Line). is_sig l.inst) lines
+abbrev pub any_sig : List TableLine → Bool
+any_sig lines = list_any (λ (l : TableLine). is_sig l.inst) lines
 
 -- the unit has a `sig`
 abbrev pub has_sig : Scope → Bool

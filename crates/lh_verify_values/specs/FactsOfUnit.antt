@@ -9,7 +9,7 @@ use Rattle.lh_unit.specs.Typing.{or_else, result_type}
 use Rattle.lh_unit.specs.Kinds.{Kind, kind_of, result_kind}
 use Rattle.lh_unit.specs.declared.inst.Arg.{Arg}
 use Rattle.lh_unit.specs.declared.inst.Inst.{Inst}
-use Rattle.lh_unit.specs.declared.table.Line.{Line}
+use Rattle.lh_unit.specs.declared.table.TableLine.{TableLine}
 use Rattle.lh_verify_values.specs.declared.scope.Fact.{Fact}
 use Rattle.lh_verify_values.specs.Facts.{kind_as}
 use Rattle.lh_verify_values.specs.Numbers.{IsNumberOf}
@@ -21,20 +21,20 @@ arg_kind args v = option_and_then (λ (a : Arg). kind_of a.ty) (arg_being args v
 abbrev pub arg_type : List Arg → ℕ → Option TypeTree
 arg_type args v = option_map (λ (a : Arg). a.ty) (arg_being args v)
 
-abbrev pub line_kind : Naming → List Line → ℕ → Option Kind
+abbrev pub line_kind : Naming → List TableLine → ℕ → Option Kind
 line_kind f lines v = option_and_then (λ (i : Inst). result_kind (inst_text f i)) (inst_making lines v)
 
-abbrev pub line_type : Naming → List Line → ℕ → Option TypeTree
+abbrev pub line_type : Naming → List TableLine → ℕ → Option TypeTree
 line_type f lines v = option_and_then (λ (i : Inst). result_type (inst_text f i)) (inst_making lines v)
 
 -- what is known of the value v after these arguments and these lines
-pub record FactAfter (types : List TypeTree) (f : Naming) (args : List Arg) (lines : List Line) (v : ℕ) (x : Fact) : Type 0 where
+pub record FactAfter (types : List TypeTree) (f : Naming) (args : List Arg) (lines : List TableLine) (v : ℕ) (x : Fact) : Type 0 where
   pub defined : x.defined ≡ (is_arg args v || is_made lines v)
   pub kind : option_map kind_as x.kind ≡ or_else (arg_kind args v) (line_kind f lines v)
   pub ty : IsNumberOf types x.ty (or_else (arg_type args v) (line_type f lines v))
 
 -- what is known of each of n values
-pub record FactsAfter (types : List TypeTree) (n : ℕ) (f : Naming) (args : List Arg) (lines : List Line) (facts : List Fact) : Type 0 where
+pub record FactsAfter (types : List TypeTree) (n : ℕ) (f : Naming) (args : List Arg) (lines : List TableLine) (facts : List Fact) : Type 0 where
   pub long : length facts ≡ n
   pub known : (v : ℕ) (x : Fact) → slice_get facts v ≡ Some x → FactAfter types f args lines v x
 

@@ -4,7 +4,7 @@ ghost use Rattle.std.specs.Option.{option_copied};
 ghost use Rattle.lh_unit.specs.Naming.{Naming};
 ghost use Rattle.lh_unit.specs.Table.{ArgsWithin, line_at};
 ghost use Rattle.lh_unit.specs.Typing.{or_else};
-ghost use Rattle.lh_unit.specs.declared.table.Line.{Line};
+ghost use Rattle.lh_unit.specs.declared.table.TableLine.{TableLine};
 ghost use Rattle.lh_unit.specs.Arena.{unit_count, value_count, inst_count, table_at, args_at, naming};
 ghost use Rattle.lh_verify_values.specs.Facts.{kind_as};
 ghost use Rattle.lh_verify_values.specs.Given.{type_given};
@@ -13,8 +13,9 @@ ghost use Rattle.lh_verify_values.specs.FactsOfUnit.{FactsAfter, Marks, FactOfIn
 
 use crate::numbers::Types;
 use crate::results::{GivenType, kind_of, result_kind, result_type};
-use crate::scope::{Fact, Kind};
-use lh_types::ty::{NoMemory, Ty};
+use crate::scope::{Fact, ValueKind};
+use lh_types::memory::NoMemory;
+use lh_types::ty::Ty;
 use lh_unit::inst::{Arg, Inst, InstId, UnitId, ValueId};
 use lh_unit::module::Module;
 use std::alloc::Global;
@@ -113,7 +114,7 @@ fn tell_inst(
     requires unit { unit.0 < unit_count m.now }
     requires inst { inst.0 < inst_count m.now unit.0 }
     requires long { length facts.old ≡ value_count m.now unit.0 }
-    ensures facts { (ls : List Line) → FactsAfter types.old (value_count m.now unit.0) (naming m.now unit.0) [] ls facts.old → OnOk result (FactsAfter types.new (value_count m.now unit.0) (naming m.now unit.0) [] (ls ++ line_at (table_at m.now unit.0) inst.0 ∷ []) facts.new) }
+    ensures facts { (ls : List TableLine) → FactsAfter types.old (value_count m.now unit.0) (naming m.now unit.0) [] ls facts.old → OnOk result (FactsAfter types.new (value_count m.now unit.0) (naming m.now unit.0) [] (ls ++ line_at (table_at m.now unit.0) inst.0 ∷ []) facts.new) }
     ensures grows { OnOk result (Grows types.old types.new) }
 {
     match m.result_of(unit, inst) {
@@ -155,7 +156,7 @@ fn tell_args(
 ) -> Result<(), NoMemory>
     requires within { ArgsWithin (length facts.old) args.now }
     requires marks { seen.old ≡ replicate (length facts.old) false }
-    ensures facts { (f : Naming) (lines : List Line) → FactsAfter types.old (length facts.old) f [] lines facts.old → OnOk result (FactsAfter types.new (length facts.old) f args.now lines facts.new) }
+    ensures facts { (f : Naming) (lines : List TableLine) → FactsAfter types.old (length facts.old) f [] lines facts.old → OnOk result (FactsAfter types.new (length facts.old) f args.now lines facts.new) }
     ensures grows { OnOk result (Grows types.old types.new) }
 {
     for arg in args {
@@ -173,7 +174,7 @@ fn tell_arg_at(
     requires within { arg.now.value.0 < length facts.old }
     requires marks { length seen.old ≡ length facts.old }
     ensures marks { (args : List Arg) → Marks args (length facts.old) seen.old → OnOk result (Marks (args ++ arg.now ∷ []) (length facts.old) seen.new) }
-    ensures facts { (f : Naming) (args : List Arg) (lines : List Line) → Marks args (length facts.old) seen.old → FactsAfter types.old (length facts.old) f args lines facts.old → OnOk result (FactsAfter types.new (length facts.old) f (args ++ arg.now ∷ []) lines facts.new) }
+    ensures facts { (f : Naming) (args : List Arg) (lines : List TableLine) → Marks args (length facts.old) seen.old → FactsAfter types.old (length facts.old) f args lines facts.old → OnOk result (FactsAfter types.new (length facts.old) f (args ++ arg.now ∷ []) lines facts.new) }
     ensures grows { OnOk result (Grows types.old types.new) }
 {
     let value = arg.value.0 as usize;
@@ -196,7 +197,7 @@ fn tell_arg(fact: &mut Fact, seen: bool, arg: &Arg, types: &mut Types) -> Result
 }
 
 /// The first, or else the second.
-fn either(first: Option<Kind>, second: Option<Kind>) -> Option<Kind>
+fn either(first: Option<ValueKind>, second: Option<ValueKind>) -> Option<ValueKind>
     ensures { option_map kind_as result ≡ or_else (option_map kind_as first) (option_map kind_as second) }
 {
     match first {

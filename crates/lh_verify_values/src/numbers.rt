@@ -7,18 +7,19 @@ ghost use Rattle.lh_verify_values.specs.Digest.{mixed, digest_of, digest_of_row}
 ghost use Rattle.lh_verify_values.specs.Numbers.{Grows, IsNumberOf};
 
 use indexmap::IndexSet;
-use lh_types::ty::{NoMemory, Ty, TyKind};
+use lh_types::memory::NoMemory;
+use lh_types::ty::{Ty, TyKind};
 use std::alloc::Global;
 use std::hash::{Hash, Hasher};
 use std::marker::Model;
 
 /// A type as a key, which is hashed by its digest.
 #[derive(Drop)]
-pub struct Key {
+pub struct TypeKey {
     ty: Ty,
 }
 
-impl Model for Key {
+impl Model for TypeKey {
     ghost use Rattle.lh_types.specs.Types.{TypeTree, type_coded};
 
     ghost Value = { TypeTree };
@@ -28,7 +29,7 @@ impl Model for Key {
     ghost view = { λ k. k.ty };
 }
 
-impl PartialEq for Key {
+impl PartialEq for TypeKey {
     ghost use Rattle.std.specs.Cmp.{partial_equiv_from_equiv};
     ghost use Rattle.lh_types.specs.Types.{same_type};
     ghost use Rattle.lh_types.specs.Same.{same_type_equiv};
@@ -37,18 +38,18 @@ impl PartialEq for Key {
 
     ghost laws = { partial_equiv_from_equiv same_type_equiv };
 
-    fn eq(&self, other: &Key) -> bool {
+    fn eq(&self, other: &TypeKey) -> bool {
         self.ty == other.ty
     }
 }
 
-impl Eq for Key {
+impl Eq for TypeKey {
     ghost use Rattle.lh_types.specs.Same.{same_type_equiv};
 
     ghost laws = { same_type_equiv };
 }
 
-impl Hash for Key {
+impl Hash for TypeKey {
     ghost use Rattle.lh_verify_values.specs.Digest.{fed_type, fed_alike};
 
     ghost hash_input = { fed_type };
@@ -108,7 +109,7 @@ pub struct Numbered<'a> {
 /// Types in the order of their numbers, which are from 0 on.
 #[derive(Drop)]
 pub struct Types {
-    set: IndexSet<Key>,
+    set: IndexSet<TypeKey>,
     // By digests, numbers of types that came before. Any number may stand there: its type is compared with the one that is asked for.
     recent: [u32; RECENT],
 }
@@ -177,7 +178,7 @@ impl Types {
         ensures made { IfOk result (λ n. slice_get self.new n ≡ Some ty) }
         ensures grows { OnOk result (Grows self.old self.new) }
     {
-        let (number, _) = self.set.insert_full(Key { ty })?;
+        let (number, _) = self.set.insert_full(TypeKey { ty })?;
         if number > u32::MAX as usize {
             return Err(NoMemory);
         }

@@ -4,7 +4,7 @@ ghost use Rattle.lh_verify_values.specs.Numbers.{Grows, AreNumbersOf, NumbersPar
 
 use crate::numbers::Types;
 use lh_types::list::ListOf;
-use lh_types::ty::NoMemory;
+use lh_types::memory::NoMemory;
 use lh_unit::inst::{Arg, UnitId};
 use lh_unit::module::Module;
 use std::alloc::Global;

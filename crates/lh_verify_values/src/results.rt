@@ -2,7 +2,7 @@
 ghost use Rattle.std.specs.Prelude.{◌≡◌, Option, Some, None, Ok, map, option_map, IfOk, if◌then◌else◌};
 ghost use Rattle.std.specs.Option.{option_copied, option_and_then};
 ghost use Rattle.lh_types.specs.Types.{TypeTree, int_type, row_of};
-ghost use Rattle.lh_types.specs.Kind.{type_of_kind};
+ghost use Rattle.lh_types.specs.ValueKind.{type_of_kind};
 ghost use Rattle.lh_types.specs.ValueOf.{datum_of};
 ghost use Rattle.lh_types.specs.Faults.{MakesType};
 ghost use Rattle.lh_unit.specs.Naming.{Naming, operand_text, inst_text};
@@ -13,9 +13,10 @@ ghost use Rattle.lh_verify_values.specs.Facts.{kind_as};
 ghost use Rattle.lh_verify_values.specs.Given.{type_given};
 ghost use Rattle.lh_verify_values.specs.Rows.{rows_joined};
 
-use crate::scope::Kind;
+use crate::scope::ValueKind;
+use lh_types::memory::NoMemory;
 use lh_types::op::OpClass;
-use lh_types::ty::{NoMemory, Ty, TyFault, TyKind, TyList, carries_data};
+use lh_types::ty::{Ty, TyFault, TyKind, TyList, carries_data};
 use lh_types::val::Val;
 use lh_unit::inst::{Inst, Typed};
 use std::alloc::Global;
@@ -242,26 +243,26 @@ pub fn result_type(alloc: Global, inst: &Inst) -> Result<Option<GivenType<'_>>, 
 }
 
 /// The kind of a value of this type; `void` is none.
-pub fn kind_of(ty: TyKind<'_>) -> Option<Kind>
+pub fn kind_of(ty: TyKind<'_>) -> Option<ValueKind>
     ensures { option_map kind_as result ≡ kinds.kind_of (type_of_kind ty.entry) }
 {
     match ty {
-        TyKind::Int(_) | TyKind::Array(_, _) | TyKind::Tuple(_) => Some(Kind::Datum),
-        TyKind::Time => Some(Kind::Time),
-        TyKind::Signal(_) => Some(Kind::Signal),
-        TyKind::Pointer(_) => Some(Kind::Pointer),
+        TyKind::Int(_) | TyKind::Array(_, _) | TyKind::Tuple(_) => Some(ValueKind::Datum),
+        TyKind::Time => Some(ValueKind::Time),
+        TyKind::Signal(_) => Some(ValueKind::Signal),
+        TyKind::Pointer(_) => Some(ValueKind::Pointer),
         TyKind::Void => None,
     }
 }
 
 /// The kind of what an instruction gives, with the type that it has: `var` gives a pointer and `sig` a signal, also
 /// where no type is such.
-pub fn result_kind(inst: &Inst, ty: Option<&Ty>) -> Option<Kind>
+pub fn result_kind(inst: &Inst, ty: Option<&Ty>) -> Option<ValueKind>
     ensures { (f : Naming) → option_copied ty.entry ≡ spec.result_type (inst_text f inst.now) → option_map kind_as result ≡ kinds.result_kind (inst_text f inst.now) }
 {
     match inst {
-        Inst::Var(_) => Some(Kind::Pointer),
-        Inst::Sig(_) => Some(Kind::Signal),
+        Inst::Var(_) => Some(ValueKind::Pointer),
+        Inst::Sig(_) => Some(ValueKind::Signal),
         _ => kind_of(ty?.kind()),
     }
 }

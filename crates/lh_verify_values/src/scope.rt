@@ -10,7 +10,7 @@ use lh_unit::module::Module;
 
 /// The four kinds of values.
 #[derive(Clone, Copy, Debug, PartialEq, Eq)]
-pub enum Kind {
+pub enum ValueKind {
     /// An integer, an array or a struct.
     Datum,
     /// A delay.
@@ -27,7 +27,7 @@ pub struct Fact {
     /// Whether an argument or an instruction gives it.
     pub defined: bool,
     /// Its kind; none where it is not defined, or gives nothing that has a type.
-    pub kind: Option<Kind>,
+    pub kind: Option<ValueKind>,
     /// The number of its type; none where no type of the language is such.
     pub ty: Option<u32>,
 }
@@ -83,7 +83,7 @@ impl Scope<'_> {
     }
 
     /// The kind of a value, if it is of any.
-    pub fn kind_of(&self, value: ValueId) -> Option<Kind>
+    pub fn kind_of(&self, value: ValueId) -> Option<ValueKind>
         requires scope { IsScope self.now }
         requires within { ValueWithin (sizes_in self.now) value }
         ensures { option_map kind_as result ≡ value_kind (text_in self.now) (value_text (naming_in self.now) value) }

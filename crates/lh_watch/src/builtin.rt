@@ -8,8 +8,8 @@ ghost use Rattle.lh_watch.specs.Builtin.{toggles, asserts, until_fail, has_faile
 use crate::watcher::{Next, Watcher};
 use lh_time::Instant;
 use lh_types::frame::{Change, Outcome};
+use lh_types::memory::NoMemory;
 use lh_types::text::{put, put_number};
-use lh_types::ty::NoMemory;
 
 /// Sums the bits that toggle, up to 2^64 - 1.
 #[derive(Drop)]

@@ -9,7 +9,7 @@ ghost use Rattle.lh_watch.specs.Shown.{shown, reports_of, first_stop, IsPartlySh
 use crate::watcher::{Next, Watcher};
 use lh_types::frame::Frame;
 use lh_types::list::TextList;
-use lh_types::ty::NoMemory;
+use lh_types::memory::NoMemory;
 
 /// Shows the frame to each member in order. The report of a member that is done is appended, and the
 /// member is taken out and dropped.

@@ -5,7 +5,7 @@ ghost use Rattle.lh_watch.specs.Members.{Member, TookFrame, report_of};
 
 use lh_time::Instant;
 use lh_types::frame::{Change, Outcome};
-use lh_types::ty::NoMemory;
+use lh_types::memory::NoMemory;
 
 /// What a watcher answers at a frame.
 #[derive(Clone, Copy, Debug, PartialEq, Eq)]

@@ -9,7 +9,7 @@ ghost use Rattle.lh_wave.specs.Changed.{IsNoted, HasNone, with_number, present_v
 
 use crate::wire::put_wire;
 use lh_text_buffer::Text;
-use lh_types::ty::NoMemory;
+use lh_types::memory::NoMemory;
 use lh_types::val::Val;
 use std::alloc::Global;
 

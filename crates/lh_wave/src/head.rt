@@ -20,7 +20,7 @@ use lh_design::{Design, Signal};
 use lh_elab::{label_of, path_of};
 use lh_io::stream::Sink;
 use lh_text_buffer::Text;
-use lh_types::ty::NoMemory;
+use lh_types::memory::NoMemory;
 use lh_unit::module::Module;
 use std::alloc::Global;
 

@@ -3,7 +3,7 @@ ghost use Rattle.std.specs.Prelude.{◌≡◌, ◌<◌, [], ℕ, IfOk, OnOk, len
 ghost use Rattle.lh_wave.specs.Owned.{parents, owners, AreOwned, numbers_of, with_number};
 
 use lh_design::{Design, Signal};
-use lh_types::ty::NoMemory;
+use lh_types::memory::NoMemory;
 use std::alloc::Global;
 
 /// The numbers of the children of each instance, rising.

@@ -24,7 +24,7 @@ use lh_design::Design;
 use lh_io::stream::{Failed, Sink};
 use lh_io::whole::write_all;
 use lh_kernel::Sim;
-use lh_types::ty::NoMemory;
+use lh_types::memory::NoMemory;
 use lh_unit::module::Module;
 use lh_watch::watcher::Watcher;
 use std::alloc::Global;

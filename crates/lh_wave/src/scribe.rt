@@ -12,7 +12,7 @@ use crate::trace::put_frame;
 use crate::waveform::Waveform;
 use lh_text_buffer::Text;
 use lh_types::frame::Frame;
-use lh_types::ty::NoMemory;
+use lh_types::memory::NoMemory;
 use lh_watch::watcher::Watcher;
 use std::alloc::Global;
 

@@ -9,7 +9,7 @@ use crate::value::{put_moment, put_value};
 use lh_text_buffer::Text;
 use lh_time::Instant;
 use lh_types::frame::{Change, Frame, Outcome};
-use lh_types::ty::NoMemory;
+use lh_types::memory::NoMemory;
 use std::alloc::Global;
 
 /// The text of a frame: its instant, then a line for each signal that it shows, then a line for each

@@ -10,7 +10,7 @@ use crate::changed::Changed;
 use crate::wire::{put_time, put_wire};
 use lh_text_buffer::Text;
 use lh_types::frame::{Change, Frame};
-use lh_types::ty::NoMemory;
+use lh_types::memory::NoMemory;
 use lh_types::val::Val;
 use std::alloc::Global;
 

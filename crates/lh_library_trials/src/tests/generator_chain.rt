@@ -1,7 +1,7 @@
 //! The text of a chain of two links, and the summary of two runs.
 use lh_selftest_design::generator::generated;
-use lh_selftest_design::summary::{Counts, Ending, RunSummary, Units, put_summary};
-use lh_types::ty::NoMemory;
+use lh_selftest_design::summary::{Counts, RunEnd, RunSummary, Units, put_summary};
+use lh_types::memory::NoMemory;
 use std::alloc::Global;
 
 /// The first entity of a chain of two links.
@@ -41,7 +41,7 @@ const ORIGINAL: RunSummary = RunSummary {
         passed: 8,
         failed: 0,
     },
-    ending: Ending::Quiet,
+    ending: RunEnd::Quiet,
 };
 
 const LOWERED: RunSummary = RunSummary {
@@ -51,7 +51,7 @@ const LOWERED: RunSummary = RunSummary {
         passed: 7,
         failed: 9,
     },
-    ending: Ending::Steps,
+    ending: RunEnd::Steps,
 };
 
 const SUMMARY: &[u8] =

@@ -10,7 +10,7 @@ use lh_bits::writes::BitWrites;
 use lh_queue::queue::{Bucket, Queue};
 use lh_queue::wish::Wish;
 use lh_time::Instant;
-use lh_types::ty::NoMemory;
+use lh_types::memory::NoMemory;
 use std::alloc::Global;
 use std::test::Fail;
 

@@ -1,7 +1,7 @@
 //! What no run writes: codes of signals past the first ones, and a value that is a time.
 use lh_text_buffer::Text;
 use lh_time::Delay;
-use lh_types::ty::NoMemory;
+use lh_types::memory::NoMemory;
 use lh_types::val::Val;
 use lh_wave::code::put_code;
 use lh_wave::value::put_value;

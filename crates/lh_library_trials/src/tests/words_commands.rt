@@ -1,7 +1,7 @@
 //! What the words of a command line ask for. Lines without a form are tried by the data of `lh_trials`.
 use lh_args::command::{Command, FileCommand, Simulate, command_of};
 use lh_types::list::{ByteList, TextList};
-use lh_types::ty::NoMemory;
+use lh_types::memory::NoMemory;
 use std::alloc::Global;
 
 /// The words of a line, between spaces.

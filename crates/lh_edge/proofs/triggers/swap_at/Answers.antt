@@ -2,11 +2,11 @@ use Rattle.std.proofs.Common.{◌≡◌, List, ◌++◌, ◌∷◌, [], length, 
 use Rattle.lh_term.specs.Arena.{tree_at, trees, Grows}
 use Rattle.lh_term.proofs.Swaps.{grows_on, stands_grown}
 use Rattle.lh_edge.proofs.Gathered.{gate_start, gate_first, gate_next, gate_last}
-use Rattle.lh_term.specs.declared.term.Node.{Node}
+use Rattle.lh_term.specs.declared.term.TermNode.{TermNode}
 use Rattle.lh_edge.proofs.triggers.swap_at.Goals as goal
 
 -- the terms of four calls in turn
-all_kept : (a b c d e : List Node) → Grows a b → Grows b c → Grows c d → Grows d e → Grows a e
+all_kept : (a b c d e : List TermNode) → Grows a b → Grows b c → Grows c d → Grows d e → Grows a e
 all_kept a b c d e f g h i = grows_on a b e f (grows_on b c e g (grows_on c d e h i))
 
 -- the terms that grew at each failure

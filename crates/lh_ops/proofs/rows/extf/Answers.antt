@@ -2,7 +2,7 @@ use Rattle.std.proofs.Common.{◌≡◌, ◌∙◌, ap, Result, Ok, Err}
 use Rattle.std.specs.Prelude.{IfOk}
 use Rattle.lh_types.specs.ValueOf.{datum_of}
 use Rattle.lh_types.specs.declared.val.Val.{Val}
-use Rattle.lh_types.specs.declared.ty.NoMemory.{NoMemory}
+use Rattle.lh_types.specs.declared.memory.NoMemory.{NoMemory}
 use Rattle.lh_types.specs.Values.{Datum}
 use Rattle.lh_ops.proofs.ArgLemmas.{extf_within, extf_is}
 use Rattle.lh_ops.proofs.rows.extf.Goals as goal

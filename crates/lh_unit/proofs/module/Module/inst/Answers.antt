@@ -1,6 +1,6 @@
 use Rattle.std.proofs.Common.{◌<◌, ap, ◌∙◌, sym, subst, length}
 use Rattle.lh_unit.specs.Table.{Table, line_at}
-use Rattle.lh_unit.specs.declared.table.Line.{Line}
+use Rattle.lh_unit.specs.declared.table.TableLine.{TableLine}
 use Rattle.lh_unit.proofs.Seen.{table-read, line-placed}
 use Rattle.lh_unit.proofs.module.Module.inst.Goals as goal
 
@@ -8,7 +8,7 @@ pub line-line-requires : goal.line-line-requires
 line-line-requires c = subst (λ (t : Table). c.args.inst.0 < length t.lines) (sym (table-read c.self.inside _ c.self.view_is _ c.requires.unit _ c.index.ensures)) c.requires.inst
 
 pub returns-clause-inst : goal.returns-clause-inst
-returns-clause-inst c = ap (λ (l : Line). l.inst) (c.line-line.ensures ∙ ap (λ (t : Table). line_at t c.args.inst.0) (table-read c.self.inside _ c.self.view_is _ c.requires.unit _ c.index.ensures))
+returns-clause-inst c = ap (λ (l : TableLine). l.inst) (c.line-line.ensures ∙ ap (λ (t : Table). line_at t c.args.inst.0) (table-read c.self.inside _ c.self.view_is _ c.requires.unit _ c.index.ensures))
 
 pub returns-clause-placed : goal.returns-clause-placed
 returns-clause-placed c = line-placed c.self.inside _ c.self.view_is _ c.requires.unit _ c.index.ensures c.self.invariant _ _ c.requires.inst c.line-line.ensures

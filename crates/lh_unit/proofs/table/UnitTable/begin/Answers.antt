@@ -1,6 +1,6 @@
 use Rattle.std.proofs.Common.{◌≡◌, Some, None, refl, Result, Ok, Err, ap, sym, ◌∙◌, subst}
 use Rattle.std.specs.Result.{IsErr}
-use Rattle.lh_types.specs.declared.ty.NoMemory.{NoMemory}
+use Rattle.lh_types.specs.declared.memory.NoMemory.{NoMemory}
 use Rattle.lh_unit.specs.Table.{Table, IsTable}
 use Rattle.lh_unit.specs.TableCalls.{BeginsTable, begun}
 use Rattle.lh_unit.specs.TableOf.{table_of}

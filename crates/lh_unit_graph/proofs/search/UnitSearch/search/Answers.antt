@@ -1,6 +1,6 @@
 use Rattle.std.proofs.Common.{refl}
 use Rattle.lh_unit_graph.proofs.Stepping.{Searching-first, Searching-next, Searching-stop, Covered-stop, InPlace-stop, left-falls}
-use Rattle.lh_unit_graph.proofs.search.Search.search.Goals as goal
+use Rattle.lh_unit_graph.proofs.search.UnitSearch.search.Goals as goal
 
 pub loop-frame-init : goal.loop-frame-init
 loop-frame-init g c =

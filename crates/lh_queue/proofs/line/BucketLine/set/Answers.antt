@@ -1,7 +1,7 @@
 use Rattle.std.proofs.Common.{set, ap, ◌∙◌}
-use Rattle.lh_queue.specs.Line.{Buckets}
+use Rattle.lh_queue.specs.BucketLine.{Buckets}
 use Rattle.lh_queue.proofs.Lining.{set-behind}
-use Rattle.lh_queue.proofs.line.Line.set.Goals as goal
+use Rattle.lh_queue.proofs.line.BucketLine.set.Goals as goal
 
 pub returns-clause-items : goal.returns-clause-items
 returns-clause-items c =

@@ -1,13 +1,13 @@
 use Rattle.std.proofs.Common.{◌≡◌, ◌+◌, drop, get_or, OnOk, refl, ap, sym, ◌∙◌, subst, arith}
 use Rattle.std.proofs.lemmas.List.{drop_all, drop_more}
 use Rattle.lh_unit.specs.declared.inst.InstId.{InstId}
-use Rattle.lh_unit.specs.declared.table.Line.{Line}
-use Rattle.lh_flat.specs.declared.build.Text.{Text}
+use Rattle.lh_unit.specs.declared.table.TableLine.{TableLine}
+use Rattle.lh_flat.specs.declared.build.FlatBuilder.{FlatBuilder}
 use Rattle.lh_flat.specs.Graph.{callee_of}
 use Rattle.lh_flat.specs.Building.{line_of, put, taken, line_added, insts_added, blocks_added, call_added}
 use Rattle.lh_flat.proofs.Reading.{placed-at}
 use Rattle.lh_flat.proofs.Building.{call_added-none, call_added-is, copy_added}
-use Rattle.lh_flat.proofs.build.Text.+copying.Goals as goal
+use Rattle.lh_flat.proofs.build.FlatBuilder.+copying.Goals as goal
 
 pub add_call-returns-then-depth-eq0 : goal.add_call-returns-then-depth-eq0
 add_call-returns-then-depth-eq0 t c =
@@ -22,7 +22,7 @@ add_call-returns t c =
     let d = c.in_ok-called.called in
     let whole = call_added-is c.args.depth a d.view.module.now c.args.function d.view.unit r d.ids l c.args.self.now _ _ _ _ c.if-depth-eq0.false c.in_ok-called.ensures.of c.in_ok-called.ensures.unit
     c.in_ok-called.ensures.ids refl refl refl refl in
-    subst (λ (x : Text). OnOk c.add_copy-added.result (c.add_copy-added.new.self ≡ x)) whole c.add_copy-added.ensures
+    subst (λ (x : FlatBuilder). OnOk c.add_copy-added.result (c.add_copy-added.new.self ≡ x)) whole c.add_copy-added.ensures
 
 pub add_copy-returns : goal.add_copy-returns
 add_copy-returns t c =
@@ -64,21 +64,21 @@ add_block-returns t c =
     let u = c.args.copy.now.view.unit.0 in
     let all = sym (ap (λ is. insts_added (call_added c.args.depth a) a u c.args.copy.now.ids is c.loop-id.self) (drop_all c.loop-id.id-index c.insts-id-items.result.now c.loop-id-test.false))
     ∙ c.loop-id.invariant in
-    subst (λ (x : Text). OnOk c.put.result (c.put.new.self ≡ put x)) all c.put.ensures
+    subst (λ (x : FlatBuilder). OnOk c.put.result (c.put.new.self ≡ put x)) all c.put.ensures
 
 pub add_inst-returns-in_ok-inst-in-None : goal.add_inst-returns-in_ok-inst-in-None
 add_inst-returns-in_ok-inst-in-None t c =
     let a = c.args.copy.now.view.module.now in
-    let l : Line = line_of a c.args.copy.now.view.unit.0 c.args.id in
+    let l : TableLine = line_of a c.args.copy.now.view.unit.0 c.args.id in
     let called = call_added c.args.depth a in
     let k : c.callee.result ≡ callee_of a l.inst = c.callee.ensures.callee ∙ ap (callee_of a) c.inst.ensures.inst in
-    subst (λ (x : Text). OnOk c.take.result (c.take.new.self ≡ x))
+    subst (λ (x : FlatBuilder). OnOk c.take.result (c.take.new.self ≡ x))
     (ap (λ x. taken x c.args.self.now) c.in_ok-inst-in-None.ensures ∙ ap (λ o. line_added called c.args.copy.now.ids l o c.args.self.now) (sym c.in-None.is ∙ k)) c.take.ensures
 
 pub add_inst-returns-in-Some : goal.add_inst-returns-in-Some
 add_inst-returns-in-Some t c =
     let a = c.args.copy.now.view.module.now in
-    let l : Line = line_of a c.args.copy.now.view.unit.0 c.args.id in
+    let l : TableLine = line_of a c.args.copy.now.view.unit.0 c.args.id in
     let called = call_added c.args.depth a in
     let k : c.callee.result ≡ callee_of a l.inst = c.callee.ensures.callee ∙ ap (callee_of a) c.inst.ensures.inst in
-    subst (λ (x : Text). OnOk c.add_call.result (c.add_call.new.self ≡ x)) (ap (λ o. line_added called c.args.copy.now.ids l o c.args.self.now) (sym c.in-Some.is ∙ k)) c.add_call.ensures
+    subst (λ (x : FlatBuilder). OnOk c.add_call.result (c.add_call.new.self ≡ x)) (ap (λ o. line_added called c.args.copy.now.ids l o c.args.self.now) (sym c.in-Some.is ∙ k)) c.add_call.ensures

@@ -1,6 +1,6 @@
 use Rattle.lh_unit_graph.proofs.Searching.{Searching}
 use Rattle.lh_unit_graph.proofs.Stepping.{left}
-use Rattle.lh_unit_graph.proofs.search.Search.search.Given as goal
+use Rattle.lh_unit_graph.proofs.search.UnitSearch.search.Given as goal
 
 abbrev pub invariant-loop-frame : goal.invariant-loop-frame
 invariant-loop-frame g l = Searching g.M.Measured.measuring l.nodes l.top.0 l.self

@@ -1,6 +1,6 @@
 use Rattle.std.proofs.Common.{◌<◌, sym, subst, refl}
 use Rattle.lh_unit_graph.proofs.Stepping.{Closing-first, Closing-next, last-placed}
-use Rattle.lh_unit_graph.proofs.search.Search.close.Goals as goal
+use Rattle.lh_unit_graph.proofs.search.UnitSearch.close.Goals as goal
 
 pub loop-frame-init : goal.loop-frame-init
 loop-frame-init g c = Closing-first g.M.Measured.measuring c.args.self.now _ c.args.frame c.requires refl refl

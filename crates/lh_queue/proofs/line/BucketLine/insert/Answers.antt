@@ -1,8 +1,8 @@
 use Rattle.std.proofs.Common.{◌≡◌, ◌+◌, ◌-◌, ◌≤◌, length, drop, ap, ◌∙◌, rules, arith}
 use Rattle.std.specs.List.{insert}
-use Rattle.lh_queue.specs.Line.{Buckets}
+use Rattle.lh_queue.specs.BucketLine.{Buckets}
 use Rattle.lh_queue.proofs.Lining.{insert-behind, insert-before}
-use Rattle.lh_queue.proofs.line.Line.insert.Goals as goal
+use Rattle.lh_queue.proofs.line.BucketLine.insert.Goals as goal
 
 pub returns-clause-items : goal.returns-clause-items
 returns-clause-items c =

@@ -1,7 +1,7 @@
 use Rattle.std.proofs.Common.{drop, ap, ◌∙◌}
-use Rattle.lh_queue.specs.Line.{Buckets}
+use Rattle.lh_queue.specs.BucketLine.{Buckets}
 use Rattle.lh_queue.proofs.Lining.{drop-again}
-use Rattle.lh_queue.proofs.line.Line.remove_first.Goals as goal
+use Rattle.lh_queue.proofs.line.BucketLine.remove_first.Goals as goal
 
 pub returns-then-self-len-clause-items : goal.returns-then-self-len-clause-items
 returns-then-self-len-clause-items c =

@@ -1,6 +1,6 @@
 use Rattle.std.proofs.Common.{vec_len}
 use Rattle.lh_unit_graph.proofs.Stepping.{Closing}
-use Rattle.lh_unit_graph.proofs.search.Search.close.Given as goal
+use Rattle.lh_unit_graph.proofs.search.UnitSearch.close.Given as goal
 
 abbrev pub invariant-loop-frame : goal.invariant-loop-frame
 invariant-loop-frame g l = Closing g.M.Measured.measuring l.fn.self l.fn.frame l.self

@@ -1,7 +1,7 @@
 use Rattle.std.proofs.Common.{◌≡◌, ◌+◌, ◌*◌, drop}
 use Rattle.lh_unit.specs.Arena.{block_insts_at}
 use Rattle.lh_flat.specs.Building.{insts_added, blocks_added, call_added, unit_added}
-use Rattle.lh_flat.proofs.build.Text.+copying.Given as goal
+use Rattle.lh_flat.proofs.build.FlatBuilder.+copying.Given as goal
 
 abbrev pub decreases-add_block : goal.decreases-add_block
 decreases-add_block l = 5 * l.depth + 2
