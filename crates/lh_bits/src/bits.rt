@@ -40,7 +40,7 @@ impl Bits {
         Ok(Bits { words, len })
     }
 
-    /// The same bits.
+    /// A list of the same bits, with memory of its own.
     pub fn copy(&self) -> Result<Bits, NoMemory>
         ensures { IfOk result (λ b. b ≡ self.now) }
     {

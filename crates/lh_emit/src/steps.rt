@@ -36,7 +36,7 @@ pub fn take_steps(
     Ok(value)
 }
 
-/// The same for a route that is needed no more.
+/// Puts the lines of a route that is needed no more; its steps are moved and not copied.
 pub(crate) fn take_route(
     alloc: Global,
     lines: &mut Lines,

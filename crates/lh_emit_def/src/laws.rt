@@ -13,8 +13,8 @@ pub fn comb_law()
     ensures senses { CombSenses }
 {}
 
-/// The same of the entity of registers. A pass of it gives no wish at the first run. It remembers the value of each trigger's part, which it
-/// senses, and drives the rows of which a trigger fires.
+/// The entity of registers has the process's name and arguments, neither signals nor instances, and no fault. A pass of it gives no wish at the first run. It remembers the value of each
+/// trigger's part, which it senses, and drives the rows of which a trigger fires.
 pub fn edge_law()
     ensures entity { EdgeIsEntity }
     ensures right { EdgeIsRight }
@@ -22,7 +22,8 @@ pub fn edge_law()
     ensures senses { EdgeSenses }
 {}
 
-/// The same of an entity that runs once: its pass gives the wish of its drives, and where they read nothing it senses nothing.
+/// The entity of drives that runs once has the process's name and arguments, neither signals nor instances, and no fault. A pass of it gives the
+/// wish of its drives; where they read nothing it senses nothing.
 pub fn once_law()
     ensures entity { OnceIsEntity }
     ensures right { OnceIsRight }

@@ -63,7 +63,7 @@ impl Wishes {
         Ok(())
     }
 
-    /// The same as lists of writes, without a copy of the bits: the due instants strictly rise, none of the lists is empty, and
+    /// The wishes as lists of writes, without a copy of the bits: the due instants strictly rise, none of the lists is empty, and
     /// in each of them the bits strictly rise.
     pub fn into_writes(self) -> Result<DueWrites, NoMemory>
         ensures wish { IfOk result (λ w. writes_wish w ≡ self) }

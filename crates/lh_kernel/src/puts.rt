@@ -57,7 +57,7 @@ fn put_wishes(queue: &mut Queue, at: Instant, instance: u32, wishes: DueWrites)
     }
 }
 
-/// The same of any wishes.
+/// Puts any number of wishes into the queue.
 fn put_many(queue: &mut Queue, at: Instant, instance: u32, wishes: Vec<(Instant, BitWrites)>)
     requires can { CanBePut queue.old.held (wishes_by at instance wishes.items) }
     requires room { length wishes.items ≤ queue.old.spare }

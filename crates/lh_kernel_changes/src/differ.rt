@@ -24,7 +24,7 @@ pub fn differs(parts: &[Range], old: &Bits, now: &Bits) -> bool
     false
 }
 
-/// The same, where one part is known to differ: it is looked for before any bit is compared.
+/// Whether a bit of the parts differs, where one part is known to differ: it is looked for before any bit is compared.
 pub fn differs_with(parts: &[Range], known: Range, old: &Bits, now: &Bits) -> bool
     requires in_old { AreWithin (length old.now) parts.now }
     requires in_now { AreWithin (length now.now) parts.now }

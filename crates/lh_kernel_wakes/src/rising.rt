@@ -74,7 +74,7 @@ impl Rising {
         self.enter_in_place(n)
     }
 
-    /// The same, wherever the number comes.
+    /// Enters a number wherever it comes among the others.
     #[inline(never)]
     fn enter_in_place(&mut self, n: u32) -> Result<bool, NoMemory>
         ensures has { IfOk result (λ added. HasOneMore self.old n self.new) }

@@ -31,7 +31,7 @@ impl<T: Drop> Kept<T> {
         Ok(Kept { items })
     }
 
-    /// The same items for one owner more.
+    /// The items, shared with one owner more.
     pub fn share(&self) -> Result<Kept<T>, NoMemory>
         ensures { IfOk result (λ k. k ≡ self.now) }
     {

@@ -44,7 +44,7 @@ fn all_rest(triggers: &[TriggerBit], now: &Bits, last: &[bool], values: &[bool])
     triggers.len() == values.len() && rest_in_turn(triggers, now, last, values)
 }
 
-/// The same of triggers with a value for each.
+/// Whether no trigger fires, where each has a value.
 fn rest_in_turn(triggers: &[TriggerBit], now: &Bits, last: &[bool], values: &[bool]) -> bool
     requires { length triggers.now ≡ length values.now }
     ensures { IsTrue result → NoneFires now.now (Some last.now) 0 triggers.now values.now }

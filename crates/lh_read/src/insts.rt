@@ -42,7 +42,7 @@ pub fn instruction(
     }
 }
 
-/// The same of any instruction. It stands apart, since most are operations, and all forms together take a large frame.
+/// Any instruction with ids in place of names. It stands apart, since most are operations, and all forms together take a large frame.
 #[inline(never)]
 fn any_instruction(
     alloc: Global,

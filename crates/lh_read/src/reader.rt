@@ -104,7 +104,7 @@ impl Reader {
         }
     }
 
-    /// The same of any line. It stands apart, since most lines are instructions, and all kinds together take a large frame.
+    /// Takes a line of any kind. It stands apart, since most lines are instructions, and all kinds together take a large frame.
     #[inline(never)]
     fn take_any(&mut self, alloc: Global, line: LineSyntax) -> Result<(), LineFault>
         requires { IsInOrder self.old }

@@ -161,7 +161,7 @@ impl<'a> Tokens<'a> {
         Tokens { rest }
     }
 
-    /// The same tokens again.
+    /// A second view of the same tokens.
     pub fn copy(&self) -> Tokens<'a>
         ensures { result ≡ self.now }
     {

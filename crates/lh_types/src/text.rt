@@ -34,7 +34,7 @@ pub fn put_number(to: &mut Vec<u8>, n: u64) -> Result<(), NoMemory>
     put(to, digits.as_bytes())
 }
 
-/// The same for a number as wide as the widest integer.
+/// Appends the digits of a number as wide as the widest integer.
 pub fn put_integer(to: &mut Vec<u8>, n: u128) -> Result<(), NoMemory>
     ensures { OnOk result (to.new.items ≡ to.old.items ++ decimal n) }
 {

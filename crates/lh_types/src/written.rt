@@ -53,7 +53,7 @@ impl WrittenTy {
         }
     }
 
-    /// The same for one owner more.
+    /// The type, shared with one owner more.
     pub fn share(&self) -> Result<WrittenTy, NoMemory>
         ensures { IfOk result (λ w. w ≡ self.now) }
     {

@@ -67,7 +67,7 @@ pub fn first_fault(
     first_in(alloc, &scope, list.as_slice(), &wrong)
 }
 
-/// The same, where what there is to know of the unit is known, and by its places which is a `phi` with fault 6.
+/// The first fault at these places, where what there is to know of the unit is known, and of each place whether it is a `phi` with fault 6.
 fn first_in(
     alloc: Global,
     scope: &Scope<'_>,

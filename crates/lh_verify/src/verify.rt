@@ -122,7 +122,7 @@ fn find(alloc: Global, m: &Module) -> Result<Option<Fault>, NoMemory>
     find_among(alloc, m, &mut types, numbers.as_slice())
 }
 
-/// The same, where the numbers of all parameters' types are known.
+/// The first fault of a module, where the numbers of all parameters' types are known.
 fn find_among(
     alloc: Global,
     m: &Module,

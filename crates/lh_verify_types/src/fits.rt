@@ -141,7 +141,7 @@ fn carried_triggers_fit(scope: &Scope<'_>, carried: &Numbered<'_>, triggers: &[R
     true
 }
 
-/// The same, where the number of the type is that of the first value's type.
+/// Whether triggers fit a type, whose number is that of the first value's type.
 fn typed_triggers_fit(scope: &Scope<'_>, ty: &Ty, triggers: &[RegTrigger]) -> bool
     requires scope { IsScope scope.now }
     requires triggers { Each (TriggerWithin (sizes_in scope.now)) triggers.now }
@@ -205,7 +205,7 @@ fn edges_have(scope: &Scope<'_>, of: &Numbered<'_>, edges: &[PhiEdge]) -> bool
     true
 }
 
-/// The same, where the number of the type is that of the first operand's type.
+/// Whether edges fit a type, whose number is that of the first operand's type.
 fn edges_fit(scope: &Scope<'_>, ty: &Ty, edges: &[PhiEdge]) -> bool
     requires scope { IsScope scope.now }
     requires edges { Each (EdgeWithin (sizes_in scope.now)) edges.now }

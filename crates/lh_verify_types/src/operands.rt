@@ -138,7 +138,7 @@ pub fn has_and_agrees(scope: &Scope<'_>, ty: &Ty, operand: &Typed) -> bool
     agrees(scope, operand)
 }
 
-/// The same, where the number of the type is known.
+/// Whether an operand has this type, whose number is known, and agrees with what is written.
 fn has_number_and_agrees(scope: &Scope<'_>, of: &Numbered<'_>, operand: &Typed) -> bool
     requires scope { IsScope scope.now }
     requires number { IsNumbered scope.now.types.now of.now }
