@@ -10,7 +10,7 @@ use Rattle.lh_args.specs.declared.found.FoundOptions.{FoundOptions}
 use Rattle.lh_args.specs.Found.{AtMostOnce, IsAllFound}
 use Rattle.lh_args.specs.Meant.{titles_from, at_option}
 use Rattle.lh_args.proofs.Options.{written-unique}
-use Rattle.lh_args.proofs.Watching.{titles_written}
+use Rattle.lh_args.proofs.WatchTitles.{titles_written}
 
 pub if_none : {T : Type 0} (r : Option T) (P : Type 0) → P → IfNone r P
 if_none None P p = p

@@ -1,5 +1,5 @@
 pub mod Options
-pub mod Finding
-pub mod Watching
+pub mod OptionsFound
+pub mod WatchTitles
 pub mod Digits
 pub mod Forms

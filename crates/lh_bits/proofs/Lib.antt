@@ -8,4 +8,4 @@ pub mod FlagRuns
 pub mod Differ
 pub mod PackedParts
 pub mod PackedNumbers
-pub mod Writing
+pub mod WrittenBits

@@ -2,8 +2,8 @@ pub mod Lists
 pub mod Within
 pub mod Routes
 pub mod Paths
-pub mod Asking
-pub mod Meaning
+pub mod UnitQuestions
+pub mod AnswerMeanings
 pub mod Units
 pub mod Bounds
 pub mod Steps

@@ -19,7 +19,7 @@ use Rattle.lh_edge.proofs.Bools.{differ_is, is_differ}
 use Rattle.lh_edge.proofs.Tables.{holds_same, subterm_atom, now_atom, shown_by, is_showing, to_all, from_all}
 use Rattle.lh_edge.proofs.Numbers.{number, number_below, numbered_number, agree_numbers, agree_same, stays_tells, stays_all, shown_tells, shown_all}
 use Rattle.lh_edge.proofs.Once.{once_distinct, fits_in, showing_one}
-use Rattle.lh_edge.proofs.Firing.{order_any}
+use Rattle.lh_edge.proofs.TriggersFire.{order_any}
 
 module _ (waited : List Part) (c : Tree) (ats : List Tree) (whole : (t : Tree) → has ats t ≡ has (atoms_of (edge_part c)) t) where
   abbrev pub E : Tree

@@ -10,7 +10,7 @@ use Rattle.lh_types.specs.Same.{nat_eq-refl, nat_eq-is}
 use Rattle.lh_term.specs.Arena.{tree_at, trees, trees_at, term_tree, ids_below, IsIn, AreIn, Grows}
 use Rattle.lh_term.specs.Reach.{is_on, GoOn, none_left, PassesOn, AreReached}
 use Rattle.lh_term.proofs.Arenas.{map_append}
-use Rattle.lh_term.proofs.Reaching.{on_push, on_at, on_below, pass_on, pass_own, is_behind, in_push}
+use Rattle.lh_term.proofs.TermWalks.{on_push, on_at, on_below, pass_on, pass_own, is_behind, in_push}
 use Rattle.lh_term.proofs.Swaps.{term_there, tree_grown, in_grown, grows_on}
 use Rattle.lh_term.proofs.Walks.{id_below}
 use Rattle.lh_edge.specs.Atoms.{is_one_bit, is_connective, subterms, subterms_in, presents, has, atoms_of}

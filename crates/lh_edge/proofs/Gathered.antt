@@ -16,7 +16,7 @@ use Rattle.lh_term.specs.Make.{bit_of}
 use Rattle.lh_term.specs.Arena.{tree_at, trees, term_tree, ids_below, IsIn, Grows, StandsForTree}
 use Rattle.lh_term.specs.Subst.{PairsIn, pairs_at, is_first}
 use Rattle.lh_term.specs.Reach.{operands_of, is_on, GoOn, none_left, AreReached}
-use Rattle.lh_term.proofs.Reaching.{on_push, on_at, on_below, pass_on, is_behind}
+use Rattle.lh_term.proofs.TermWalks.{on_push, on_at, on_below, pass_on, is_behind}
 use Rattle.lh_term.proofs.Swaps.{tree_grown, in_grown, grows_on, pairs_grown, pairs_in_grown, term_there}
 use Rattle.lh_edge.specs.Triggers.{pasts_in, pasts_in_row}
 use Rattle.lh_edge.specs.Steps.{present_tree, IsPresent}

@@ -1,9 +1,9 @@
 pub mod Rows
 pub mod Bools
 pub mod Tables
-pub mod Meaning
-pub mod Firing
-pub mod Resting
+pub mod AtomMeanings
+pub mod TriggersFire
+pub mod TriggersRest
 pub mod Numbers
 pub mod Sights
 pub mod Once

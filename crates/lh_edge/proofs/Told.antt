@@ -10,7 +10,7 @@ use Rattle.lh_term.specs.declared.term.TermNode.{TermNode}
 use Rattle.lh_term.specs.Tree.{Tree}
 use Rattle.lh_types.specs.Same.{nat_eq-refl, nat_eq-is}
 use Rattle.lh_term.specs.Arena.{tree_at, trees}
-use Rattle.lh_term.proofs.Reaching.{is_behind}
+use Rattle.lh_term.proofs.TermWalks.{is_behind}
 use Rattle.lh_edge.specs.Reached.{Tells, TellsNext}
 use Rattle.lh_edge.proofs.Joined.{at_place}
 

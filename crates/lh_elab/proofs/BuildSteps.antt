@@ -19,7 +19,7 @@ use Rattle.lh_unit.specs.Naming.{Naming, arg_text}
 use Rattle.lh_unit.specs.Table.{ArgsWithin}
 use Rattle.lh_elab_plan.specs.Plans.{signal_of, low_at}
 use Rattle.lh_elab.specs.Builds.{signal_text, room_of, AddsSignals, KeepsRest, ranges_by, kid, kids}
-use Rattle.lh_elab.proofs.Numbering.{room-cons, room-append, numbered-append, ranges-append, initial-append}
+use Rattle.lh_elab.proofs.SignalNumbers.{room-cons, room-append, numbered-append, ranges-append, initial-append}
 
 -- one after the other
 pub adds-more : (old mid new : Building) (i : ℕ) (ss ts : List SignalText) → AddsSignals old mid i ss → AddsSignals mid new i ts → AddsSignals old new i (ss ++ ts)

@@ -13,8 +13,8 @@ use Rattle.lh_unit.specs.Held.{Env}
 use Rattle.lh_unit.specs.Hierarchy.{lines_of, Child, children_of, static_held, Hierarchy, hierarchy_by, hierarchies}
 use Rattle.lh_unit.specs.Design.{hierarchy_or, hierarchy_in, targets}
 use Rattle.lh_elab.proofs.Names.{hierarchy-by_id, child_ids, children-names, entity-lines, by-its-kind}
-use Rattle.lh_elab.proofs.Reading.{entity-blocks}
-use Rattle.lh_elab.proofs.Refusing.{args-of}
+use Rattle.lh_elab.proofs.InstanceGraph.{entity-blocks}
+use Rattle.lh_elab.proofs.RefusalLaws.{args-of}
 use Rattle.lh_elab.proofs.Underway.{ReadsAll}
 
 -- what is read where the unit may be missing

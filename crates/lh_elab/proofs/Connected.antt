@@ -28,10 +28,10 @@ use Rattle.lh_elab.specs.Builds.{room_of, kid, kids, kids_in, IsStarted, Visits}
 use Rattle.lh_elab.specs.Answer.{InstanceIs, IsDesignOf}
 use Rattle.lh_elab.specs.Refusals.{refusal_at}
 use Rattle.lh_elab.specs.Elaborates.{Elaborates}
-use Rattle.lh_elab.proofs.Elaborating.{Ends}
-use Rattle.lh_elab.proofs.Numbering.{room-cons}
+use Rattle.lh_elab.proofs.ElaborationEnds.{Ends}
+use Rattle.lh_elab.proofs.SignalNumbers.{room-cons}
 use Rattle.lh_elab.proofs.Ports.{IsInstantiable, no-function, ChildFits, all-children-fit, types-read}
-use Rattle.lh_elab.proofs.Refusing.{refuses-function}
+use Rattle.lh_elab.proofs.RefusalLaws.{refuses-function}
 use Rattle.lh_elab.proofs.Underway.{Underway, ReadsAll, Popped, PendingFits, next-fits, has-room, ranges-wide}
 use Rattle.lh_elab.proofs.Walks.{ranges-read}
 

@@ -25,7 +25,7 @@ use Rattle.lh_unit.specs.Design.{hierarchy_or, hierarchy_in, targets}
 use Rattle.lh_unit.proofs.ById.{unit_named-by_id}
 use Rattle.lh_elab.specs.declared.graph.HierarchyNode.{HierarchyNode}
 use Rattle.lh_elab.specs.Graph.{max_counted, no_node, node_after, node_from, node_by, node_of}
-use Rattle.lh_elab.proofs.Reading.{entity-blocks}
+use Rattle.lh_elab.proofs.InstanceGraph.{entity-blocks}
 use Rattle.lh_verify_laws.proofs.Capped.{min-zero}
 
 -- what is read of the unit of a name

@@ -18,7 +18,7 @@ use Rattle.lh_elab.specs.declared.measure.HierarchyMeasure.{HierarchyMeasure}
 use Rattle.lh_elab.specs.Graph.{targets_at, max_counted, IsGraph}
 use Rattle.lh_elab.specs.Measures.{measuring, fault_of}
 use Rattle.lh_elab.specs.Refusals.{limited, FaultWithin}
-use Rattle.lh_elab.proofs.Counting.{defined, has-busy}
+use Rattle.lh_elab.proofs.InstanceCounts.{defined, has-busy}
 
 first-within : (n : ℕ) (f : UnitId → Option ℕ) (ts : List UnitId) → Each (λ (t : UnitId). t.0 < n) ts → ((t : UnitId) (x : ℕ) → t.0 < n → f t ≡ Some x → x < n) → (x : ℕ) → first_some f ts ≡ Some x
     → x < n

@@ -37,7 +37,7 @@ use Rattle.lh_eval_laws.specs.Units.{IsPort, HasPorts, UnitIsSound}
 use Rattle.lh_eval_laws.specs.Finding.{PartsFound}
 use Rattle.lh_verify_laws.proofs.EachItem.{each-contained, each-split}
 use Rattle.lh_verify_laws.proofs.AtPlaces.{lines-from}
-use Rattle.lh_eval_laws.proofs.Finding.{some-of}
+use Rattle.lh_eval_laws.proofs.OperandsFound.{some-of}
 use Rattle.lh_eval_laws.proofs.FindingElab.{parts-are-found}
 use Rattle.lh_eval_laws.proofs.FindingStatic.{static-all-fits}
 use Rattle.lh_eval_laws.proofs.FitLaws.{of-unit, unit-is-sound, begins-fit}

@@ -27,7 +27,7 @@ use Rattle.lh_elab_plan.specs.Plans.{signal_of, child_of, low_at, LowSmall, Chil
 use Rattle.lh_elab.specs.Builds.{instance_text, signal_text, room_of, ranges_by, kid, kids, kids_in, AreLow, LowsFit, Visits}
 use Rattle.lh_elab.specs.Elaborates.{TextsFill}
 use Rattle.lh_elab.proofs.Walks.{gone, unwound, unwound-append, ReadsArgs, kids-visited, left, left-append, kids-count}
-use Rattle.lh_elab.proofs.Numbering.{room-cons, initial-long}
+use Rattle.lh_elab.proofs.SignalNumbers.{room-cons, initial-long}
 
 -- what is built, as the definition has it
 pub record StandsForDesign (a : Arena) (b : Building) (d : Design) : Type 0 where

@@ -17,14 +17,14 @@ use Rattle.lh_unit.specs.declared.inst.Inst.{Inst}
 use Rattle.lh_unit.specs.declared.inst.Inst.TheVariants as inst
 use Rattle.lh_unit.proofs.Lists.{Each-append}
 use Rattle.lh_eval.specs.Holding.{part_in}
-use Rattle.lh_eval.proofs.Holding.{same-held}
+use Rattle.lh_eval.proofs.HeldByIds.{same-held}
 use Rattle.lh_elab_plan.specs.declared.statics.Base.{Base}
 use Rattle.lh_elab_plan.specs.declared.statics.Base.TheVariants as base
 use Rattle.lh_elab_plan.specs.declared.statics.Statics.{Statics}
 use Rattle.lh_elab_plan.specs.declared.plan.PlanChild.{PlanChild}
 use Rattle.lh_elab_plan.specs.Statics.{by_of, base_lo, moved_slots, StaticsFollow}
 use Rattle.lh_elab_plan.specs.Plans.{low_by, lows_by, low_at, child_of, LowSmall, ChildSmall, PartsSmall, ChildLine, ChildWithin}
-use Rattle.lh_elab_plan.proofs.Moving.{shifted, length-moved, slot-moved, part-moved}
+use Rattle.lh_elab_plan.proofs.MovedParts.{shifted, length-moved, slot-moved, part-moved}
 
 module _ (args sigs : List Range) (a : Arena) (u : ℕ) (s : Statics) (e : Env) (f : StaticsFollow a u args sigs (by_of s) e) where
   low-of-part : (b : Base) (p : Option Range) → low_at args sigs (option_map (λ (r : Range). record { base = b; offset = r.lo }) p)

@@ -1,4 +1,4 @@
-pub mod Moving
+pub mod MovedParts
 pub mod StaticSteps
 pub mod PlanSteps
 pub mod ChildSteps

@@ -32,7 +32,7 @@ use Rattle.lh_verify_laws.specs.Operands.{RowIs}
 use Rattle.lh_eval.specs.Holding.{Holds, datum_in, slot_at}
 use Rattle.lh_eval.proofs.ValuesFit.{datum-held}
 use Rattle.lh_eval.proofs.GivesFit.{part-held}
-use Rattle.lh_eval.proofs.Holding.{holds-nothing}
+use Rattle.lh_eval.proofs.HeldByIds.{holds-nothing}
 use Rattle.lh_eval.proofs.BeginSteps.{entity-lines, entity-insts}
 use Rattle.lh_eval_laws.specs.Ranges.{RangesFit, arg_types, signal_types, type_if_signal, InstanceFits}
 use Rattle.lh_eval_laws.specs.Units.{IsPort, HasPorts, SigWritesData, WritesData, UnitIsSound}
@@ -44,7 +44,7 @@ use Rattle.lh_elab_plan.specs.declared.statics.Base.TheVariants as base
 use Rattle.lh_elab_plan.specs.declared.statics.Statics.{Statics}
 use Rattle.lh_elab_plan.specs.Statics.{StaticsById, by_of, HasSlots, args_begun, sigs_begun, no_range, base_lo, moved_slots, StaticsFollow, FitsSomething}
 use Rattle.lh_elab_plan.specs.Plans.{AreWide, AreRangesOf, SignalIs, SignalLine, PartsSmall}
-use Rattle.lh_elab_plan.proofs.Moving.{slots-stay}
+use Rattle.lh_elab_plan.proofs.MovedParts.{slots-stay}
 use Rattle.lh_elab_plan.proofs.StaticSteps.{LowRanges, nothing-small, begins-small, args-follow, signals-follow, plain}
 
 -- where nothing is held, nothing moves

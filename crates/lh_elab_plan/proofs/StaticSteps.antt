@@ -41,7 +41,7 @@ use Rattle.lh_elab_plan.specs.declared.statics.Base.TheVariants as base
 use Rattle.lh_elab_plan.specs.declared.statics.Statics.{Statics}
 use Rattle.lh_elab_plan.specs.Statics.{StaticsById, by_of, HasSlots, held_by, given_by, from_zero, args_begun, sig_begun, sigs_begun, base_of, no_range, base_lo, moved, StaticsFollow, IsSmall, FitsSomething}
 use Rattle.lh_elab_plan.specs.Plans.{AreWide}
-use Rattle.lh_elab_plan.proofs.Moving.{slots-stay, operated-moved, follows-held, follows-given}
+use Rattle.lh_elab_plan.proofs.MovedParts.{slots-stay, operated-moved, follows-held, follows-given}
 
 -- the first of what is left, and what is left after it
 pub first-left : {X : Type 0} (xs : List X) (k : ℕ) (d x : X) (more : List X) → drop k xs ≡ x ∷ more → get_or xs k d ≡ x

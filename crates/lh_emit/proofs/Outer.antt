@@ -22,8 +22,8 @@ use Rattle.lh_emit.specs.declared.emitter.Emitter.{Emitter}
 use Rattle.lh_emit_body.specs.declared.lines.EmitFault.{EmitFault}
 use Rattle.lh_emit_body.specs.declared.lines.EmitFault.TheVariants as fault
 use Rattle.lh_emit_source.specs.declared.origin.Origin.{Origin}
-use Rattle.lh_emit.proofs.Giving.{emitted-grown}
-use Rattle.lh_emit.proofs.Sourcing.{source-of}
+use Rattle.lh_emit.proofs.GivenLines.{emitted-grown}
+use Rattle.lh_emit.proofs.SourceSteps.{source-of}
 
 -- ---- terms
 

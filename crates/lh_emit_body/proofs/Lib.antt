@@ -1,2 +1,2 @@
-pub mod Adding
-pub mod Taking
+pub mod AddedLines
+pub mod TakenNames

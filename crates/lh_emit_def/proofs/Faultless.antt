@@ -32,13 +32,13 @@ use Rattle.lh_emit_def.specs.Entities.{cond_name, trigger_text}
 use Rattle.lh_emit_def.specs.Ways.{part_by_step, part_by, StepsLead, IsReached}
 use Rattle.lh_term.specs.Parts.{whole_argument}
 use Rattle.lh_emit_def.proofs.Induction.{IsNamed, IsNamedPart}
-use Rattle.lh_emit_def.proofs.Needing.{IsScalar}
+use Rattle.lh_emit_def.proofs.NeedLaws.{IsScalar}
 use Rattle.lh_emit_def.proofs.Rows.{HasRow}
-use Rattle.lh_emit_def.proofs.Passing.{Frame, HasFewArgs, source, Begins, begins-before}
-use Rattle.lh_emit_def.proofs.Driving.{CondNamed}
-use Rattle.lh_emit_def.proofs.Registering.{TriggerNamed}
-use Rattle.lh_emit_def.proofs.Emitting.{DriveHas, TriggerHas, RowHas, DriveNamed, RowNamed, KeepsRows}
-use Rattle.lh_emit_def.proofs.Fitting.{has, operation-fits, operation-gives}
+use Rattle.lh_emit_def.proofs.PassState.{Frame, HasFewArgs, source, Begins, begins-before}
+use Rattle.lh_emit_def.proofs.DrivePasses.{CondNamed}
+use Rattle.lh_emit_def.proofs.RegisterPasses.{TriggerNamed}
+use Rattle.lh_emit_def.proofs.KeptByRows.{DriveHas, TriggerHas, RowHas, DriveNamed, RowNamed, KeepsRows}
+use Rattle.lh_emit_def.proofs.OperationRows.{has, operation-fits, operation-gives}
 use Rattle.lh_emit_def.proofs.Typed.{Named, UseRight, IsRight, right-push, named-before, data-right, signal-right, time-right, operands-right, Typed, given-named, gives-typed}
 use Rattle.lh_unit.proofs.ById.{line_giving-later}
 use Rattle.lh_text_laws.proofs.Printed.{results-push}

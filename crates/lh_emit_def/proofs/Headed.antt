@@ -15,9 +15,9 @@ use Rattle.lh_unit_names.specs.declared.name.UnitName.{UnitName}
 use Rattle.lh_unit.specs.declared.inst.UnitKind.{UnitKind}
 use Rattle.lh_unit.specs.declared.inst.UnitKind.TheVariants as kind
 use Rattle.lh_text_laws.specs.Printable.{HasLine}
-use Rattle.lh_text_laws.proofs.Spacing.{word-lexeme}
+use Rattle.lh_text_laws.proofs.SpacedLines.{word-lexeme}
 use Rattle.lh_text_laws.proofs.Types.{type-again}
-use Rattle.lh_emit_def.proofs.Spelling.{each-append, spaced-written}
+use Rattle.lh_emit_def.proofs.InstructionSpelling.{each-append, spaced-written}
 
 -- ---- the header of the entity
 

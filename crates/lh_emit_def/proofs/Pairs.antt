@@ -9,10 +9,10 @@ use Rattle.lh_term.specs.Tree.{Tree, constant, choice_of, operation_on}
 use Rattle.lh_term.specs.Types.{IsValueType, IsTyped, type_of}
 use Rattle.lh_term.specs.Make.{is_constant, value_in}
 use Rattle.lh_term.specs.Laws.{MeansSame}
-use Rattle.lh_term.proofs.Typing.{value_typed}
+use Rattle.lh_term.proofs.TermTypes.{value_typed}
 use Rattle.lh_term.proofs.Sound.{operation_sound}
 use Rattle.lh_emit_def.specs.Needs.{pair_of}
-use Rattle.lh_emit_def.proofs.Computing.{pair-constant}
+use Rattle.lh_emit_def.proofs.ComputedTerms.{pair-constant}
 
 within : (t : TypeTree) → is_none (array_fault 2 t) ≡ true → (is_data t ≡ true) × (depth_of t + 1 ≤ 16) × (2 * bit_count t ≤ 65536)
 within t h = at (is_data t) (nat_lt 16 (depth_of t + 1)) (nat_lt 65536 (2 * bit_count t)) refl refl refl

@@ -10,7 +10,7 @@ use Rattle.lh_emit_def.specs.Emitted.{PartStep, Source, source_of, Emitted, give
 use Rattle.lh_emit_def.specs.Entities.{comb, edge, once, emit_probes, drive_fits, row_fits}
 use Rattle.lh_emit_def.specs.Ways.{IsReached, WaitIsGiven, DriveIsGiven, RowIsGiven}
 use Rattle.lh_emit_def.specs.Laws.{IsEmitted, CombIsEntity, EdgeIsEntity, OnceIsEntity}
-use Rattle.lh_emit_def.proofs.Emitting.{DriveHas, KeepsRows, drives-kept, probes-kept, rows-kept}
+use Rattle.lh_emit_def.proofs.KeptByRows.{DriveHas, KeepsRows, drives-kept, probes-kept, rows-kept}
 use Rattle.lh_emit_def.proofs.Whole.{within, given-rows}
 
 abbrev pub AllEmitted : List LineText → Type 0

@@ -10,7 +10,7 @@ use Rattle.lh_types.specs.declared.op.Op.TheVariants.{Mux, Array, Tuple}
 use Rattle.lh_term.specs.Tree.{Tree, TreeRow, constant, operation, choice_of, no_trees, more_trees, operation_on}
 use Rattle.lh_term.specs.Types.{FitsTerm, IsValueType, IsTyped, TakesTypes, type_of, types_of, value_type, first_type, value_types, first_of, row_result}
 use Rattle.lh_term.specs.Laws.{MeansSame}
-use Rattle.lh_term.proofs.Typing.{value_is, value_typed}
+use Rattle.lh_term.proofs.TermTypes.{value_is, value_typed}
 use Rattle.lh_term.proofs.Sound.{operation_sound}
 use Rattle.lh_emit_def.specs.Needs.{constants, operands_in, pair_of, types_of_all}
 use Rattle.lh_emit_def.proofs.Pairs.{pair-typed, array-data}

@@ -9,10 +9,10 @@ use Rattle.lh_unit.proofs.ById.{line_giving-later}
 use Rattle.lh_term.specs.declared.part.Part.{Part}
 use Rattle.lh_emit_def.specs.Names.{value_name}
 use Rattle.lh_emit_def.specs.Emitted.{Emitted, puts, nothing_emitted}
-use Rattle.lh_emit_def.proofs.Passing.{Frame, HasFewArgs, source, begins-before}
-use Rattle.lh_emit_def.proofs.Beginning.{ArgsFit, begins}
-use Rattle.lh_emit_def.proofs.Sensing.{first, static, Senses, Probes, probes-kept, static-then, probed-then}
-use Rattle.lh_emit_def.proofs.Emitting.{KeepsRows}
+use Rattle.lh_emit_def.proofs.PassState.{Frame, HasFewArgs, source, begins-before}
+use Rattle.lh_emit_def.proofs.FirstHeld.{ArgsFit, begins}
+use Rattle.lh_emit_def.proofs.SensedParts.{first, static, Senses, Probes, probes-kept, static-then, probed-then}
+use Rattle.lh_emit_def.proofs.KeptByRows.{KeepsRows}
 
 module _ (f : Frame) (few : HasFewArgs f.unit) (Good : Part → Type 0) where
   -- an instruction that gives nothing and probes nothing

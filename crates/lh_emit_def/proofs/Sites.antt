@@ -23,10 +23,10 @@ use Rattle.lh_emit_def.specs.Entities.{entity_with, comb, edge, once, emit_probe
 use Rattle.lh_emit_def.specs.Ways.{IsReached}
 use Rattle.lh_emit_def.specs.Laws.{IsEmitted, IsRightEntity, CombIsRight, EdgeIsRight, OnceIsRight}
 use Rattle.lh_emit_def.proofs.Arguments.{AreApart, are-apart, argument-named, defines-there}
-use Rattle.lh_emit_def.proofs.Passing.{Frame, HasFewArgs, source, Begins}
+use Rattle.lh_emit_def.proofs.PassState.{Frame, HasFewArgs, source, Begins}
 use Rattle.lh_emit_def.proofs.Typed.{Named, UseRight, IsRight, AllRight}
 use Rattle.lh_emit_def.proofs.Faultless.{NoFault, no-fault_kept}
-use Rattle.lh_emit_def.proofs.Emitting.{drives-kept, probes-kept, rows-kept}
+use Rattle.lh_emit_def.proofs.KeptByRows.{drives-kept, probes-kept, rows-kept}
 use Rattle.lh_emit_def.proofs.Whole.{IsWithin, within, given-rows}
 use Rattle.lh_emit_def.proofs.Plain.{given-drives, given-waits, comb-lines, edge-lines, once-lines}
 

@@ -15,7 +15,7 @@ use Rattle.lh_unit.specs.Within.{Each}
 use Rattle.lh_term.specs.Tree.{Tree, TreeRow, constant, past_of, now_of, operation, choice_of, no_trees, more_trees, operation_on}
 use Rattle.lh_term.specs.Types.{IsTyped, AreTyped, type_of, types_of}
 use Rattle.lh_term.specs.Make.{is_bit, is_constant, value_in}
-use Rattle.lh_term.proofs.Typing.{gives_is}
+use Rattle.lh_term.proofs.TermTypes.{gives_is}
 use Rattle.lh_term.specs.declared.part.Part.{Part}
 use Rattle.lh_emit_def.specs.Given.{Drive, TriggerTree, EdgeRowTree}
 use Rattle.lh_emit_def.specs.Emitted.{PartStep, Source, Emitted, gives, next_name, takes_steps, typed, signal, arg_name, unless_there, need_part}
@@ -23,7 +23,7 @@ use Rattle.lh_emit_def.specs.Needs.{gives_operation, need_value, need_values, ne
 use Rattle.lh_emit_def.specs.Entities.{need_cond, emit_drive, emit_drives, emit_probes, need_trigger, trigger_text, need_register, emit_register_by, emit_register, choices_fit, drive_fits, row_fits}
 use Rattle.lh_emit_def.specs.Ways.{WaitIsGiven, DriveIsGiven, TriggerIsGiven, RowIsGiven}
 use Rattle.lh_emit_def.specs.Printed.{IsWritable, DelayIsWritable, DriveIsWritable, RowIsWritable}
-use Rattle.lh_emit_def.proofs.Spelling.{each-append}
+use Rattle.lh_emit_def.proofs.InstructionSpelling.{each-append}
 
 -- a time can be written, and a register has triggers
 abbrev pub TimeFits : InstText → Type 0

@@ -16,13 +16,13 @@ use Rattle.lh_text_laws.specs.Printable.{results_repeat}
 use Rattle.lh_text_laws.proofs.Printed.{results-push}
 use Rattle.lh_term.specs.Tree.{Tree}
 use Rattle.lh_term.specs.Types.{TakesTypes, type_of}
-use Rattle.lh_term.proofs.Typing.{gives_is}
+use Rattle.lh_term.proofs.TermTypes.{gives_is}
 use Rattle.lh_term.specs.declared.part.Part.{Part}
 use Rattle.lh_emit_def.specs.Names.{value_name, free_number}
 use Rattle.lh_emit_def.specs.Emitted.{Emitted, gives, next_name, term_name, bare}
 use Rattle.lh_emit_def.specs.Needs.{types_of_all, each_typed, first_typed, operation_text}
-use Rattle.lh_emit_def.proofs.Naming.{names_differ, free_from-within}
-use Rattle.lh_emit_def.proofs.Passing.{Frame, HasFewArgs, source, Begins, MayName, next-may, new-type}
+use Rattle.lh_emit_def.proofs.ValueNames.{names_differ, free_from-within}
+use Rattle.lh_emit_def.proofs.PassState.{Frame, HasFewArgs, source, Begins, MayName, next-may, new-type}
 use Rattle.lh_verify_laws.proofs.ValuesLaw.{arg_none}
 
 -- a value of this type is there

@@ -24,13 +24,13 @@ use Rattle.lh_region_def.specs.Rows.{DriveReads}
 use Rattle.lh_region_def.specs.Typed.{Among}
 use Rattle.lh_emit_def.specs.Laws.{Passes, CombPasses, CombSenses, OncePasses, OnceSenses, EdgePasses, row_parts, EdgeSenses}
 use Rattle.lh_emit_def.proofs.Induction.{IsNamed, Kept}
-use Rattle.lh_emit_def.proofs.Passing.{Frame, HasFewArgs, after, Begins, Inv}
-use Rattle.lh_emit_def.proofs.Beginning.{ArgsFit, begins}
-use Rattle.lh_emit_def.proofs.Driving.{drives-emitted, probes-emitted}
-use Rattle.lh_emit_def.proofs.Registering.{TriggerNamed}
-use Rattle.lh_emit_def.proofs.Remembering.{rows-emitted, rows-first, rows-seen}
-use Rattle.lh_emit_def.proofs.Sensing.{static, Probes}
-use Rattle.lh_emit_def.proofs.Emitting.{DriveHas, TriggerHas, RowHas, drives-kept, probes-kept, rows-kept}
+use Rattle.lh_emit_def.proofs.PassState.{Frame, HasFewArgs, after, Begins, Inv}
+use Rattle.lh_emit_def.proofs.FirstHeld.{ArgsFit, begins}
+use Rattle.lh_emit_def.proofs.DrivePasses.{drives-emitted, probes-emitted}
+use Rattle.lh_emit_def.proofs.RegisterPasses.{TriggerNamed}
+use Rattle.lh_emit_def.proofs.RememberedTriggers.{rows-emitted, rows-first, rows-seen}
+use Rattle.lh_emit_def.proofs.SensedParts.{static, Probes}
+use Rattle.lh_emit_def.proofs.KeptByRows.{DriveHas, TriggerHas, RowHas, drives-kept, probes-kept, rows-kept}
 use Rattle.lh_emit_def.proofs.Sensed.{rows-probe, none-probed}
 use Rattle.lh_eval_laws.proofs.FindingElab.{parts-of-none}
 

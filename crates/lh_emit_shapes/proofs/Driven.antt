@@ -29,10 +29,10 @@ use Rattle.lh_emit_source.specs.declared.origin.Origin.{Origin}
 use Rattle.lh_emit.specs.declared.emitter.Emitter.{Emitter}
 use Rattle.lh_emit_body.specs.declared.lines.EmitFault.{EmitFault}
 use Rattle.lh_emit_body.specs.declared.lines.EmitFault.TheVariants as fault
-use Rattle.lh_emit_shapes.proofs.Extending.{Extends, extends-then, puts-extends, need-extends, cond-extends, part-extends}
+use Rattle.lh_emit_shapes.proofs.EntityGrowth.{Extends, extends-then, puts-extends, need-extends, cond-extends, part-extends}
 use Rattle.lh_emit_shapes.proofs.Tells.{names-then, tells-needed, tells-on, cond-on, tells-tested, cond-text, cond-within}
-use Rattle.lh_emit_shapes.proofs.Growing.{drive-grown}
-use Rattle.lh_emit_shapes.proofs.Testing.{is-given, needed-at, not-needed-at, tested-at, not-tested-at}
+use Rattle.lh_emit_shapes.proofs.RowGrowth.{drive-grown}
+use Rattle.lh_emit_shapes.proofs.ConditionNeeds.{is-given, needed-at, not-needed-at, tested-at, not-tested-at}
 
 -- ---- one instruction too many
 

@@ -22,8 +22,8 @@ use Rattle.lh_emit_source.specs.declared.origin.Origin.{Origin}
 use Rattle.lh_emit.specs.declared.emitter.Emitter.{Emitter}
 use Rattle.lh_emit_body.specs.declared.lines.EmitFault.{EmitFault}
 use Rattle.lh_emit_body.specs.declared.lines.EmitFault.TheVariants as fault
-use Rattle.lh_emit_shapes.proofs.Extending.{drives-extends, probes-extends}
-use Rattle.lh_emit_shapes.proofs.Growing.{drives-grown}
+use Rattle.lh_emit_shapes.proofs.EntityGrowth.{drives-extends, probes-extends}
+use Rattle.lh_emit_shapes.proofs.RowGrowth.{drives-grown}
 
 -- ---- drives
 

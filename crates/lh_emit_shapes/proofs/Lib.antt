@@ -1,10 +1,10 @@
 pub mod Apart
 pub mod Driven
 pub mod Drives
-pub mod Extending
-pub mod Growing
+pub mod EntityGrowth
+pub mod RowGrowth
 pub mod Made
 pub mod Registers
 pub mod Tells
-pub mod Testing
+pub mod ConditionNeeds
 pub mod Triggered

@@ -33,8 +33,8 @@ use Rattle.lh_emit_body.specs.declared.lines.EmitFault.{EmitFault}
 use Rattle.lh_emit_body.specs.declared.lines.EmitFault.TheVariants as fault
 use Rattle.lh_emit_shapes.proofs.Apart.{names-differ}
 use Rattle.lh_emit_shapes.proofs.Driven.{as-long}
-use Rattle.lh_emit_shapes.proofs.Extending.{drives-extends}
-use Rattle.lh_emit_shapes.proofs.Growing.{drives-grown}
+use Rattle.lh_emit_shapes.proofs.EntityGrowth.{drives-extends}
+use Rattle.lh_emit_shapes.proofs.RowGrowth.{drives-grown}
 
 -- ---- limits
 

@@ -35,9 +35,9 @@ use Rattle.lh_emit_source.specs.declared.origin.Origin.{Origin}
 use Rattle.lh_emit.specs.declared.emitter.Emitter.{Emitter}
 use Rattle.lh_emit_body.specs.declared.lines.EmitFault.{EmitFault}
 use Rattle.lh_emit_body.specs.declared.lines.EmitFault.TheVariants as fault
-use Rattle.lh_emit_shapes.proofs.Extending.{trigger-extends, triggers-extends, part-extends, puts-extends, registers-extends}
+use Rattle.lh_emit_shapes.proofs.EntityGrowth.{trigger-extends, triggers-extends, part-extends, puts-extends, registers-extends}
 use Rattle.lh_emit_shapes.proofs.Tells.{triggers-on, triggers-more, triggers-text, triggers-within}
-use Rattle.lh_emit_shapes.proofs.Growing.{row-grown, rows-grown, triggers-grown}
+use Rattle.lh_emit_shapes.proofs.RowGrowth.{row-grown, rows-grown, triggers-grown}
 use Rattle.lh_emit_shapes.proofs.Driven.{one-too-many}
 
 -- ---- whether a row fits

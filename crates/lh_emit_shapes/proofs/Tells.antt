@@ -18,7 +18,7 @@ use Rattle.lh_emit_body.specs.Lines.{naming, values_alone, NamesGrow}
 use Rattle.lh_emit.specs.Emitting.{IsNeeded}
 use Rattle.lh_emit_shapes.specs.Putting.{IsTested, IsIdOfTerm, TellsCond, TellsSome, TellsTrigger, TellsTriggers}
 use Rattle.lh_emit.specs.declared.emitter.Emitter.{Emitter}
-use Rattle.lh_emit_shapes.proofs.Extending.{Extends, need-named}
+use Rattle.lh_emit_shapes.proofs.EntityGrowth.{Extends, need-named}
 
 pub names-then : (a b c : List (List ℕ)) → NamesGrow a b → NamesGrow b c → NamesGrow a c
 names-then a b c g h = (g.0 ++ h.0, h.1 ∙ ap (λ (l : List (List ℕ)). l ++ h.0) g.1 ∙ by a g.0 h.0)

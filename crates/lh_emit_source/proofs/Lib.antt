@@ -1,5 +1,5 @@
 pub mod WaysBack
-pub mod Keeping
+pub mod FirstSteps
 pub mod Along
 pub mod Named
 pub mod Routes

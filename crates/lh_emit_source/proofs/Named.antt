@@ -35,7 +35,7 @@ use Rattle.lh_emit_def.specs.Reached.{Reached, as_argument, stepped_by, further,
 use Rattle.lh_region_def.specs.Known.{argument_part}
 use Rattle.lh_region_def.proofs.Sites.{LineGood}
 use Rattle.lh_emit_def.specs.Ways.{inner, part_by_step}
-use Rattle.lh_emit_def.proofs.Reaching.{further-is}
+use Rattle.lh_emit_def.proofs.ReachedParts.{further-is}
 use Rattle.lh_emit_def.proofs.PartsLed.{part-led, Taken, taken}
 use Rattle.lh_emit_source.specs.Origins.{step_text}
 

@@ -43,12 +43,12 @@ use Rattle.lh_emit_def.specs.Emitted.{PartStep}
 use Rattle.lh_emit_def.specs.Reached.{Reached, as_argument, further, reached, steps_if, first_steps, steps_in}
 use Rattle.lh_region_def.specs.Known.{argument_part}
 use Rattle.lh_region_def.proofs.Sites.{LineGood}
-use Rattle.lh_emit_def.proofs.Reaching as Reaching
+use Rattle.lh_emit_def.proofs.ReachedParts as Reaching
 use Rattle.lh_emit_source.specs.declared.origin.Origin.{Origin}
 use Rattle.lh_emit_source.specs.declared.origin.RouteStep.{RouteStep}
 use Rattle.lh_emit_source.specs.Firsts.{is_the_part, first_result, key_of, kept_for, step_texts, texts_along, IsRouteTo}
 use Rattle.lh_emit_source.specs.Origins.{step_text, route_text, AreStepsOf, IsOrigin}
-use Rattle.lh_emit_source.proofs.Keeping.{results-values, first-some}
+use Rattle.lh_emit_source.proofs.FirstSteps.{results-values, first-some}
 use Rattle.lh_emit_source.proofs.Named.{Way, whole_way, with_step, extended, way_by, way_found, way_part, way-part, seen, seen-none, as_reached, giving-at, by_step, inst-given, line-reached, line-none, argument-alone}
 
 -- ---- arguments

@@ -10,7 +10,7 @@ use Rattle.lh_flat_parts.specs.declared.step.PartStep.{PartStep}
 use Rattle.lh_flat_parts.specs.declared.table.PartTable.{PartTable}
 use Rattle.lh_flat_parts.specs.Steps.{step_giving, insts_in, argument_of, stepped, part_by, part_found, HasSteps, step_at, part_at, IsPartTable}
 use Rattle.lh_flat_parts.specs.Resolving.{StepsLeadAlong}
-use Rattle.lh_flat_parts.proofs.Following.{StepsLeadAlong-push}
+use Rattle.lh_flat_parts.proofs.StepPaths.{StepsLeadAlong-push}
 use Rattle.lh_flat_parts.proofs.Resolved.{giving-within}
 use Rattle.lh_emit_source.specs.Firsts.{IsWayBack}
 use Rattle.lh_flat.specs.Below.{ValuesBelow}

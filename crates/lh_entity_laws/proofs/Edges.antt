@@ -20,7 +20,7 @@ use Rattle.lh_unit.specs.Hierarchy.{Instance}
 use Rattle.lh_unit.specs.Pass.{pass, probes}
 use Rattle.lh_unit.specs.World.{bit_numbers, bit_at, bit_differs, begun}
 use Rattle.lh_trace_laws.proofs.BitSets.{has, SameSet, IsWithin, bits_read, none_of, not_differ}
-use Rattle.lh_trace_laws.proofs.Standing.{fresh, waiting_at, EndsAt, sensed, EdgeFor}
+use Rattle.lh_trace_laws.proofs.StandsFor.{fresh, waiting_at, EndsAt, sensed, EdgeFor}
 use Rattle.lh_flat_laws.specs.Formed.{IsFormed}
 use Rattle.lh_flat_laws.specs.Activates.{EndsAlike}
 use Rattle.lh_flat.specs.Flat.{FlatBlockText, FlatText, flat_unit}
@@ -43,7 +43,7 @@ use Rattle.lh_region_def.specs.Ending.{StandsAs}
 use Rattle.lh_region_def.specs.Laws.{max_steps, EndsAs, WaitsAfter, ThenFirst}
 use Rattle.lh_region_def.specs.Right.{DriveTyped}
 use Rattle.lh_region_def.proofs.Among.{each-among}
-use Rattle.lh_region_def.proofs.Reading.{reads-fit}
+use Rattle.lh_region_def.proofs.PartReads.{reads-fit}
 use Rattle.lh_region_def.proofs.Second.{past-typed}
 use Rattle.lh_shape.specs.Reasons.{is_halt, is_wait, ends_halted, is_empty, in_some, is_timed, are_mixed, waits_for_head, parts_waited, second_drives}
 use Rattle.lh_shape.specs.Shapes.{edge_row}
@@ -54,14 +54,14 @@ use Rattle.lh_emit_def.specs.Laws.{SensesParts, RegistersPass, row_parts}
 use Rattle.lh_entity_laws.specs.Stands.{IsEnough}
 use Rattle.lh_region_laws.specs.Before.{RowsAreAlike, SecondRowsAreTyped}
 use Rattle.lh_entity_laws.proofs.Bits.{bits_of, covered-bits, there-bits, right-within, part-within}
-use Rattle.lh_entity_laws.proofs.Agreeing.{ZerosAreMissing, ZerosReadAlike, values-agree}
+use Rattle.lh_entity_laws.proofs.PartBits.{ZerosAreMissing, ZerosReadAlike, values-agree}
 use Rattle.lh_entity_laws.proofs.Shaped.{EdgeRegions, SecondWalk, second-walk}
-use Rattle.lh_entity_laws.proofs.Ending.{first-ends}
-use Rattle.lh_entity_laws.proofs.Waiting.{none-of, WaitsFor, AllWait, wait-all, head-is, free-ends}
-use Rattle.lh_entity_laws.proofs.Triggering.{EdgeDrive, registers-drive, rows-rest, triggers-covered, seen-same}
+use Rattle.lh_entity_laws.proofs.EndTargets.{first-ends}
+use Rattle.lh_entity_laws.proofs.WaitEnds.{none-of, WaitsFor, AllWait, wait-all, head-is, free-ends}
+use Rattle.lh_entity_laws.proofs.RegisterTriggers.{EdgeDrive, registers-drive, rows-rest, triggers-covered, seen-same}
 use Rattle.lh_entity_laws.proofs.Route.{seen, Follows, Pads, label_at, stood, process-stood, waits-alike, Ends, SecondEnds, first-acts, second-acts}
-use Rattle.lh_entity_laws.proofs.Halting.{one-region}
-use Rattle.lh_entity_laws.proofs.Sensing.{not-first, no-items}
+use Rattle.lh_entity_laws.proofs.OnceActivations.{one-region}
+use Rattle.lh_entity_laws.proofs.CombActivations.{not-first, no-items}
 
 -- what holds of no region does not hold of the second
 not-second : (test : Rows → Bool) (r : Regions) (s : Rows) → r.second ≡ Some s → in_some test r ≡ false → test s ≡ false

@@ -12,7 +12,7 @@ use Rattle.lh_unit.specs.Arena.{Arena, IsArena, unit_count, table_at, naming, un
 use Rattle.lh_unit.specs.Naming.{arg_text}
 use Rattle.lh_unit.specs.Table.{Table, ArgsWithin, IsTable}
 use Rattle.lh_unit.specs.declared.inst.Arg.{Arg}
-use Rattle.lh_unit.proofs.Giving.{same-argument}
+use Rattle.lh_unit.proofs.DefinitionsGive.{same-argument}
 use Rattle.lh_unit.specs.declared.inst.ValueDef.TheVariants as value_def
 
 -- no number stands at two places

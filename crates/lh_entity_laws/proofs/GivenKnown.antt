@@ -34,14 +34,14 @@ use Rattle.lh_region_def.specs.Places.{stepped, part_stepped, operated}
 use Rattle.lh_region_def.specs.Regions.{with_constant, with_constants}
 use Rattle.lh_region_def.proofs.Among.{in-each}
 use Rattle.lh_region_def.proofs.Heads.{arguments-case, argument-of}
-use Rattle.lh_region_def.proofs.Joining.{GiveEach, given-each, merged-of, value_on, cell_on, part_on, JoinCase, of_value, of_cell, of_part, join-case, known-by-value, known-by-cell, known-by-part, first-among}
+use Rattle.lh_region_def.proofs.JoinedKnowledge.{GiveEach, given-each, merged-of, value_on, cell_on, part_on, JoinCase, of_value, of_cell, of_part, join-case, known-by-value, known-by-cell, known-by-part, first-among}
 use Rattle.lh_region_def.proofs.Sites.{LineGood}
 use Rattle.lh_emit_def.specs.Emitted.{PartStep, source_of}
 use Rattle.lh_emit_def.specs.Reached as Emit
 use Rattle.lh_emit_def.specs.Reached.{Reached, stepped_by, further, steps_in, IsPartOf}
 use Rattle.lh_term.specs.Leaves.{AllParts}
 use Rattle.lh_emit_def.specs.Ways.{inner, part_by, WaitIsGiven}
-use Rattle.lh_emit_def.proofs.Reaching.{part-reached}
+use Rattle.lh_emit_def.proofs.ReachedParts.{part-reached}
 use Rattle.lh_emit_def.proofs.PartsLed.{part-led, Taken, taken}
 use Rattle.lh_region_def.proofs.PartsNamed.{no-argument}
 use Rattle.lh_entity_laws.proofs.GivenTrees.{In, AllIn, make-in, choice-in, conjuncts-in, conjunction-in, filter-in}

@@ -17,8 +17,8 @@ use Rattle.lh_term.specs.declared.part.Part.{Part}
 use Rattle.lh_edge.specs.Atoms.{contains_past, edge_part, is_one_bit, is_connective, subterms, subterms_in, presents, has, each_once, atoms_of}
 use Rattle.lh_edge.specs.Shown.{can_show, showing_parts}
 use Rattle.lh_edge.specs.Triggers.{TriggerTree, pasts_in, pasts_in_row, present_swaps, edge_swaps, gate_of, trigger_at, triggers_at, comes_first, with_part, in_order, triggers_of, AreWaited}
-use Rattle.lh_edge.proofs.Firing.{edge_are_swaps, edge_seconds}
-use Rattle.lh_edge.proofs.Resting.{waited_on}
+use Rattle.lh_edge.proofs.TriggersFire.{edge_are_swaps, edge_seconds}
+use Rattle.lh_edge.proofs.TriggersRest.{waited_on}
 use Rattle.lh_emit_def.specs.Emitted.{Source}
 use Rattle.lh_term.specs.Leaves.{AllParts, AllPartsIn}
 use Rattle.lh_emit_def.specs.Ways.{IsReached, TriggerIsGiven}

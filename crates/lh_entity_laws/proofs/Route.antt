@@ -13,7 +13,7 @@ use Rattle.lh_unit.specs.Within.{Each}
 use Rattle.lh_unit.specs.Activation as machine
 use Rattle.lh_unit.specs.Activation.{Scene, Stand, is_new, halted, ProcessState, Activated, activate}
 use Rattle.lh_eval_laws.specs.Ranges.{RangesFit, arg_types}
-use Rattle.lh_trace_laws.proofs.Standing.{waiting_at}
+use Rattle.lh_trace_laws.proofs.StandsFor.{waiting_at}
 use Rattle.lh_flat_laws.specs.Formed.{IsFormed}
 use Rattle.lh_flat_laws.specs.Activates.{flat_stand, StandsAlike, EndsAlike}
 use Rattle.lh_unit.specs.World.{begun}

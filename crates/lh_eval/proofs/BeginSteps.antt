@@ -21,7 +21,7 @@ use Rattle.lh_unit.proofs.ById.{result-within}
 use Rattle.lh_eval.specs.Holding.{Holds, MaybeIn, given}
 use Rattle.lh_unit.specs.Within.{Each}
 use Rattle.lh_eval.proofs.GivingText.{block-insts}
-use Rattle.lh_eval.proofs.Holding.{holds-more, holds-given, holds-nothing}
+use Rattle.lh_eval.proofs.HeldByIds.{holds-more, holds-given, holds-nothing}
 use Rattle.lh_eval.specs.Beginning.{args_given, signals_given, next_given}
 
 -- a result of the unit has a slot

@@ -43,7 +43,7 @@ use Rattle.lh_eval_laws.proofs.Begins.{nothing-fits}
 use Rattle.lh_eval_laws.proofs.NamedOnce.{IsFirst, each-first}
 use Rattle.lh_eval_laws.proofs.SoundLines.{lines-printed}
 use Rattle.lh_eval_laws.proofs.FitLaws.{of-unit, unit-is-sound, begins-fit}
-use Rattle.lh_eval_laws.proofs.Finding.{some-of, is-some, part-at}
+use Rattle.lh_eval_laws.proofs.OperandsFound.{some-of, is-some, part-at}
 use Rattle.lh_eval_laws.proofs.FindingPass.{EntityLines, EntityIn, entities-of-items, fit-lines, named_in, SigsHeld, parts-stay, args-held, sigs-held}
 use Rattle.lh_eval_laws.proofs.FindingStatic.{OfSignals, static-all-fits, signals-found}
 use Rattle.lh_eval_laws.proofs.FindingValues.{FreeValue, value-held, values-found}

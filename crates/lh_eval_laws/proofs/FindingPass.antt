@@ -46,7 +46,7 @@ use Rattle.lh_verify_laws.proofs.EachItem.{each-contained, each-split}
 use Rattle.lh_verify_laws.proofs.AtPlaces.{lines-from}
 use Rattle.lh_eval_laws.proofs.SoundLines.{lines-printed}
 use Rattle.lh_eval_laws.proofs.FitLaws.{triggers-hold, keeps-fit, of-unit, unit-is-sound, begins-fit}
-use Rattle.lh_eval_laws.proofs.Finding.{some-of, is-some, carries-value, value-at, part-at, test-at, delay-at, delay-of, condition-at, operated-there}
+use Rattle.lh_eval_laws.proofs.OperandsFound.{some-of, is-some, carries-value, value-at, part-at, test-at, delay-at, delay-of, condition-at, operated-there}
 
 -- what is held stays held
 pub held-stays : (e : Env) (m n : List ℕ) (h : Held) → IsSome (e n) → IsSome (with_held e m h n)

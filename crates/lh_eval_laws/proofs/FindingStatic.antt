@@ -31,7 +31,7 @@ use Rattle.lh_eval.specs.Sound.{IsWrittenRight, InstIsSound}
 use Rattle.lh_eval.proofs.GivesFit.{constants-fit, operations-fit, probes-fit, held-still-fits}
 use Rattle.lh_eval_laws.specs.Finding.{FindsInPass}
 use Rattle.lh_eval_laws.proofs.FitLaws.{keeps-fit}
-use Rattle.lh_eval_laws.proofs.Finding.{some-of, as-signal, or-else-second, part-at}
+use Rattle.lh_eval_laws.proofs.OperandsFound.{some-of, as-signal, or-else-second, part-at}
 use Rattle.lh_eval_laws.proofs.FindingPass.{KnownNames, known_after, NamesKnown, IsFitLine, SigHeld, SigsHeld, given-stays, given-held, sigs-more, finds-one, passes-stay, unnamed, next-held}
 
 -- the name of a result

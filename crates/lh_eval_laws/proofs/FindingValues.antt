@@ -34,7 +34,7 @@ use Rattle.lh_eval.proofs.ValuesFit.{datum-held}
 use Rattle.lh_eval_laws.specs.Finding.{FindsInPass}
 use Rattle.lh_eval_laws.proofs.NamedOnce.{IsFirst, giving-lines}
 use Rattle.lh_eval_laws.proofs.FitLaws.{keeps-fit}
-use Rattle.lh_eval_laws.proofs.Finding.{some-of, is-some}
+use Rattle.lh_eval_laws.proofs.OperandsFound.{some-of, is-some}
 use Rattle.lh_eval_laws.proofs.FindingPass.{KnownNames, known_after, NamesKnown, IsFitLine, SigsHeld, given-stays, given-held, sigs-more, finds-one, passes-stay, unnamed, next-held}
 use Rattle.lh_eval_laws.proofs.FindingStatic.{result-is, after, static_after, static-line-fits, static-stays}
 

@@ -4,7 +4,7 @@ pub mod SoundLines
 pub mod Begins
 pub mod FitLaws
 pub mod SlotsFit
-pub mod Finding
+pub mod OperandsFound
 pub mod FindingPass
 pub mod FindingStatic
 pub mod FindingValues

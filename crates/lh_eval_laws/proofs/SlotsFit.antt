@@ -19,7 +19,7 @@ use Rattle.lh_verify_laws.specs.Operands.{RowIs, IsOf}
 use Rattle.lh_eval.specs.Holding.{Holds, slot_at, datum_in, part_in}
 use Rattle.lh_eval.specs.Fitting.{IsValueType, FitsHeld, Fits, PartFits, OperandsFit, ProbeFits, DriveFits}
 use Rattle.lh_eval.specs.Sound.{HasOperands}
-use Rattle.lh_eval.proofs.Holding.{same-held}
+use Rattle.lh_eval.proofs.HeldByIds.{same-held}
 use Rattle.lh_eval.proofs.ValuesFit.{datum-held, fits-row}
 use Rattle.lh_eval.proofs.GivesFit.{part-held}
 use Rattle.lh_eval_laws.specs.Operands.{OperationsHave, ProbesHave, DrivesHave}

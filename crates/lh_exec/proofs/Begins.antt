@@ -21,9 +21,9 @@ use Rattle.lh_eval.specs.Beginning.{args_given}
 use Rattle.lh_eval.specs.WishOf.{writes_wish}
 use Rattle.lh_eval.specs.Grouped.{IsGrouped}
 use Rattle.lh_eval.specs.Wishing.{WishWithin}
-use Rattle.lh_eval.proofs.Holding.{holds-nothing}
+use Rattle.lh_eval.proofs.HeldByIds.{holds-nothing}
 use Rattle.lh_eval.proofs.BeginSteps.{args-held}
-use Rattle.lh_eval.proofs.Wishing.{writes-within}
+use Rattle.lh_eval.proofs.DriveWishes.{writes-within}
 use Rattle.lh_eval_laws.specs.Ranges.{RangesFit, arg_types}
 use Rattle.lh_verify_laws.proofs.EachItem.{each-split}
 use Rattle.lh_eval_laws.proofs.FitLaws.{process-begins}

@@ -12,7 +12,7 @@ use Rattle.lh_unit.specs.declared.inst.Arg.{Arg}
 use Rattle.lh_unit.specs.declared.inst.Typed.{Typed}
 use Rattle.lh_unit.specs.Within.{Each}
 use Rattle.lh_eval.specs.Holding.{Holds, data_in}
-use Rattle.lh_eval.proofs.Holding.{same-held, holds-more, holds-nothing}
+use Rattle.lh_eval.proofs.HeldByIds.{same-held, holds-more, holds-nothing}
 use Rattle.lh_exec.specs.declared.machine.UnitFrame.{UnitFrame}
 use Rattle.lh_exec.specs.Standing.{MaybeFrame}
 use Rattle.lh_exec.specs.Taking.{data_given, operands_given}

@@ -21,7 +21,7 @@ use Rattle.lh_unit.specs.declared.inst.Inst.TheVariants as inst
 use Rattle.lh_unit.proofs.ById.{same_label-by_id, block_of-by_id, result-within, is_block-index}
 use Rattle.lh_unit.proofs.ModuleLaws.{block_insts-within}
 use Rattle.lh_eval.specs.Holding.{Holds, datum_in}
-use Rattle.lh_eval.proofs.Holding.{same-held, holds-more}
+use Rattle.lh_eval.proofs.HeldByIds.{same-held, holds-more}
 use Rattle.lh_exec.specs.declared.machine.UnitFrame.{UnitFrame}
 use Rattle.lh_exec.specs.declared.machine.Machine.{Machine}
 use Rattle.lh_exec.specs.declared.machine.Flow.TheVariants as flow

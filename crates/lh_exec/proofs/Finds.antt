@@ -22,7 +22,7 @@ use Rattle.lh_verify_laws.specs.Calls.{ArgumentsAre, FunctionIsRight, AssertIsRi
 use Rattle.lh_verify_laws.specs.KindsOf.{HasTypeOfKind}
 use Rattle.lh_verify_laws.specs.Operands.{ReturnIs}
 use Rattle.lh_verify_laws.proofs.EachItem.{each-split}
-use Rattle.lh_eval_laws.proofs.Finding.{some-of, is-some, value-at, test-at}
+use Rattle.lh_eval_laws.proofs.OperandsFound.{some-of, is-some, value-at, test-at}
 use Rattle.lh_eval_laws.proofs.FindingPass.{AllHeld, finds-one}
 use Rattle.lh_verify_laws.specs.Defined.{IsThere}
 use Rattle.lh_verify_laws.proofs.AtPlaces.{place-at}

@@ -23,11 +23,11 @@ use Rattle.lh_eval.specs.ResultsFit.{GivenFits}
 use Rattle.lh_eval.specs.Wishing.{WishWithin}
 use Rattle.lh_eval.proofs.ValuesFit.{datum-held}
 use Rattle.lh_eval.proofs.GivesFit.{constants-fit, operations-fit, probes-fit, held-still-fits, cell-held}
-use Rattle.lh_eval.proofs.Wishing.{driven-within}
+use Rattle.lh_eval.proofs.DriveWishes.{driven-within}
 use Rattle.lh_eval_laws.specs.Units.{HasItsType}
 use Rattle.lh_verify_laws.proofs.EachItem.{each-split, edge-is}
 use Rattle.lh_exec.specs.Sound.{LineRight, UnitRight, FunctionsRight, ControlFits, GivesResult, ResultFits, CallersFit, lowest, PointFits, StandFits, DoneFits}
-use Rattle.lh_exec.proofs.Waiting.{waiting-fits}
+use Rattle.lh_exec.proofs.WaitTargets.{waiting-fits}
 
 -- what an instruction of the unit v leads to fits; an activation ends in the unit in which it began
 abbrev pub NextFits : List ItemText → (width : ℕ) → Instant → (began at : UnitText) → Next → Type 0

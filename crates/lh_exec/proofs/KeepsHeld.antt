@@ -22,7 +22,7 @@ use Rattle.lh_verify_laws.specs.Calls.{FunctionIsRight, AssertIsRight}
 use Rattle.lh_verify_laws.specs.Operands.{ReturnIs}
 use Rattle.lh_verify_laws.specs.Defined.{IsThere}
 use Rattle.lh_verify_laws.proofs.There.{first-name, second-name}
-use Rattle.lh_eval_laws.proofs.Finding.{some-of}
+use Rattle.lh_eval_laws.proofs.OperandsFound.{some-of}
 use Rattle.lh_eval_laws.proofs.FindingStatic.{result-is}
 use Rattle.lh_eval_laws.proofs.FindingPass.{held-stays, result-stays, named-held}
 use Rattle.lh_exec.specs.States.{WaitsIn}

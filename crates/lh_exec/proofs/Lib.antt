@@ -1,5 +1,5 @@
 pub mod Heads
-pub mod Waiting
+pub mod WaitTargets
 pub mod KeepsFit
 pub mod Steps
 pub mod Edges
@@ -12,9 +12,9 @@ pub mod KeepsHeld
 pub mod Reached
 pub mod BeginsHeld
 pub mod Begins
-pub mod Running
+pub mod RunSteps
 pub mod Lists
-pub mod Passing
+pub mod NextInstructions
 pub mod Operands
 pub mod CallSteps
 pub mod WaitSteps

@@ -28,7 +28,7 @@ use Rattle.lh_eval.specs.Fitting.{Fits}
 use Rattle.lh_verify_laws.proofs.EachItem.{each-split}
 use Rattle.lh_verify_laws.proofs.AtPlaces.{place-at}
 use Rattle.lh_verify_laws.proofs.There.{there-before, there-after, last-leads}
-use Rattle.lh_eval_laws.proofs.Finding.{value-at}
+use Rattle.lh_eval_laws.proofs.OperandsFound.{value-at}
 use Rattle.lh_eval_laws.proofs.FindingStatic.{result-is}
 use Rattle.lh_eval_laws.proofs.FindingPass.{result-stays, args-stay, named-held}
 use Rattle.lh_exec.specs.States.{HoldsThere}

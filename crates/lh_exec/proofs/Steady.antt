@@ -29,7 +29,7 @@ use Rattle.lh_eval.specs.Fitting.{IsValueType, FitsHeld, Fits}
 use Rattle.lh_verify_laws.proofs.EachItem.{each-split}
 use Rattle.lh_verify_laws.proofs.AtPlaces.{place-at}
 use Rattle.lh_verify_laws.proofs.There.{there-before}
-use Rattle.lh_eval_laws.proofs.Finding.{some-of, carries-value, part-at, delay-at}
+use Rattle.lh_eval_laws.proofs.OperandsFound.{some-of, carries-value, part-at, delay-at}
 use Rattle.lh_eval_laws.proofs.FindingPass.{AllHeld, named_in}
 use Rattle.lh_exec.specs.Sound.{LineRight, FunctionsRight, PointFits, IsLabel, StandHolds}
 use Rattle.lh_exec.proofs.Heads.{signal-used}

@@ -12,7 +12,7 @@ use Rattle.lh_unit.specs.Naming.{value_text, maybe_text, operand_text}
 use Rattle.lh_unit.specs.declared.inst.ValueId.{ValueId}
 use Rattle.lh_unit.specs.declared.inst.Typed.{Typed}
 use Rattle.lh_eval.specs.Holding.{Holds, MaybeIn, given, datum_in, cell_in}
-use Rattle.lh_eval.proofs.Holding.{same-held, holds-given, holds-more}
+use Rattle.lh_eval.proofs.HeldByIds.{same-held, holds-given, holds-more}
 use Rattle.lh_exec.specs.declared.machine.UnitFrame.{UnitFrame}
 use Rattle.lh_exec.specs.declared.machine.Call.{Call}
 use Rattle.lh_exec.specs.declared.machine.Machine.{Machine}

@@ -12,7 +12,7 @@ use Rattle.lh_unit.specs.Within.{Each}
 use Rattle.lh_unit.specs.declared.inst.BlockId.{BlockId}
 use Rattle.lh_unit.specs.declared.inst.ValueId.{ValueId}
 use Rattle.lh_eval.specs.Holding.{Holds, MaybeIn}
-use Rattle.lh_eval.proofs.Holding.{same-held}
+use Rattle.lh_eval.proofs.HeldByIds.{same-held}
 use Rattle.lh_exec.specs.declared.machine.Machine.{Machine}
 use Rattle.lh_exec.specs.declared.machine.Flow.TheVariants as flow
 use Rattle.lh_exec.specs.Standing.{MachineIs, InstLeads, parts_in, wake_in}

@@ -23,9 +23,9 @@ use Rattle.lh_flat.specs.Building.{line_of}
 use Rattle.lh_flat.specs.CopyNames.{own_names, call_names, insts_names, blocks_names, copy_names, IsCallable, InstIsRight, BlockIsRight, UnitsAreRight}
 use Rattle.lh_flat.specs.Marks.{UnitsAreNamed}
 use Rattle.lh_flat.proofs.Marks.{nothing_behind, longer-apart}
-use Rattle.lh_flat.proofs.Placing.{labels}
-use Rattle.lh_flat.proofs.Copying.{line_text_of, arg_names, opened-none, opened-some, block-named}
-use Rattle.lh_flat.proofs.Nesting.{block-in, copy_names-none, copy_names-next, is_block-head}
+use Rattle.lh_flat.proofs.NumberNames.{labels}
+use Rattle.lh_flat.proofs.BlockCopies.{line_text_of, arg_names, opened-none, opened-some, block-named}
+use Rattle.lh_flat.proofs.NestedCopies.{block-in, copy_names-none, copy_names-next, is_block-head}
 use Rattle.lh_flat.proofs.Apart.{Differs, Apart, differs-from, apart-append, plain-name, name-there, Begins, At, Under, UnderFrom, from-at, from-first, from-later, at-apart, begins-under, line-apart, plain-under, begins-more}
 
 -- no block stands twice

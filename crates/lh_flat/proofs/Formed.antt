@@ -28,9 +28,9 @@ use Rattle.lh_flat.specs.Graph.{callee_of}
 use Rattle.lh_flat.specs.Agrees.{IsBlockOf, IsCode}
 use Rattle.lh_flat.specs.Building.{line_of}
 use Rattle.lh_flat.specs.CopyNames.{IsCallable, InstIsRight, BlockIsRight, UnitsAreRight}
-use Rattle.lh_flat.proofs.Reading.{CalleeIn, callee-in}
-use Rattle.lh_flat.proofs.Calling.{LineNames, unit-lines, CallsFunction, call-right}
-use Rattle.lh_flat.proofs.Refusing.{callee-text}
+use Rattle.lh_flat.proofs.CallGraph.{CalleeIn, callee-in}
+use Rattle.lh_flat.proofs.CalledFunctions.{LineNames, unit-lines, CallsFunction, call-right}
+use Rattle.lh_flat.proofs.RefusalLaws.{callee-text}
 
 -- the instruction may stand in a unit of this kind
 abbrev LineAllowed : List ItemText → UnitText → LineText → Type 0

@@ -13,9 +13,9 @@ use Rattle.lh_flat.specs.Copies.{Copy, call_path, opened}
 use Rattle.lh_flat.specs.Flat.{FlatBlockText, Pieces, merge_of, with_line, pieces_from, flat_block, flat_copy}
 use Rattle.lh_flat.specs.Lengths.{called_length}
 use Rattle.lh_flat.specs.Graph.{max_counted, node_at, callees_at}
-use Rattle.lh_flat.proofs.Measuring.{blocks_in}
+use Rattle.lh_flat.proofs.MeasureSums.{blocks_in}
 use Rattle.lh_flat.proofs.Lengths.{opened_length, callee-length}
-use Rattle.lh_flat.proofs.Counting.{StandsFor, capped-named, sum-apart}
+use Rattle.lh_flat.proofs.CallCounts.{StandsFor, capped-named, sum-apart}
 use Rattle.lh_verify_laws.proofs.Capped.{both_capped}
 
 -- one more block for each call, and those of the copies

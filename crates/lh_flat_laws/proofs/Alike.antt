@@ -17,8 +17,8 @@ use Rattle.lh_flat.specs.Copies.{Copy, top_copy, call_path, opened, first_piece,
 use Rattle.lh_flat.specs.Flat.{FlatBlockText, with_line, pieces_from, flat_copy, flat_unit}
 use Rattle.lh_flat.specs.Marks.{marks, IsPlain}
 use Rattle.lh_flat_laws.specs.Tidy.{Either, EdgesArePlain, ResultIsNew, LineTidy, BlockTidy, UnitTidy, FunctionsTidy, NoPhis, PhisFirst}
-use Rattle.lh_flat_laws.proofs.Finding.{IsLabelled, UnitLabelled, AllLabelled, opens-is, opens-path, BlocksAreFound}
-use Rattle.lh_flat_laws.proofs.Holding.{CopyFits, Holds, Holds-put, Holds-below, Below, Below-put, Below-same, Below-then, keeps-datum}
+use Rattle.lh_flat_laws.proofs.BlocksFound.{IsLabelled, UnitLabelled, AllLabelled, opens-is, opens-path, BlocksAreFound}
+use Rattle.lh_flat_laws.proofs.HeldValues.{CopyFits, Holds, Holds-put, Holds-below, Below, Below-put, Below-same, Below-then, keeps-datum}
 use Rattle.lh_flat_laws.proofs.LastPieces.{block-each, edge-copied}
 use Rattle.lh_flat_laws.proofs.TopTypes.{path-marks}
 use Rattle.lh_flat_laws.proofs.Facts.{label-found}

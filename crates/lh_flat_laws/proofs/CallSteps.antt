@@ -16,12 +16,12 @@ use Rattle.lh_flat.specs.Flat.{first_label, branch_into, with_line, pieces_from,
 use Rattle.lh_flat.specs.Marks.{marks}
 use Rattle.lh_flat_laws.specs.Tidy.{BlockTidy, UnitTidy, FunctionsTidy, NoPhis, EntryHasNoPhi}
 use Rattle.lh_flat.proofs.Marks.{is_same}
-use Rattle.lh_flat_laws.proofs.Finding.{Opens, opens-is, IsLabelled, call-stands}
-use Rattle.lh_flat_laws.proofs.Holding.{CopyFits, Holds, name-marks, Given, begins-given, low-name}
+use Rattle.lh_flat_laws.proofs.BlocksFound.{Opens, opens-is, IsLabelled, call-stands}
+use Rattle.lh_flat_laws.proofs.HeldValues.{CopyFits, Holds, name-marks, Given, begins-given, low-name}
 use Rattle.lh_flat_laws.proofs.LastPieces.{none-called}
 use Rattle.lh_flat_laws.proofs.TopTypes.{path-marks, opens-own}
 use Rattle.lh_flat_laws.proofs.Alike.{tidy-labelled, functions-labelled, flat, all, InPlace, Callers, Alike, label-plain, no_phis-taken, no_phis-copied}
-use Rattle.lh_flat_laws.proofs.Entering.{Follows, first-block, first-runs, past}
+use Rattle.lh_flat_laws.proofs.CopyPoints.{Follows, first-block, first-runs, past}
 use Rattle.lh_flat_laws.proofs.Facts.{label-found}
 use Rattle.lh_eval.proofs.ValuesFit.{datum-held}
 

@@ -9,9 +9,9 @@ use Rattle.lh_flat.specs.Flat.{FlatBlockText, as_block}
 use Rattle.lh_flat.specs.Marks.{IsPlain}
 use Rattle.lh_flat.proofs.Marks.{path-apart, not_same}
 use Rattle.lh_flat.proofs.Apart.{Differs, Apart}
-use Rattle.lh_flat.proofs.Placing.{labels}
+use Rattle.lh_flat.proofs.NumberNames.{labels}
 use Rattle.lh_flat_laws.proofs.Cuts.{Among, among-parts}
-use Rattle.lh_flat_laws.proofs.Finding.{Piece}
+use Rattle.lh_flat_laws.proofs.BlocksFound.{Piece}
 use Rattle.lh_flat_laws.proofs.LastPieces.{last_piece-is}
 
 other-label : (x : List ℕ) (bs : List FlatBlockText) (y : FlatBlockText) → Differs x (labels bs) → Among bs y → x ≡ y.label → ⊥

@@ -23,7 +23,7 @@ use Rattle.lh_flat.specs.Flat.{edge_if_given, given_in, given_by}
 use Rattle.lh_flat.specs.Marks.{IsPlain}
 use Rattle.lh_flat_laws.specs.Tidy.{Either, NoPhis, PhisFirst}
 use Rattle.lh_flat.proofs.Marks.{not_same, is_same, Names, one, two, names, nothing_behind, mark_behind, path-apart}
-use Rattle.lh_flat_laws.proofs.Finding.{Piece, IsLabelled, opens-is, opens-path}
+use Rattle.lh_flat_laws.proofs.BlocksFound.{Piece, IsLabelled, opens-is, opens-path}
 use Rattle.lh_flat_laws.proofs.Facts.{label-found}
 
 -- ---- lines and blocks of a unit

@@ -8,29 +8,29 @@ mod Splits
 mod There
 mod Phis
 pub mod Facts
-mod Opening
-pub mod Copying
+mod OpenedCalls
+pub mod CopyPaths
 mod Control
-mod Typing
+mod FlatTypes
 mod Soundness
 mod Predecessors
 mod OperandKinds
 mod Labels
-mod Ending
-mod Leading
-pub mod Forming
+mod BlockEnds
+mod LineTargets
+pub mod FlatForm
 mod Results
 mod ResultTypes
 pub mod WellFormedResults
-mod Finding
-mod Holding
+mod BlocksFound
+mod HeldValues
 mod LastPieces
 mod TopTypes
 mod Alike
-mod Entering
-mod Executing
+mod CopyPoints
+mod CopiedSteps
 mod CallSteps
 mod ReturnSteps
-pub mod Activating
-pub mod Tidying
+pub mod FlatActivations
+pub mod TidyUnits
 mod ActivationRows

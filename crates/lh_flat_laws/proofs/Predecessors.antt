@@ -15,7 +15,7 @@ use Rattle.lh_flat.specs.Flat.{MergeText, given_in, given_by, edge_if_given, fir
 use Rattle.lh_flat_laws.proofs.Cuts.{Among, among-left, among-right, among-flat, Cut, cut, behind, lines-cut}
 use Rattle.lh_flat_laws.proofs.CopyPieces.{CopyPiece, next_cut, next_lines, first_copy_piece, after_copy_piece, CopyPieceOf, begins, goes_on, Nested, outermost, called, flat_copy_piece}
 use Rattle.lh_flat_laws.proofs.Splits.{LineOf, is_merge, is_copied, is_branch, line-of}
-use Rattle.lh_flat_laws.proofs.Typing.{among-image}
+use Rattle.lh_flat_laws.proofs.FlatTypes.{among-image}
 use Rattle.lh_flat_laws.proofs.Paths.{IsGood, CallIsGood, Step, jumps, returns, enters, copy_piece-block, copy_piece-lines, nested-right, LeadsOn, into, within_unit, back_from, leads-on}
 use Rattle.lh_flat_laws.proofs.Phis.{own-last, phi-of, PhisAreGood, no-branch, nothing-is, merge-edges}
 

@@ -28,8 +28,8 @@ use Rattle.lh_text_laws.specs.Printable.{HasInstLine}
 use Rattle.lh_flat.specs.Copies.{Copy, call_path, opened, copied, copied_line}
 use Rattle.lh_flat.specs.Flat.{MergeText, FlatBlockText, Pieces, merge_of, with_line, pieces_from, with_merge, flat_block, flat_copy, as_block}
 use Rattle.lh_flat_laws.proofs.SoundCopies.{IsCode, result-copied}
-use Rattle.lh_flat_laws.proofs.Finding.{opens-is, Opens}
-use Rattle.lh_eval_laws.proofs.Finding.{is-some}
+use Rattle.lh_flat_laws.proofs.BlocksFound.{opens-is, Opens}
+use Rattle.lh_eval_laws.proofs.OperandsFound.{is-some}
 
 -- ---- types within their limits
 

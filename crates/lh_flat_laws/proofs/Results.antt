@@ -19,8 +19,8 @@ use Rattle.lh_flat.proofs.Marks.{is_same, not_same}
 use Rattle.lh_flat.proofs.Apart.{Differs, Apart, differs-from, apart-append, Begins, UnderFrom, from-at, from-first, from-later, at-apart, begins-under, line-apart, plain-under, begins-more}
 use Rattle.lh_flat_laws.proofs.Cuts.{Among, among-left, among-right}
 use Rattle.lh_flat_laws.proofs.Facts.{each-among}
-use Rattle.lh_flat_laws.proofs.Holding.{other-name}
-use Rattle.lh_flat_laws.proofs.Finding.{opens-is, Opens}
+use Rattle.lh_flat_laws.proofs.HeldValues.{other-name}
+use Rattle.lh_flat_laws.proofs.BlocksFound.{opens-is, Opens}
 
 -- ---- the names of results
 

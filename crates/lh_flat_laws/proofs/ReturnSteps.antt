@@ -17,11 +17,11 @@ use Rattle.lh_flat.specs.Copies.{Copy, call_path, opened, first_piece, last_from
 use Rattle.lh_flat.specs.Flat.{merge_of, given_by, with_merge, with_line, pieces_from, flat_copy, as_block}
 use Rattle.lh_flat.specs.Marks.{marks}
 use Rattle.lh_flat_laws.specs.Tidy.{ResultIsNew, CallGives, AlwaysGives, LineTidy, BlockTidy, FunctionsTidy, NoPhis, PhisFirst}
-use Rattle.lh_flat_laws.proofs.Finding.{found-block, Opens, opens-is, next_of, next-found}
-use Rattle.lh_flat_laws.proofs.Holding.{Holds, Below-same, keeps-datum}
+use Rattle.lh_flat_laws.proofs.BlocksFound.{found-block, Opens, opens-is, next_of, next-found}
+use Rattle.lh_flat_laws.proofs.HeldValues.{Holds, Below-same, keeps-datum}
 use Rattle.lh_flat_laws.proofs.LastPieces.{each-middle, block-each, ends-last, no_phi-behind, edge-given}
 use Rattle.lh_flat_laws.proofs.Alike.{tidy-labelled, functions-labelled, GivesInBoth, gives-result, flat, all, Runs, CallAt, Callers, Alike, block-tidy, label-plain, callers-below, no_phis-taken, no_phis-copied}
-use Rattle.lh_flat_laws.proofs.Entering.{Follows, past, runs-past, runs-end}
+use Rattle.lh_flat_laws.proofs.CopyPoints.{Follows, past, runs-past, runs-end}
 use Rattle.lh_flat_laws.proofs.Facts.{label-found}
 
 module _ (s : Scene) (u : UnitText) (name : UnitName) (top : ℕ) (w : FunctionsTidy s.functions) where

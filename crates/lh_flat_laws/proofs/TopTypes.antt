@@ -14,8 +14,8 @@ use Rattle.lh_flat.specs.Flat.{FlatBlockText, Pieces, given_by, with_merge, merg
 use Rattle.lh_flat.specs.Marks.{marks, IsPlain}
 use Rattle.lh_flat_laws.specs.Tidy.{ResultIsNew, LineTidy, BlockTidy, UnitTidy, FunctionsTidy}
 use Rattle.lh_flat.proofs.Marks.{not_same, marks-append, marks-mark}
-use Rattle.lh_flat_laws.proofs.Finding.{Opens, opens-is, opens-path}
-use Rattle.lh_flat_laws.proofs.Holding.{other-name}
+use Rattle.lh_flat_laws.proofs.BlocksFound.{Opens, opens-is, opens-path}
+use Rattle.lh_flat_laws.proofs.HeldValues.{other-name}
 
 -- the path of a call has one more mark
 pub path-marks : (c : Copy) (label : List ℕ) (k : ℕ) → IsPlain label → marks (call_path c label k) ≡ suc (marks c.path)

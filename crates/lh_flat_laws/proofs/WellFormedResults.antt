@@ -26,8 +26,8 @@ use Rattle.lh_flat.proofs.Marks.{is_same}
 use Rattle.lh_flat_laws.specs.Tidy.{BlockTidy, ArgsOnce, UnitTidy}
 use Rattle.lh_flat_laws.proofs.Cuts.{Among}
 use Rattle.lh_flat_laws.proofs.Facts.{PlaceFacts, UnitFacts, is-code}
-use Rattle.lh_flat_laws.proofs.Copying.{function-facts, process-facts}
-use Rattle.lh_flat_laws.proofs.Tidying.{result-named, facts, process-tidy, functions-tidy}
+use Rattle.lh_flat_laws.proofs.CopyPaths.{function-facts, process-facts}
+use Rattle.lh_flat_laws.proofs.TidyUnits.{result-named, facts, process-tidy, functions-tidy}
 use Rattle.lh_flat_laws.proofs.Results.{named, results, IsNewIn, results-apart, IsOwn, labels_in, OwnNames, once}
 use Rattle.lh_flat_laws.proofs.ResultTypes.{IsTyped, IsTypedCode, line-typed, copies-typed}
 

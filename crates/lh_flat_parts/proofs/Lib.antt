@@ -1,3 +1,3 @@
 pub mod Tables
-pub mod Following
+pub mod StepPaths
 pub mod Resolved

@@ -28,10 +28,10 @@ use Rattle.lh_flat.proofs.Distinct.{unit-labels, copies-labels}
 use Rattle.lh_flat_laws.specs.Formed.{IsFormed}
 use Rattle.lh_flat_laws.proofs.Cuts.{Among}
 use Rattle.lh_flat_laws.proofs.Facts.{UnitFacts}
-use Rattle.lh_flat_laws.proofs.Copying.{copy-facts}
-use Rattle.lh_flat_laws.proofs.Activating.{flat-is}
-use Rattle.lh_flat_laws.proofs.Tidying.{facts, among-mapped, functions_are_tidy, processes_are_tidy}
-use Rattle.lh_flat_laws.proofs.Forming.{formed}
+use Rattle.lh_flat_laws.proofs.CopyPaths.{copy-facts}
+use Rattle.lh_flat_laws.proofs.FlatActivations.{flat-is}
+use Rattle.lh_flat_laws.proofs.TidyUnits.{facts, among-mapped, functions_are_tidy, processes_are_tidy}
+use Rattle.lh_flat_laws.proofs.FlatForm.{formed}
 use Rattle.lh_flat_laws.proofs.WellFormedResults.{results_once, results_typed}
 use Rattle.lh_flat_state_laws.specs.Formed.{FlatTextsAreFormed}
 

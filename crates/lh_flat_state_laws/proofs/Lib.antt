@@ -1,5 +1,5 @@
-mod Acting
-mod Ending
+mod FlatActivations
+mod ActivationEnds
 mod Formed
-mod Lasting
-mod Padding
+mod StateRelation
+mod ZeroPadding

@@ -22,7 +22,7 @@ use Rattle.lh_kernel_states.specs.declared.state.InstState.{InstState}
 use Rattle.lh_elab.specs.Probed.{probed_by}
 use Rattle.lh_kernel_states.specs.States.{StateIs, StateFits, parts_sensed}
 use Rattle.lh_kernel_states.specs.Runs.{ActIs}
-use Rattle.lh_kernel_states.proofs.Standing.{senses-alike, wakes-alike, unit-is_named}
+use Rattle.lh_kernel_states.proofs.InstanceStates.{senses-alike, wakes-alike, unit-is_named}
 use Rattle.lh_kernel.specs.declared.run.Activation.{Activation}
 use Rattle.lh_kernel.specs.States.{StatesStand, StatesFit}
 use Rattle.lh_kernel.specs.Woken.{awakes, awake_from}

@@ -4,7 +4,7 @@ use Rattle.lh_time.specs.declared.Instant.{Instant}
 use Rattle.lh_unit.specs.Within.{Each}
 use Rattle.lh_elab.specs.Answer.{InstanceIs}
 use Rattle.lh_kernel_wakes.specs.Rising.{IsRising}
-use Rattle.lh_kernel_states.proofs.Standing.{fitting-stand}
+use Rattle.lh_kernel_states.proofs.InstanceStates.{fitting-stand}
 use Rattle.lh_kernel.specs.States.{StatesFit}
 use Rattle.lh_kernel.specs.Ran.{AllRan}
 use Rattle.lh_kernel.specs.Moves.{AreFresh}
@@ -12,11 +12,11 @@ use Rattle.lh_kernel.specs.Phases.{HasLooked, IsPlanned, awake_in}
 use Rattle.lh_kernel.specs.declared.machine.SimState.{SimState}
 use Rattle.lh_kernel.specs.declared.plan.FramePlan.{FramePlan}
 use Rattle.lh_kernel.specs.declared.noted.Move.{Move}
-use Rattle.lh_kernel.proofs.Standing.{some_stand}
+use Rattle.lh_kernel.proofs.StateLaws.{some_stand}
 use Rattle.lh_kernel.proofs.Acts.{ran_instances, ran_rise}
 use Rattle.lh_kernel.proofs.Exact.{fresh_moves}
 use Rattle.lh_kernel.proofs.Wished.{instances_of}
-use Rattle.lh_kernel.proofs.Looking.{rises_awake}
+use Rattle.lh_kernel.proofs.LookedBits.{rises_awake}
 
 -- the numbers of those who did something rise
 pub plan_rises : (x : SimState) (t : Instant) (p : FramePlan) (width : ℕ) → Each (InstanceIs x.«module».now width) x.design.instances.items →

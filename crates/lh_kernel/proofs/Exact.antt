@@ -24,7 +24,7 @@ use Rattle.lh_kernel_changes.specs.Touched.{Touches, HasBit}
 use Rattle.lh_elab.specs.Probed.{probed_by, AreProbes}
 use Rattle.lh_kernel_states.specs.declared.state.InstState.{InstState}
 use Rattle.lh_kernel_states.specs.States.{parts_sensed, wake_kept}
-use Rattle.lh_kernel_states.proofs.Standing.{senses-within}
+use Rattle.lh_kernel_states.proofs.InstanceStates.{senses-within}
 use Rattle.lh_kernel.specs.declared.noted.Noted.{Noted}
 use Rattle.lh_kernel.specs.declared.noted.Move.{Move}
 use Rattle.lh_kernel.specs.declared.run.Activation.{Activation}

@@ -13,11 +13,11 @@ use Rattle.lh_unit.specs.World.{World, soonest_wake, instant_after, next_instant
 use Rattle.lh_unit.specs.Within.{Each}
 use Rattle.lh_queue.specs.Queued.{QueuedWish, OneDueAt, NoneDueBefore, IsLeastDue}
 use Rattle.lh_queue.specs.Holds.{HoldsFor, IsAfter, IsSoonestDue}
-use Rattle.lh_queue.proofs.Keeping.{sooner_due}
+use Rattle.lh_queue.proofs.KeptWishes.{sooner_due}
 use Rattle.lh_kernel_wakes.specs.Waking.{IsNoted, IsSoonest}
 use Rattle.lh_kernel_states.specs.declared.state.InstState.{InstState}
 use Rattle.lh_kernel_states.specs.States.{wake_kept}
-use Rattle.lh_kernel_states.proofs.Standing.{wakes-alike}
+use Rattle.lh_kernel_states.proofs.InstanceStates.{wakes-alike}
 use Rattle.lh_kernel.specs.States.{WakesItself}
 use Rattle.lh_kernel.specs.Kept.{IsKept, IsWaiting, WakesAfter}
 use Rattle.lh_kernel.specs.Simulation.{StandsFor, simulation_of}

@@ -11,7 +11,7 @@ use Rattle.lh_kernel.specs.Kept.{IsKept}
 use Rattle.lh_kernel.specs.Simulation.{StandsFor, simulation_of}
 use Rattle.lh_kernel.specs.Phases.{ComesNext, awake_in, looked_at, woken_in, RisesWithin}
 use Rattle.lh_kernel.specs.declared.machine.SimState.{SimState}
-use Rattle.lh_kernel.proofs.Framing.{awake_are_woken}
+use Rattle.lh_kernel.proofs.FrameLaws.{awake_are_woken}
 
 pub raised_none : (n : ℕ) → n ≡ raised n 0
 raised_none n = omega arith

@@ -12,7 +12,7 @@ use Rattle.lh_eval.specs.declared.instance.Instance.{Instance}
 use Rattle.lh_queue.specs.Holds.{IsAfter}
 use Rattle.lh_kernel.specs.Ran.{ActOfOne}
 use Rattle.lh_kernel.specs.Kept.{IsWaiting}
-use Rattle.lh_kernel.proofs.Putting.{entries_put}
+use Rattle.lh_kernel.proofs.PutWishes.{entries_put}
 use Rattle.lh_kernel.proofs.Acts.{entries_ran}
 use Rattle.lh_kernel_wakes.specs.Rising.{AreAbove, IsRising}
 use Rattle.lh_kernel.specs.declared.run.Activation.{Activation}
@@ -21,7 +21,7 @@ use Rattle.lh_unit.proofs.Lists.{Each-append}
 use Rattle.lh_eval.specs.Grouped.{is_filled, IsBefore, IsAbove, BitsRise, IsGrouped}
 use Rattle.lh_queue.specs.declared.wish.Wish.{Wish}
 use Rattle.lh_queue.specs.Queued.{QueuedWish, NoneCompetes, NamesOnce, IsUnnamed, BitsWithin, due_later}
-use Rattle.lh_queue.proofs.Keeping.{different_apart}
+use Rattle.lh_queue.proofs.KeptWishes.{different_apart}
 use Rattle.lh_kernel.specs.Puts.{wishes_by, wishes_ran, AreApart, CanBePut}
 use Rattle.lh_trace_laws.proofs.Instants.{lt_self}
 

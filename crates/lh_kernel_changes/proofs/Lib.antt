@@ -1,5 +1,5 @@
 pub mod Filled
-pub mod Touching
+pub mod TouchedSignals
 pub mod Same
 pub mod Shows
 pub mod Undone

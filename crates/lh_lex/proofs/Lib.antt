@@ -1,5 +1,5 @@
 pub mod Classes
 pub mod Joined
-pub mod Taking
+pub mod TokenFronts
 pub mod ToBad
 mod Rows

@@ -7,7 +7,7 @@ use Rattle.lh_unit.specs.Arena.{Arena, IsArena, args_at, unit_count, unit_text_a
 use Rattle.lh_unit.specs.Contents.{ArgText}
 use Rattle.lh_unit.specs.Naming.{arg_text}
 use Rattle.lh_unit.specs.Table.{ArgsWithin}
-use Rattle.lh_unit.proofs.Placing.{args-item}
+use Rattle.lh_unit.proofs.PlacedIds.{args-item}
 use Rattle.lh_term.proofs.Swaps.{take_whole}
 
 -- the names of the first i arguments

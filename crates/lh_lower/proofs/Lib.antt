@@ -3,6 +3,6 @@ pub mod Flats
 pub mod OfModule
 pub mod Outcomes
 pub mod Lowerings
-pub mod Taking
-pub mod Reporting
+pub mod LoweredItems
+pub mod ReportRows
 pub mod Whole

@@ -18,7 +18,7 @@ use Rattle.lh_unit.proofs.Arenas.{same_unit_name-is}
 use Rattle.lh_lower_def.specs.Lowering.{Outcome, outcome_in, in_place, verdict_of, lowered_as, lowered_item, row_as, item_row}
 use Rattle.lh_lower_def.specs.Report.{RowText, row_text}
 use Rattle.lh_lower_def.specs.declared.report.ReportRow.{ReportRow}
-use Rattle.lh_lower_def.proofs.Keeping.{unit-name}
+use Rattle.lh_lower_def.proofs.KeptItems.{unit-name}
 use Rattle.lh_lower.specs.Lowers.{IsBehind}
 
 -- ---- what stands behind

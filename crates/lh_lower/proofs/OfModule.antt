@@ -11,7 +11,7 @@ use Rattle.lh_unit.specs.Naming.{Naming, value_text, arg_text}
 use Rattle.lh_unit.specs.Reads.{args_repeat}
 use Rattle.lh_unit.specs.WellFormed.{IsWellFormed}
 use Rattle.lh_flat_laws.specs.Formed.{IsFormed}
-use Rattle.lh_flat_laws.proofs.Activating.{flat-is}
+use Rattle.lh_flat_laws.proofs.FlatActivations.{flat-is}
 use Rattle.lh_flat_state_laws.specs.Formed.{FlatTextsAreFormed}
 use Rattle.lh_flat.specs.Below.{IdsBelow}
 use Rattle.lh_flat.specs.Flat.{FlatText, FlatRefusal, Flattened, refused, flattened, flat_of, flat_unit}

@@ -8,7 +8,7 @@ use Rattle.lh_flat.specs.Marks.{UnitsAreNamed}
 use Rattle.lh_lower_laws.specs.Same.{IsSourceModule, LoweredIsWellFormed, LoweredSameTrace}
 use Rattle.lh_lower.specs.Lowers.{IsLowered, IsLowering, IsBehind, IsNext, LowersItem}
 use Rattle.lh_lower.specs.declared.lowering.Lowering.{Lowering}
-use Rattle.lh_lower.proofs.Taking.{all-seen, behind, take-next}
+use Rattle.lh_lower.proofs.LoweredItems.{all-seen, behind, take-next}
 
 module _ (a : Arena) (xs : List Item) (same : xs ≡ a.items) (l : Lowering) (i : ℕ) (known : IsLowering a l (take i xs)) where
   w : IsLowering a l (take i a.items)

@@ -1,5 +1,5 @@
 mod Opened
-mod Naming
+mod NamesById
 pub mod Rests
 mod Once
 mod Texts

@@ -13,7 +13,7 @@ use Rattle.lh_unit.specs.declared.inst.UnitKind.TheVariants as kind
 use Rattle.lh_unit.proofs.ModuleLaws.{length-line_at_end}
 use Rattle.lh_unit.proofs.ContentsLemmas.{new_unit-blocks, new_unit-args, line_at_end-push}
 use Rattle.lh_text_laws.specs.Printable.{result_repeats, results_repeat, label_repeats, labels_repeat}
-use Rattle.lh_text_laws.proofs.Printing.{blocks_define-lines, lines_of-last, line_count-last, results-split}
+use Rattle.lh_text_laws.proofs.PrintableUnits.{blocks_define-lines, lines_of-last, line_count-last, results-split}
 use Rattle.lh_lower_copy.specs.Changing.{with_args, with_lines, with_blocks, with_type}
 use Rattle.lh_lower_copy.specs.Fitting.{ArgsFit, LinesFit, LabelFits, BlocksFit}
 use Rattle.lh_lower_copy.specs.Kept.{TypeFits}

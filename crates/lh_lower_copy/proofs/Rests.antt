@@ -25,7 +25,7 @@ use Rattle.lh_unit.proofs.Tables.{BlocksWithin-at}
 use Rattle.lh_unit.proofs.Defined.{label_text-named, blocks-within}
 use Rattle.lh_unit.proofs.Texts.{Agree, inst-same, maybe-same}
 use Rattle.lh_unit.proofs.Within.{InstWithin-more}
-use Rattle.lh_unit.proofs.Placing.{args-item}
+use Rattle.lh_unit.proofs.PlacedIds.{args-item}
 use Rattle.lh_lower_copy.specs.Changing.{Becomes, with_args, with_lines, with_labelled, with_blocks}
 use Rattle.lh_lower_copy.specs.Fitting.{ArgsFit, LinesFit, LabelFits, BlocksFit}
 use Rattle.lh_lower_copy.specs.Named.{SameNames}

@@ -20,7 +20,7 @@ use Rattle.lh_unit.specs.declared.table.TableLine.{TableLine}
 use Rattle.lh_unit.proofs.Lists.{nat_eq-is, not_true}
 use Rattle.lh_unit.proofs.Defined.{arg-ids, line-ids, flat_lines, line_count-ids, label_text-named, blocks-within}
 use Rattle.lh_unit.proofs.ById.{args_define-by_id, same_label-by_id}
-use Rattle.lh_unit.proofs.Giving.{same-argument, is_arg-there}
+use Rattle.lh_unit.proofs.DefinitionsGive.{same-argument, is_arg-there}
 use Rattle.lh_text_laws.specs.Printable.{result_repeats, results_repeat, label_repeats, labels_repeat}
 use Rattle.lh_lower_copy.specs.Copying.{IsOnce}
 use Rattle.lh_types.proofs.Lists.{get_end, get_below}

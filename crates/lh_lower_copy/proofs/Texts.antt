@@ -18,7 +18,7 @@ use Rattle.lh_lower_copy.specs.Named.{SameUnits, SameNames, NamesIn, NamesValues
 use Rattle.lh_lower_copy.specs.Kept.{TypeFits, block_at}
 use Rattle.lh_lower_copy.specs.Copying.{IsOnce, AddsUnit, headed}
 use Rattle.lh_lower_copy.proofs.Opened.{becomes-trans, adds-then}
-use Rattle.lh_lower_copy.proofs.Naming.{names-trans}
+use Rattle.lh_lower_copy.proofs.NamesById.{names-trans}
 use Rattle.lh_lower_copy.proofs.Rests.{labelled}
 use Rattle.lh_lower_copy.proofs.Once.{Labelled, BlocksOf, TypeOf, Whole, new-args, headed-by, type-fits-by, whole-by}
 

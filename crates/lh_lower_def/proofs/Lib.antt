@@ -1,7 +1,7 @@
 pub mod Plain
 pub mod Entities
-pub mod Keeping
-pub mod Stepping
+pub mod KeptItems
+pub mod LoweringSteps
 pub mod Turns
 pub mod DeepCalls
 pub mod Worked

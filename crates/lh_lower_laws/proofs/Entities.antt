@@ -9,7 +9,7 @@ use Rattle.lh_unit.specs.Reads.{args_repeat}
 use Rattle.lh_unit.specs.Within.{Each}
 use Rattle.lh_text_laws.specs.Printable.{IsPrintable}
 use Rattle.lh_flat_laws.specs.Formed.{IsFormed}
-use Rattle.lh_flat_laws.proofs.Activating.{flat-is}
+use Rattle.lh_flat_laws.proofs.FlatActivations.{flat-is}
 use Rattle.lh_flat_state_laws.specs.Formed.{FlatTextsAreFormed}
 use Rattle.lh_flat.specs.Flat.{FlatText, flat_unit}
 use Rattle.lh_term.specs.declared.part.Part.{Part}

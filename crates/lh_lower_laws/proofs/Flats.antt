@@ -18,9 +18,9 @@ use Rattle.lh_text_laws.specs.ItemLines.{item_line}
 use Rattle.lh_text_laws.specs.Printable.{HasInstLine, IsPrintable, IsPrintableItem}
 use Rattle.lh_flat.specs.Copies.{Copy, top_copy, call_path, copy_at, opened, copied}
 use Rattle.lh_flat.specs.Flat.{FlatBlockText, FlatText, Pieces, flattened, flat_of, flat_copy, flat_block, pieces_from, with_line, merge_of, max_nested, text_of}
-use Rattle.lh_flat_laws.proofs.Activating.{flat-is}
+use Rattle.lh_flat_laws.proofs.FlatActivations.{flat-is}
 use Rattle.lh_lower_laws.proofs.Times.{InstFine, LineFine, line-fine}
-use Rattle.lh_lower_laws.proofs.Walking.{BlockFine}
+use Rattle.lh_lower_laws.proofs.WrittenConstants.{BlockFine}
 
 -- the constants of a unit can be written
 abbrev pub UnitFine : UnitText → Type 0

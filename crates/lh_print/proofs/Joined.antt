@@ -8,7 +8,7 @@ use Rattle.lh_unit.specs.Marks.{comma}
 use Rattle.lh_unit.specs.Canon.{text_of}
 use Rattle.lh_unit.specs.Pieces.{Piece, token, space, render, commas, behind_commas}
 use Rattle.lh_unit.specs.CanonTypes.{type_pieces, row_pieces, row_behind}
-use Rattle.lh_unit.proofs.Rendering.{render-append, text_of-append}
+use Rattle.lh_unit.proofs.RenderedPieces.{render-append, text_of-append}
 
 pub ruleset steps = (render-append, text_of-append, append_assoc, append-nil)
 

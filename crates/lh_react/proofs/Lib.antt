@@ -5,5 +5,5 @@ pub mod NamedSteps
 pub mod InstsSteps
 pub mod QuietSteps
 pub mod ProbedBits
-pub mod Adding
+pub mod TriggerLists
 pub mod AtRest

@@ -10,7 +10,7 @@ use Rattle.lh_verify_laws.specs.Operands.{RowIs, IsOf, TriggerIs}
 use Rattle.lh_eval.specs.Fitting.{Fits}
 use Rattle.lh_eval.specs.Sound.{InstIsSound}
 use Rattle.lh_eval.specs.Wishing.{WishWithin}
-use Rattle.lh_eval.proofs.Wishing.{due-within, driven-within}
+use Rattle.lh_eval.proofs.DriveWishes.{due-within, driven-within}
 use Rattle.lh_react.specs.Standing.{triggers_in, trigger_count}
 use Rattle.lh_eval_laws.proofs.FitLaws.{keeps-fit}
 

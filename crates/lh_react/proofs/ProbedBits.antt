@@ -34,7 +34,7 @@ use Rattle.lh_unit.specs.declared.inst.Typed.{Typed}
 use Rattle.lh_unit.specs.declared.inst.Arg.{Arg}
 use Rattle.lh_unit.specs.declared.table.TableLine.{TableLine}
 use Rattle.lh_unit.specs.ById.{is_sig}
-use Rattle.lh_unit.proofs.Giving.{same-argument}
+use Rattle.lh_unit.proofs.DefinitionsGive.{same-argument}
 use Rattle.lh_unit_names.proofs.NameLists.{same_name-refl}
 use Rattle.lh_eval.specs.Holding.{Holds, slot_at}
 use Rattle.lh_eval.proofs.BeginSteps.{entity-blocks, entity-lines, entity-insts, begun}

@@ -13,7 +13,7 @@ use Rattle.lh_unit.specs.declared.inst.ValueId.{ValueId}
 use Rattle.lh_unit.specs.declared.inst.Typed.{Typed}
 use Rattle.lh_unit.specs.declared.inst.RegTrigger.{RegTrigger}
 use Rattle.lh_eval.specs.Holding.{Holds, MaybeIn, SameHeld}
-use Rattle.lh_eval.proofs.Holding.{same-held, holds-given}
+use Rattle.lh_eval.proofs.HeldByIds.{same-held, holds-given}
 use Rattle.lh_react.specs.declared.pass.PassRun.{PassRun}
 use Rattle.lh_react.specs.Standing.{StandsForPass, HasGiven, HasWished}
 use Rattle.lh_react.specs.Registers.{TriggerIn, delay_in, value_in, fires_in, stored_in, tried, tries}

@@ -19,7 +19,7 @@ use Rattle.lh_read.specs.Places.{is_inside, behind_header}
 use Rattle.lh_read.specs.InOrder.{state_at, InPlace}
 use Rattle.lh_read.specs.Steps.{step}
 use Rattle.lh_read.specs.Building.{Heads, Steps}
-use Rattle.lh_read.proofs.Stepping.{step-ok, step-misplaced, step-again}
+use Rattle.lh_read.proofs.StepAnswers.{step-ok, step-misplaced, step-again}
 use Rattle.lh_read.proofs.PlaceLaws.{place-is, header-stands, declare-stands, behind-head, inside-head}
 use Rattle.lh_unit.proofs.ContentsLemmas.{last_unit-push}
 

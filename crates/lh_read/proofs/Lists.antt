@@ -22,7 +22,7 @@ use Rattle.lh_read_phrases.specs.declared.syntax.Operand.{Operand}
 use Rattle.lh_read_phrases.specs.SyntaxOf.{operand_of, operands_of}
 use Rattle.lh_read.specs.Placing.{LabelWithin, label_said, Placed, LabelPlaced, ValuePlaced, MaybePlaced, OperandPlaced, TriggerPlaced, EdgePlaced, AllPlaced, OperandsPlaced, TriggersPlaced, SignalsPlaced, InstPlacedAs}
 use Rattle.lh_read.specs.Mentions.{Mention, names_unit, one_value, one_label, maybe_value, operand_mentions, operands_mention, trigger_mentions, EntersOnly}
-use Rattle.lh_read.proofs.Entering.{flat_map-push, enters-none, enters-both, enters-unit, enters-value, enters-label}
+use Rattle.lh_read.proofs.EntryLaws.{flat_map-push, enters-none, enters-both, enters-unit, enters-value, enters-label}
 use Rattle.lh_unit.proofs.Within.{Each-more}
 
 -- what is in place stays in place and says the same as entries are added

@@ -14,7 +14,7 @@ use Rattle.lh_unit.specs.declared.inst.Declare.{Declare}
 use Rattle.lh_unit.proofs.ContentsLemmas.{open-text, last_unit-push}
 use Rattle.lh_unit.proofs.ModuleLaws.{KeepsEntries-trans, Grows-refl, last_unit-change_last}
 use Rattle.lh_read.specs.Mentions.{Mention, names_unit, names_value, names_label, one_label, maybe_label, line_mentions, block_mentions, arg_mentions, unit_mentions, SomeUnit, IsMentioned, IsMentionedIn, EachNamed, EntersOnly}
-use Rattle.lh_read.proofs.Entering.{at_head, enters-none, flat_map-push}
+use Rattle.lh_read.proofs.EntryLaws.{at_head, enters-none, flat_map-push}
 
 -- the header of a unit, its arguments and its blocks
 module _ (t : UnitText) (m : Mention) where

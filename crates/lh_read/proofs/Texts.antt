@@ -13,7 +13,7 @@ use Rattle.lh_read_lines.specs.SpelledBy.{SpelledBy}
 use Rattle.lh_read_lines.proofs.SpelledItems.{spelled_by}
 use Rattle.lh_read.specs.Steps.{step}
 use Rattle.lh_read.proofs.SpelledTokens.{spelled-tokens}
-use Rattle.lh_read.proofs.Stepping.{IsFree, step-free, HasFault, step-fault}
+use Rattle.lh_read.proofs.StepAnswers.{IsFree, step-free, HasFault, step-fault}
 
 -- no unit is open at the end of these items
 abbrev pub closed : List ItemText → ReadState

@@ -28,7 +28,7 @@ use Rattle.lh_region_places.specs.declared.state.PlaceState.{PlaceState}
 use Rattle.lh_region_places.specs.Asked.{kept_by, kept_at, keeps, source_of, edges_at, sources, IsBelow, KnownTerms, AreOfOneType, Joins, IsJoin, Tells}
 use Rattle.lh_region.specs.Walking.{as_term, term_known, Story, TellsKnown, AreEdges}
 use Rattle.lh_region.specs.Begins.{told_by, with_place, AreOfType, CanBegin, IsBegun, StaysKnown, TellsJoined, BeginsJoined}
-use Rattle.lh_region_places.proofs.Placing.{kept-at, edges-of}
+use Rattle.lh_region_places.proofs.PlaceLists.{kept-at, edges-of}
 
 -- ---- what edges join, under one name
 

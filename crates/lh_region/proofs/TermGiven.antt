@@ -19,8 +19,8 @@ use Rattle.lh_region_places.specs.declared.state.PlaceState.{PlaceState}
 use Rattle.lh_region_places.specs.Asked.{kept_at, keeps, source_of, edges_at, sources, IsBelow, KnownTerms, Joins, Tells, SamePlaces, IsWithAt}
 use Rattle.lh_region.specs.Walking.{as_term, term_known, Story, TellsKnown}
 use Rattle.lh_region.specs.Gives.{with_term, ValuesDiffer, GivesTerm}
-use Rattle.lh_region_places.proofs.Placing.{same-edges, same-sources, Kept, new_one, old_one, kept-with, with-same}
-use Rattle.lh_region_places.proofs.Telling.{places-replaced, with-join}
+use Rattle.lh_region_places.proofs.PlaceLists.{same-edges, same-sources, Kept, new_one, old_one, kept-with, with-same}
+use Rattle.lh_region_places.proofs.ToldValues.{places-replaced, with-join}
 
 -- the sources of a place are below the last one
 sources-last : (ps : List PlaceState) (i j : ℕ) → i + 1 ≡ length ps → Each (IsBelow j) (sources ps j) → Each (IsBelow i) (sources ps j)

@@ -36,7 +36,7 @@ use Rattle.lh_region_def.specs.Means.{range_in, reads, KnownIsHeld, Agrees}
 use Rattle.lh_region_def.specs.Laws.{EndsAs, max_steps, WaitsForHead, FirstActivation, AgainFromHead, HeadStaysKnown, RowsAreTyped, EndTyped}
 use Rattle.lh_region_def.specs.Right.{DriveTyped, BlockAt, WayRight}
 use Rattle.lh_region_def.proofs.Among.{in-each}
-use Rattle.lh_region_def.proofs.Merging.{bit-condition}
+use Rattle.lh_region_def.proofs.MergedValues.{bit-condition}
 use Rattle.lh_region_def.proofs.Labels.{block-labelled}
 use Rattle.lh_region_def.proofs.Steps.{RegionOf}
 use Rattle.lh_region_def.proofs.Heads.{no-phis-taken}

@@ -16,11 +16,11 @@ use Rattle.lh_types.specs.Wish.{Wish, DueBit, due_bit_cmp, with_bits}
 use Rattle.lh_bits.proofs.ValueBits.{length-value_bits}
 use Rattle.lh_term.specs.Mean.{mean}
 use Rattle.lh_term.specs.declared.part.Part.{Part}
-use Rattle.lh_term.proofs.Typing.{mean_fits}
+use Rattle.lh_term.proofs.TermTypes.{mean_fits}
 use Rattle.lh_region_def.specs.Typed.{IsOfType}
 use Rattle.lh_region_def.specs.Means.{range_in, is_one, due_by}
 use Rattle.lh_region_def.specs.Adjacent.{beyond, drive_merged, AdjacentDrivesMerge, MergedDriveIsTyped}
-use Rattle.lh_region_def.proofs.Merging.{or-one, beyond-condition, beyond-one, choose, or-condition, made-choice}
+use Rattle.lh_region_def.proofs.MergedValues.{or-one, beyond-condition, beyond-one, choose, or-condition, made-choice}
 
 -- ---- one key twice, and two keys
 

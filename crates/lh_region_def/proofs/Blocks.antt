@@ -38,7 +38,7 @@ use Rattle.lh_term.specs.Tree.{Tree}
 use Rattle.lh_term.specs.Mean.{Valuation, IsFitting, mean}
 use Rattle.lh_term.specs.Make.{make_operation}
 use Rattle.lh_term.specs.declared.part.Part.{Part}
-use Rattle.lh_term.proofs.Typing.{mean_fits}
+use Rattle.lh_term.proofs.TermTypes.{mean_fits}
 use Rattle.lh_region_def.specs.Known.{Knowledge, value_known, parts_known}
 use Rattle.lh_region_def.specs.Rows.{halts, waits, RegionEnd}
 use Rattle.lh_region_def.specs.Joins.{RegionPlace, RegionEdge}
@@ -47,16 +47,16 @@ use Rattle.lh_region_def.specs.Typed.{KnowsTyped, KnowsThere, IsCondition}
 use Rattle.lh_region_def.specs.Means.{range_in, reads, KnownIsHeld, with_rows}
 use Rattle.lh_region_def.specs.Right.{BlockAt, PhisGiven, JoinsAt}
 use Rattle.lh_region_def.proofs.Sites.{Site, site-at}
-use Rattle.lh_region_def.proofs.Merging.{one, mean-bit, and-one, not-one, not-condition}
+use Rattle.lh_region_def.proofs.MergedValues.{one, mean-bit, and-one, not-one, not-condition}
 use Rattle.lh_region_def.proofs.Operations.{IsOfSome, datum-shown, parts-shown, value-known, part-known}
-use Rattle.lh_region_def.proofs.Knowing.{phis-more}
+use Rattle.lh_region_def.proofs.KnowledgeChanges.{phis-more}
 use Rattle.lh_region_def.proofs.Steps.{RegionOf, Target, target, text-at, Led, led_never, led_edge, led_head, leads-led}
-use Rattle.lh_region_def.proofs.Taking as Taking
-use Rattle.lh_region_def.proofs.Leading as Leading
-use Rattle.lh_region_def.proofs.Executing as Executing
-use Rattle.lh_region_def.proofs.Living as Living
-use Rattle.lh_region_def.proofs.Leaving as Leaving
-use Rattle.lh_region_def.proofs.Executing.{delay-of-time}
+use Rattle.lh_region_def.proofs.LineEffects as Taking
+use Rattle.lh_region_def.proofs.BlockLines as Leading
+use Rattle.lh_region_def.proofs.BlockExecution as Executing
+use Rattle.lh_region_def.proofs.LiveEdges as Living
+use Rattle.lh_region_def.proofs.BlockLeaves as Leaving
+use Rattle.lh_region_def.proofs.BlockExecution.{delay-of-time}
 use Rattle.lh_eval.proofs.ValuesFit.{test-truth}
 
 -- an operand of the kind of signals is a signal

@@ -22,11 +22,11 @@ use Rattle.lh_region_def.specs.Right as right
 use Rattle.lh_region_def.specs.Right.{BlockAt, DriveTyped}
 use Rattle.lh_region_def.proofs.Among.{in-each, each-among, filter-among}
 use Rattle.lh_region_def.proofs.Sites.{LineGood, good-lines}
-use Rattle.lh_region_def.proofs.Merging.{EachCondition, any-condition, bit-condition}
+use Rattle.lh_region_def.proofs.MergedValues.{EachCondition, any-condition, bit-condition}
 use Rattle.lh_region_def.proofs.Labels.{block-text}
 use Rattle.lh_region_def.proofs.Phis.{known-typed-at, known-there-at, phis-given-at}
 use Rattle.lh_region_def.proofs.Steps.{RegionOf, EdgeRight, EndRight, DriveRight}
-use Rattle.lh_region_def.proofs.Leading as Leading
+use Rattle.lh_region_def.proofs.BlockLines as Leading
 use Rattle.lh_region_def.proofs.Ordered.{place-is}
 
 pub coursed-is : (c d : Course) → comes_to c ≡ comes_to d → c ≡ d

@@ -26,7 +26,7 @@ use Rattle.lh_region_def.specs.Known.{Knowledge, value_known}
 use Rattle.lh_region_def.specs.Joins.{RegionEdge}
 use Rattle.lh_region_def.specs.Typed.{KnowsTyped, KnowsThere, IsCondition, PhiKnown, JoinEdge}
 use Rattle.lh_region_def.proofs.Sites.{Site, site-at, block-at, not-result}
-use Rattle.lh_region_def.proofs.Knowing.{there-past}
+use Rattle.lh_region_def.proofs.KnowledgeChanges.{there-past}
 use Rattle.lh_region_def.proofs.Operations.{value-known}
 
 -- an edge that is named is found

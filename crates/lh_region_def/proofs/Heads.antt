@@ -21,7 +21,7 @@ use Rattle.lh_eval_laws.specs.Units.{HasItsType, IsPort}
 use Rattle.lh_verify_laws.proofs.EachItem.{each-split}
 use Rattle.lh_verify_laws.proofs.AtPlaces.{place-at}
 use Rattle.lh_flat_laws.specs.Formed.{IsFormed, PhiFormed}
-use Rattle.lh_flat_laws.proofs.Tidying.{seen-once}
+use Rattle.lh_flat_laws.proofs.TidyUnits.{seen-once}
 use Rattle.lh_flat.specs.Flat.{FlatBlockText, MergeText, FlatText, with_merge, as_block}
 use Rattle.lh_term.specs.Tree.{constant}
 use Rattle.lh_term.specs.declared.part.Part.{Part}
@@ -32,7 +32,7 @@ use Rattle.lh_region_def.specs.Places.{block_number}
 use Rattle.lh_region_def.specs.Regions.{is_constant, with_constant, with_constants, branched_to, leads_on, is_led_to, head_after, begins_with_phi, head_of}
 use Rattle.lh_region_def.specs.Typed.{Among, PhiKnown}
 use Rattle.lh_region_def.proofs.Sites.{site-at}
-use Rattle.lh_region_def.proofs.Knowing.{given-stays, given-known}
+use Rattle.lh_region_def.proofs.KnowledgeChanges.{given-stays, given-known}
 use Rattle.lh_region_def.proofs.PartsNamed.{part-argument}
 
 -- ---- the constants of lines

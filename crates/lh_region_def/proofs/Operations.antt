@@ -30,7 +30,7 @@ use Rattle.lh_eval.specs.Sound.{HasOperands}
 use Rattle.lh_eval.proofs.ValuesFit.{fits-line}
 use Rattle.lh_eval.proofs.PartsRead.{of-signal, no-step, no-signal}
 use Rattle.lh_eval.proofs.GivesFit.{value-type}
-use Rattle.lh_eval_laws.proofs.Finding.{some-of, operated-there}
+use Rattle.lh_eval_laws.proofs.OperandsFound.{some-of, operated-there}
 use Rattle.lh_term.specs.Tree.{Tree, tree_row, operation_on}
 use Rattle.lh_term.specs.Types as terms
 use Rattle.lh_term.specs.Types.{type_of, types_of, IsTyped, AreTyped, TakesTypes}
@@ -38,11 +38,11 @@ use Rattle.lh_term.specs.Mean.{Valuation, IsFitting, mean}
 use Rattle.lh_term.specs.Make.{make_operation}
 use Rattle.lh_term.specs.declared.part.Part.{Part}
 use Rattle.lh_term.proofs.Sound.{operation_sound}
-use Rattle.lh_term.proofs.Typing.{value_is, value_typed, mean_fits, gives_is}
+use Rattle.lh_term.proofs.TermTypes.{value_is, value_typed, mean_fits, gives_is}
 use Rattle.lh_region_def.specs.Known.{Known, known_value, known_cell, known_part, Knowledge, as_value, as_cell as as_known_cell, as_part as as_known_part, value_known, cell_known, part_known, values_known, parts_known}
 use Rattle.lh_region_def.specs.Typed.{known_type, IsPartOf, IsTypedKnown, KnowsTyped, IsOfType}
 use Rattle.lh_region_def.specs.Means.{reads, held_as, KnownIsHeld}
-use Rattle.lh_region_def.proofs.Reading.{reads-fit}
+use Rattle.lh_region_def.proofs.PartReads.{reads-fit}
 
 -- ---- what is held where something is known
 

@@ -15,7 +15,7 @@ use Rattle.lh_unit.specs.Within.{Each}
 use Rattle.lh_verify_laws.specs.Operands.{IsOf, RowIs}
 use Rattle.lh_verify_laws.proofs.EachItem.{edge-is}
 use Rattle.lh_eval.specs.Sound.{InstIsSound}
-use Rattle.lh_eval_laws.proofs.Finding.{some-of}
+use Rattle.lh_eval_laws.proofs.OperandsFound.{some-of}
 use Rattle.lh_term.specs.Tree.{Tree}
 use Rattle.lh_term.specs.Mean.{Valuation, IsFitting, mean}
 use Rattle.lh_term.specs.declared.part.Part.{Part}
@@ -25,11 +25,11 @@ use Rattle.lh_region_def.specs.Typed.{Among, KnowsTyped, KnowsThere, IsOfType, P
 use Rattle.lh_region_def.specs.Means.{held_as, KnownIsHeld}
 use Rattle.lh_region_def.specs.Right.{PhiGiven, PhisGiven}
 use Rattle.lh_region_def.proofs.Sites.{LineGood}
-use Rattle.lh_region_def.proofs.Merging.{taken}
+use Rattle.lh_region_def.proofs.MergedValues.{taken}
 use Rattle.lh_region_def.proofs.Operations.{datum-shown}
-use Rattle.lh_region_def.proofs.Knowing.{GivenTyped, given-typed, given-stays, given-known, given-shows, phis-more}
+use Rattle.lh_region_def.proofs.KnowledgeChanges.{GivenTyped, given-typed, given-stays, given-known, given-shows, phis-more}
 use Rattle.lh_region_def.proofs.PartsNamed.{one-part}
-use Rattle.lh_region_def.proofs.Joining.{first-among, GiveEach, given-each, merged-there, merged-of, merged-of-type, merged-by-means, value_on, cell_on, part_on, JoinCase, of_value, of_cell, of_part, join-case, known-by-value, known-by-cell, known-by-part, pointee, join-at, join-conditions, value-type-of, cell-type-of, joined-typed, joined-there}
+use Rattle.lh_region_def.proofs.JoinedKnowledge.{first-among, GiveEach, given-each, merged-there, merged-of, merged-of-type, merged-by-means, value_on, cell_on, part_on, JoinCase, of_value, of_cell, of_part, join-case, known-by-value, known-by-cell, known-by-part, pointee, join-at, join-conditions, value-type-of, cell-type-of, joined-typed, joined-there}
 
 datum-is : (a b : Datum) → Some (datum_held a) ≡ Some (datum_held b) → a ≡ b
 datum-is a b e = cc

@@ -30,7 +30,7 @@ use Rattle.lh_eval_laws.specs.Ranges.{RangesFit, arg_types}
 use Rattle.lh_eval_laws.specs.Units.{IsPort}
 use Rattle.lh_eval_laws.proofs.FindingStatic.{result-is}
 use Rattle.lh_flat_laws.specs.Formed.{IsFormed}
-use Rattle.lh_flat_laws.proofs.Tidying.{seen-once}
+use Rattle.lh_flat_laws.proofs.TidyUnits.{seen-once}
 use Rattle.lh_flat.specs.Flat.{FlatBlockText, FlatText, with_merge, flat_unit, as_block}
 use Rattle.lh_term.specs.Tree.{Tree, constant}
 use Rattle.lh_term.specs.Make.{bit_of}
@@ -44,12 +44,12 @@ use Rattle.lh_region_def.specs.Means.{range_in, lowest_bit, held_as, KnownIsHeld
 use Rattle.lh_region_def.specs.Right.{BlockAt}
 use Rattle.lh_region_def.proofs.Among.{in-each, among-split}
 use Rattle.lh_region_def.proofs.Sites.{LineGood, good-lines}
-use Rattle.lh_region_def.proofs.Merging.{bit-condition}
-use Rattle.lh_region_def.proofs.Knowing.{constant-typed, given-shows-typed}
+use Rattle.lh_region_def.proofs.MergedValues.{bit-condition}
+use Rattle.lh_region_def.proofs.KnowledgeChanges.{constant-typed, given-shows-typed}
 use Rattle.lh_region_def.proofs.Phis.{const-line}
 use Rattle.lh_region_def.proofs.PartsNamed.{part-argument, one-part}
 use Rattle.lh_region_def.proofs.Operations.{term-type, value-known, part-known}
-use Rattle.lh_region_def.proofs.Joining.{known-by-value, known-by-part}
+use Rattle.lh_region_def.proofs.JoinedKnowledge.{known-by-value, known-by-part}
 use Rattle.lh_region_def.proofs.Edges.{value-no-void}
 use Rattle.lh_verify_laws.specs.Operands.{IsOf}
 use Rattle.lh_verify_laws.proofs.There.{last-leads}

@@ -25,7 +25,7 @@ use Rattle.lh_region_def.specs.Joins.{RegionEdge}
 use Rattle.lh_region_def.specs.Places.{Region, Here, Midst, block_number, next_place, goes_if, leads, ends}
 use Rattle.lh_region_def.specs.Typed.{KnowsTyped, KnowsThere, IsCondition, IsOfType}
 use Rattle.lh_region_def.specs.Right.{BlockAt, JoinsAt, WayRight}
-use Rattle.lh_region_def.proofs.Merging.{one}
+use Rattle.lh_region_def.proofs.MergedValues.{one}
 use Rattle.lh_region_def.proofs.Labels.{block-by, block-labelled, block-text}
 use Rattle.lh_region_def.proofs.Edges.{edge-joins}
 

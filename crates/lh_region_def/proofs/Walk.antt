@@ -27,14 +27,14 @@ use Rattle.lh_region_def.specs.Ending.{StandsAs}
 use Rattle.lh_region_def.specs.Right.{BlockAt}
 use Rattle.lh_region_def.proofs.Among.{in-each, among-filter, filter-among, among-split}
 use Rattle.lh_region_def.proofs.Sites.{block-at}
-use Rattle.lh_region_def.proofs.Merging.{EachCondition, one, any-one, any-taken, none-taken, bit-condition}
+use Rattle.lh_region_def.proofs.MergedValues.{EachCondition, one, any-one, any-taken, none-taken, bit-condition}
 use Rattle.lh_region_def.proofs.Labels.{block-text}
 use Rattle.lh_region_def.proofs.Phis.{known-shows-at, phis-given-at}
 use Rattle.lh_region_def.proofs.Steps.{RegionOf, EdgeRight, EndRight, DriveRight}
 use Rattle.lh_region_def.proofs.Ordered.{Before, Sorted, sorted-behind, later-behind, never-before, next-later, place-among, places-sorted, place-is, place-self}
-use Rattle.lh_region_def.proofs.Executing.{row-off}
-use Rattle.lh_region_def.proofs.Living as Living
-use Rattle.lh_region_def.proofs.Leaving.{to_block, to_head, stops}
+use Rattle.lh_region_def.proofs.BlockExecution.{row-off}
+use Rattle.lh_region_def.proofs.LiveEdges as Living
+use Rattle.lh_region_def.proofs.BlockLeaves.{to_block, to_head, stops}
 use Rattle.lh_region_def.proofs.Blocks as Blocks
 use Rattle.lh_region_def.proofs.Courses as Courses
 

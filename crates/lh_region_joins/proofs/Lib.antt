@@ -1,4 +1,4 @@
 pub mod Conditions
-pub mod Joining
-pub mod Selecting
+pub mod EdgeJoins
+pub mod Selectors
 pub mod Merged

@@ -27,10 +27,10 @@ use Rattle.lh_region.specs.Targets.{ways_of, target_by}
 use Rattle.lh_region_walk.specs.Walked.{IsRegion, StopsFor}
 use Rattle.lh_region_walk.specs.Both.{HasRegion, IsHere, GoesFirst, FirstStops, IsTarget, HasTarget, SecondRows, SecondStops}
 use Rattle.lh_region_walk.proofs.First.{plain}
-use Rattle.lh_region_walk.proofs.Fitting.{drives-fit, fit-grown}
-use Rattle.lh_region_walk.proofs.Forming.{head-is, phi-agrees}
-use Rattle.lh_region.proofs.Rowing.{rows-grown}
-use Rattle.lh_region.proofs.Targeting.{target-by-ways}
+use Rattle.lh_region_walk.proofs.DriveTypes.{drives-fit, fit-grown}
+use Rattle.lh_region_walk.proofs.FormedText.{head-is, phi-agrees}
+use Rattle.lh_region.proofs.RowLists.{rows-grown}
+use Rattle.lh_region.proofs.OneTarget.{target-by-ways}
 
 pub block-read : (bs : List FlatBlock) (k : ℕ) (b : FlatBlock) → k < length bs → b ≡ get_or bs k b → slice_get bs k ≡ Some b
 block-read [] k b l e = absurd (omega (arith, l))

@@ -37,7 +37,7 @@ use Rattle.lh_region.specs.Forms.{Names}
 use Rattle.lh_region.specs.Starts.{constant_in, constant_as, constant_given, lines_left, StandsMaybe, KnowsConstants}
 use Rattle.lh_region.specs.Walking.{as_term, term_known, Story}
 use Rattle.lh_region.proofs.Begun.{told-old, told-new, told-within, told-some}
-use Rattle.lh_region.proofs.Starting.{else-else}
+use Rattle.lh_region.proofs.EntryConstants.{else-else}
 
 -- ---- names
 

@@ -39,7 +39,7 @@ use Rattle.lh_region_def.specs.Rows as text
 use Rattle.lh_region_def.specs.Places.{Region as RegionText, Here, Midst, block_number, branches, wait_way, ends_if, takes}
 use Rattle.lh_region_def.specs.Regions.{max_turns, turns_too_often}
 use Rattle.lh_region_def.specs.Typed.{IsCondition}
-use Rattle.lh_region_def.proofs.Leading.{branch-known}
+use Rattle.lh_region_def.proofs.BlockLines.{branch-known}
 use Rattle.lh_region_def.proofs.Operations.{part-known}
 use Rattle.lh_region_def.proofs.Sites.{Site}
 use Rattle.lh_region_def.proofs.Blocks.{signal-of}
@@ -51,9 +51,9 @@ use Rattle.lh_region.specs.Branches.{CanTest}
 use Rattle.lh_region.specs.Walking.{Story, term_known}
 use Rattle.lh_region_walk.specs.Walked.{process_by, region_text, IsCourse, course_at, IsBetween, leads_nowhere, CanTake, EndsLine, EndsFor}
 use Rattle.lh_region_walk.specs.Leaving.{IsLeaving, EndsThere, CanLead, LeadsThere, LeadsNot, Branches, BranchesNot, AreParts, PartsOf, Waits}
-use Rattle.lh_region_walk.proofs.Continuing.{so-far-on}
+use Rattle.lh_region_walk.proofs.StoryLaws.{so-far-on}
 use Rattle.lh_region_walk.proofs.Regional.{region-of, label-number, block-at-text, site-of}
-use Rattle.lh_region_walk.proofs.Parting.{part-there}
+use Rattle.lh_region_walk.proofs.PartsByIds.{part-there}
 use Rattle.lh_region_walk.proofs.Known.{value-term}
 
 maybe-some : (f : Naming) (o : Option ValueId) → is_some (maybe_text f o) ≡ is_some o

@@ -34,10 +34,10 @@ use Rattle.lh_region.specs.Walking.{as_term, term_known}
 use Rattle.lh_region_walk.specs.Walked.{process_by, region_text, IsRegion, StopsFor}
 use Rattle.lh_region_walk.specs.Turns.{IsStart, CanStart, GoesThrough, GoesNot}
 use Rattle.lh_region_walk.specs.Both.{HasRegion, GoesFirst, FirstStops}
-use Rattle.lh_region_walk.proofs.Forming.{head-is, head-within, blocks-there, phi-agrees}
+use Rattle.lh_region_walk.proofs.FormedText.{head-is, head-within, blocks-there, phi-agrees}
 use Rattle.lh_region_walk.proofs.Reached.{block-there}
 use Rattle.lh_region_walk.proofs.Regional.{block-text-at}
-use Rattle.lh_region.proofs.Starting.{maybe-grown}
+use Rattle.lh_region.proofs.EntryConstants.{maybe-grown}
 use Rattle.lh_region_walk.proofs.NamedCourse.{named-start}
 use Rattle.lh_region_walk.proofs.Constants.{no_story, first_story, start-tells, start-known}
 

@@ -12,9 +12,9 @@ use Rattle.lh_region_places.specs.Asked.{SamePlaces, StillTold, IsTold}
 use Rattle.lh_region.specs.Taken.{asks_at, StillToldAll, IsOperated}
 use Rattle.lh_region.specs.Gives.{GivesTerm}
 use Rattle.lh_region_walk.specs.Lines.{IsThat, IsToldOf, IsOperationOn, GivesWhere}
-use Rattle.lh_region_places.proofs.Placing.{same-length}
-use Rattle.lh_region_places.proofs.Telling.{tells-grown}
-use Rattle.lh_region.proofs.Gathering.{there-from}
+use Rattle.lh_region_places.proofs.PlaceLists.{same-length}
+use Rattle.lh_region_places.proofs.ToldValues.{tells-grown}
+use Rattle.lh_region.proofs.AskedValues.{there-from}
 
 pub gives-that : (ns ms : List TermNode) (ps qs : List PlaceState) (i v : ℕ) (t : TermId) (y : Tree) → Grows ns ms → StandsForTree ms t y → GivesTerm ps i v t qs → GivesWhere (IsThat y) ns ps i v ms qs
 gives-that ns ms ps qs i v t y grows st g s k a x tells c last low d p term known = g ms s k a x (tells-grown ns ms ps s.told grows tells) c last low d term (subst (StandsForTree ms t) (sym p) st)

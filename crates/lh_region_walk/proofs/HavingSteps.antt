@@ -48,7 +48,7 @@ use Rattle.lh_region_def.proofs.Among.{in-each}
 use Rattle.lh_region_def.proofs.Operations.{carried-is}
 use Rattle.lh_region.specs.Forms.{Names}
 use Rattle.lh_region_walk.specs.Walked.{process_by}
-use Rattle.lh_region_walk.proofs.Parting.{argument-none}
+use Rattle.lh_region_walk.proofs.PartsByIds.{argument-none}
 
 -- ---- what holds of each line holds of each instruction
 

@@ -27,7 +27,7 @@ use Rattle.lh_region_def.specs.Places.{Region, Here, Midst, gives, probes, with_
 use Rattle.lh_region_def.specs.Regions.{Course, comes_to, is_place, edges_to, edges_of_ends, through_block, through, through_reached, head_of, with_constant, with_constants, lines_at, known_first}
 use Rattle.lh_region_def.proofs.Sites.{block-lines}
 use Rattle.lh_region_def.proofs.Labels.{block-text}
-use Rattle.lh_region_def.proofs.Joining.{GiveEach, given-each, value_on, cell_on, part_on, JoinCase, of_value, of_cell, of_part, join-case, merged-of, known-by-value, known-by-cell, known-by-part}
+use Rattle.lh_region_def.proofs.JoinedKnowledge.{GiveEach, given-each, value_on, cell_on, part_on, JoinCase, of_value, of_cell, of_part, join-case, merged-of, known-by-value, known-by-cell, known-by-part}
 use Rattle.lh_region_def.proofs.Steps.{RegionOf}
 use Rattle.lh_region_def.proofs.Courses.{coursed-is, treated}
 use Rattle.lh_region_walk.specs.Named.{KnowsNamed, EdgesNamed, CourseNamed}

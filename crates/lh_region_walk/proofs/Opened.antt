@@ -33,7 +33,7 @@ use Rattle.lh_region_def.specs.Typed.{KnowsThere, PhiKnown, JoinEdge}
 use Rattle.lh_region_def.specs.Right.{PhisGiven}
 use Rattle.lh_region_def.proofs.Sites.{LineGood, good-lines}
 use Rattle.lh_region_def.proofs.Labels.{block-text}
-use Rattle.lh_region_def.proofs.Knowing.{there-past}
+use Rattle.lh_region_def.proofs.KnowledgeChanges.{there-past}
 use Rattle.lh_region_def.proofs.Phis.{known-typed-at, known-there-at, phis-given-at}
 use Rattle.lh_region_places.specs.declared.state.PlaceState.{PlaceState}
 use Rattle.lh_region_walk.specs.declared.walk.Region.{Region}
@@ -47,7 +47,7 @@ use Rattle.lh_region.specs.Operands.{AreFrom}
 use Rattle.lh_region.specs.Walking.{Story, TellsKnown, AreEdges}
 use Rattle.lh_region_walk.specs.Walked.{process_by, IsSoFar, KnowsFor, IsBetween, IsOpened}
 use Rattle.lh_region_walk.specs.Merges.{IsMerging, IsPhi, PhiFits, LineFits, CanTakeLines, phis_given, TakesPhis, as_phis, MergeFits, CanTakeMerge, merge_given, TakesMerge, merge_lines, midst_at}
-use Rattle.lh_region_walk.proofs.Continuing.{so-far-grown}
+use Rattle.lh_region_walk.proofs.StoryLaws.{so-far-grown}
 use Rattle.lh_region_walk.proofs.Regional.{block-text-at, site-of}
 
 -- the line that a merge is

@@ -16,7 +16,7 @@ use Rattle.lh_region_def.specs.Places.{Region as RegionText, Here}
 use Rattle.lh_region_def.specs.Regions.{RegionRefusal, Course, Coursed, stops, comes_to, then_course, max_turns, through_block, edges_to, through_reached, through_all}
 use Rattle.lh_region_def.specs.Typed.{JoinEdge}
 use Rattle.lh_region_def.proofs.Steps.{RegionOf}
-use Rattle.lh_region_def.proofs.Merging.{any-condition, EachCondition}
+use Rattle.lh_region_def.proofs.MergedValues.{any-condition, EachCondition}
 use Rattle.lh_region_def.proofs.Courses as Courses
 use Rattle.lh_region_joins.specs.declared.edge.Edge.{Edge}
 use Rattle.lh_region_joins.specs.Joins.{AreConditions, edges_on}
@@ -34,15 +34,15 @@ use Rattle.lh_region.specs.Stands.{AreRows, refusal_of}
 use Rattle.lh_region.specs.Walking.{Story, TellsKnown, AreEdges, place_of, AreSources}
 use Rattle.lh_region_walk.specs.Walked.{process_by, region_text, IsSoFar, IsCourse, IsOpened, CanTreat, treated, Treats, TreatsNot, StopsFor}
 use Rattle.lh_region_walk.specs.Turns.{IsWalk, CanWalk, Comes, Passes, Stops, walks_at}
-use Rattle.lh_region_places.proofs.Placing.{edges-of}
-use Rattle.lh_region_places.proofs.Telling.{tells-grown}
-use Rattle.lh_region.proofs.Going.{edges-grown}
+use Rattle.lh_region_places.proofs.PlaceLists.{edges-of}
+use Rattle.lh_region_places.proofs.ToldValues.{tells-grown}
+use Rattle.lh_region.proofs.LeadingEdges.{edges-grown}
 use Rattle.lh_region.proofs.Begun.{edges-on, edges-conditions}
-use Rattle.lh_region_walk.proofs.Continuing.{so-far-grown}
+use Rattle.lh_region_walk.proofs.StoryLaws.{so-far-grown}
 use Rattle.lh_region_walk.proofs.Regional.{region-of, block-at-text}
-use Rattle.lh_region_walk.proofs.CanBeginning.{can-begin}
+use Rattle.lh_region_walk.proofs.PlaceStarts.{can-begin}
 use Rattle.lh_region_walk.proofs.NamedCourse.{named-reached, named-to}
-use Rattle.lh_region_walk.proofs.Turning.{no-edges, some-edges, ahead-reached, one-none}
+use Rattle.lh_region_walk.proofs.PlaceTurns.{no-edges, some-edges, ahead-reached, one-none}
 
 pub block-there : (bs : List FlatBlock) (k : ℕ) → k < length bs → (b : FlatBlock) × (slice_get bs k ≡ Some b)
 block-there [] k l = absurd (omega (arith, l))

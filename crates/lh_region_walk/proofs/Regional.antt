@@ -18,7 +18,7 @@ use Rattle.lh_region_walk.specs.declared.walk.Region.{Region}
 use Rattle.lh_region_walk.specs.declared.walk.WalkPoint.{WalkPoint}
 use Rattle.lh_region.specs.Effects.{probed}
 use Rattle.lh_region_walk.specs.Walked.{process_by, region_text, IsRegion, IsAt}
-use Rattle.lh_region.proofs.Heading.{number-of}
+use Rattle.lh_region.proofs.HeadBlock.{number-of}
 
 -- ---- probes
 

@@ -35,7 +35,7 @@ use Rattle.lh_eval.proofs.GivesFit.{constants-fit}
 use Rattle.lh_eval.proofs.PartsRead.{carried-some}
 use Rattle.lh_verify_laws.proofs.EachItem.{each-split}
 use Rattle.lh_verify_laws.proofs.AtPlaces.{place-at}
-use Rattle.lh_eval_laws.proofs.Finding.{some-of}
+use Rattle.lh_eval_laws.proofs.OperandsFound.{some-of}
 use Rattle.lh_flat_laws.specs.Formed.{IsWithoutCalls}
 use Rattle.lh_flat.specs.declared.flat.FlatInst.{FlatInst}
 use Rattle.lh_flat.specs.declared.flat.FlatBlock.{FlatBlock}
@@ -62,13 +62,13 @@ use Rattle.lh_region_def.specs.Places.{Region as RegionText, Here, Midst, probes
 use Rattle.lh_region_def.specs.Regions.{turns_too_often}
 use Rattle.lh_region_def.specs.Typed.{known_type, IsTypedKnown, KnowsTyped, IsCondition}
 use Rattle.lh_region_def.specs.Right.{BlockAt}
-use Rattle.lh_region_def.proofs.Knowing.{phis-more, constant-typed}
+use Rattle.lh_region_def.proofs.KnowledgeChanges.{phis-more, constant-typed}
 use Rattle.lh_region_def.proofs.Operations.{term-type, PartStep}
 use Rattle.lh_region_def.proofs.Sites.{Site, block-lines}
 use Rattle.lh_region_def.proofs.Steps.{RegionOf, text-at}
-use Rattle.lh_region_def.proofs.Taking as Taking
-use Rattle.lh_region_def.proofs.Leading as Leading
-use Rattle.lh_region_def.proofs.Taking.{step-first}
+use Rattle.lh_region_def.proofs.LineEffects as Taking
+use Rattle.lh_region_def.proofs.BlockLines as Leading
+use Rattle.lh_region_def.proofs.LineEffects.{step-first}
 use Rattle.lh_region_places.specs.declared.state.PlaceState.{PlaceState}
 use Rattle.lh_region.specs.declared.ahead.Ahead.{Ahead}
 use Rattle.lh_region.specs.declared.rows.Rows.{Rows}
@@ -85,12 +85,12 @@ use Rattle.lh_region.specs.Gives.{with_term, ValuesDiffer}
 use Rattle.lh_region.specs.Effects.{probed, CanDrive, StillDriven, IsProbed, IsDriven, AreAsserted}
 use Rattle.lh_region_walk.specs.Lines.{IsThat, IsToldOf, IsOperationOn, GivesWhere, gives_alone, MayTest, StillTested, IsDriveCond}
 use Rattle.lh_region_walk.specs.Walked.{process_by, region_text, ContinuesStory, leads_nowhere, course_at, IsBetween, takes_line}
-use Rattle.lh_region_places.proofs.Placing.{same-length}
-use Rattle.lh_region.proofs.Gathering.{there-from}
-use Rattle.lh_region_places.proofs.Telling.{tells-grown}
-use Rattle.lh_region_walk.proofs.Parting.{step-of-line, part-there}
-use Rattle.lh_region.proofs.Rowing.{rows-grown}
-use Rattle.lh_region_walk.proofs.Continuing.{continues-given, so-far-grown}
+use Rattle.lh_region_places.proofs.PlaceLists.{same-length}
+use Rattle.lh_region.proofs.AskedValues.{there-from}
+use Rattle.lh_region_places.proofs.ToldValues.{tells-grown}
+use Rattle.lh_region_walk.proofs.PartsByIds.{step-of-line, part-there}
+use Rattle.lh_region.proofs.RowLists.{rows-grown}
+use Rattle.lh_region_walk.proofs.StoryLaws.{continues-given, so-far-grown}
 use Rattle.lh_region_walk.proofs.Regional.{region-of, block-at-text, site-of}
 use Rattle.lh_region_walk.proofs.Known.{value-term, cell-term, part-of-known, result-low, used-low}
 use Rattle.lh_region_walk.proofs.StillLines.{drives-known, takes-still, alone-leads}

@@ -9,7 +9,7 @@ use Rattle.lh_unit.specs.Within.{Each}
 use Rattle.lh_flat.specs.declared.flat.FlatBlock.{FlatBlock}
 use Rattle.lh_flat.specs.Flat.{FlatBlockText}
 use Rattle.lh_flat.specs.Reads.{flat_block_text}
-use Rattle.lh_flat.proofs.Placing.{read-long}
+use Rattle.lh_flat.proofs.NumberNames.{read-long}
 use Rattle.lh_term.specs.Make.{bit_of}
 use Rattle.lh_term.specs.declared.term.TermNode.{TermNode}
 use Rattle.lh_region_def.specs.Joins.{RegionPlace, RegionEdge}
@@ -17,7 +17,7 @@ use Rattle.lh_region_def.specs.Places.{Region as RegionText, next_place}
 use Rattle.lh_region_def.specs.Regions.{RegionRefusal, Course, no_course, Coursed, comes_to, then_course, through_block, is_place, edges_to, through_all, all_places, region_from}
 use Rattle.lh_region_def.specs.Right.{BlockAt}
 use Rattle.lh_region_def.proofs.Steps.{RegionOf, EdgeRight}
-use Rattle.lh_region_def.proofs.Merging.{bit-condition}
+use Rattle.lh_region_def.proofs.MergedValues.{bit-condition}
 use Rattle.lh_region_def.proofs.Ordered.{Before, next-later, place-is}
 use Rattle.lh_region_def.proofs.Courses as Courses
 use Rattle.lh_region_places.specs.declared.state.PlaceState.{PlaceState}

@@ -20,7 +20,7 @@ use Rattle.lh_region.specs.Stands.{AreRows, refusal_of}
 use Rattle.lh_region.specs.Walking.{Story, place_of, AreSources}
 use Rattle.lh_region_walk.specs.Walked.{region_text, StopsFor}
 use Rattle.lh_region_walk.specs.Turns.{places_of, turns_below, IsWalk, IsTurn, CanWalk, CanTurn, Beginning, Passes, Stops, walks_at, turns_at, PassesAll}
-use Rattle.lh_region_walk.proofs.Turning.{ahead-turned, nothing-here, nothing-next, nothing-led, places-more, turns-more, places-none, turns-none, places-stop, turns-stop, passes-on, stops-on}
+use Rattle.lh_region_walk.proofs.PlaceTurns.{ahead-turned, nothing-here, nothing-next, nothing-led, places-more, turns-more, places-none, turns-none, places-stop, turns-stop, passes-on, stops-on}
 
 pub stops-memory : (From : Beginning) (r : Region) (ps : List RegionPlace) (e : RegionFault) → e ≡ fault.OutOfMemory → Stops From r ps e
 stops-memory From r ps e q f name s c from = subst (λ x. StopsFor (through_all (region_text f r) ps c) (refusal_of x)) (sym q) tt

@@ -4,6 +4,6 @@ pub mod Results
 pub mod Callings
 pub mod Performances
 pub mod Simulations
-pub mod Loading
+pub mod LoadSteps
 pub mod Accounts
 pub mod Lowerings

@@ -1,6 +1,6 @@
-pub mod Missing
+pub mod MissingTop
 pub mod Tops
-pub mod Counting
+pub mod UnitCounts
 pub mod Courses
 pub mod Answer
 pub mod Whole

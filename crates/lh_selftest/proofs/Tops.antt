@@ -13,7 +13,7 @@ use Rattle.lh_elab.specs.declared.fault.ElabFault.{ElabFault}
 use Rattle.lh_elab.specs.declared.fault.ElabFault.TheVariants.{TopIsFunction, InstCycle, TooDeep, TooManyInstances, TooManyBits, OutOfMemory}
 use Rattle.lh_selftest_design.specs.Summary.{chain_name}
 use Rattle.lh_selftest.specs.SelfTest.{HasDesign}
-use Rattle.lh_selftest.proofs.Missing.{elab-not_there, elab-not_defined}
+use Rattle.lh_selftest.proofs.MissingTop.{elab-not_there, elab-not_defined}
 
 -- what is refused has no design
 refused_or_built : (x : Elaborated) (r : Refusal) (d : Design) → x ≡ refused r → x ≡ built d → ⊥

@@ -2,11 +2,11 @@ pub mod Short
 pub mod Texts
 pub mod Lines
 pub mod Names
-pub mod Printing
+pub mod ChainPrints
 pub mod Links
-pub mod Reading
+pub mod ChainReads
 pub mod Processes
 pub mod Signals
 pub mod Entity
 pub mod Faultless
-pub mod Elaborating
+pub mod ChainDesign

@@ -21,7 +21,7 @@ use Rattle.lh_unit.specs.SpellsNumbers.{SpellsNumber, SpellsTime}
 use Rattle.lh_unit.specs.SpellsParts.{SpellsBehind, SpellsOperand}
 use Rattle.lh_unit.specs.SpellsInst.{typed as typed_column, bare as bare_column, SpellsColumns, columns, IsOpWord, SpellsWordOp, SpellsInst}
 use Rattle.lh_text_laws.specs.Printable.{HasInstLine}
-use Rattle.lh_text_laws.proofs.Spacing.{word-lexeme}
+use Rattle.lh_text_laws.proofs.SpacedLines.{word-lexeme}
 use Rattle.lh_text_laws.proofs.Insts.{line-has}
 use Rattle.lh_selftest_laws.specs.Words.{typed, plain, signal, gives, does, number}
 

@@ -14,7 +14,7 @@ use Rattle.lh_selftest_laws.specs.Words.{word, gives, begins_with}
 use Rattle.lh_selftest_laws.specs.Chain.{stage, next_of, chain_first, link_signals, link_register, link_adder, link_instances, chain_last, chain_lines, chain_unit}
 use Rattle.lh_selftest_laws.proofs.Lines.{one, whole, const-line, sig-line, Port, instance-line, instance_two-line}
 use Rattle.lh_selftest_laws.proofs.Names.{stage-named, next-named, stages-differ, nexts-differ}
-use Rattle.lh_selftest_laws.proofs.Printing.{chain-header}
+use Rattle.lh_selftest_laws.proofs.ChainPrints.{chain-header}
 
 -- ---- each line
 

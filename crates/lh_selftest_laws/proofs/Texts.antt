@@ -9,7 +9,7 @@ use Rattle.lh_unit.specs.Contents.{LineText, unit_text}
 use Rattle.lh_unit.specs.Marks.{close_brace}
 use Rattle.lh_unit.specs.Pieces.{Piece, render, mark}
 use Rattle.lh_unit.specs.Canon.{canon_inst_line, header, item_lines, text_of, canon}
-use Rattle.lh_unit.proofs.Rendering.{text_of-append}
+use Rattle.lh_unit.proofs.RenderedPieces.{text_of-append}
 use Rattle.lh_selftest_design.specs.Generated.{chain_begins, signals_of, instances_of, chain_ends, chain, register, adder, testbench, generated}
 use Rattle.lh_selftest_design.specs.Summary.{chain_name}
 use Rattle.lh_selftest_laws.specs.Words.{bit, word, signal, gives, begins_with, instance}

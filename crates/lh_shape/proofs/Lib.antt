@@ -1,6 +1,6 @@
 mod Samples
-pub mod Reading
-pub mod Merging
+pub mod PartsRead
+pub mod MergedDriveLaws
 pub mod Alike
 pub mod Merged
-pub mod Edging
+pub mod RegisterShapes

@@ -21,17 +21,17 @@ use Rattle.lh_region_def.specs.Typed.{IsOfType}
 use Rattle.lh_region_def.specs.Joins.{in_each}
 use Rattle.lh_region_def.specs.Adjacent.{beyond, drive_merged}
 use Rattle.lh_term.proofs.Conditions.{AllBits, conjuncts_are_bits, filter-bits}
-use Rattle.lh_region_def.proofs.Merging.{or-condition, made-choice, beyond-condition}
+use Rattle.lh_region_def.proofs.MergedValues.{or-condition, made-choice, beyond-condition}
 use Rattle.lh_region_joins.specs.Joins.{IsConditionAt, edge_on}
 use Rattle.lh_region_joins.proofs.Conditions.{condition-grown, stands-condition, grows-none}
-use Rattle.lh_region_joins.proofs.Selecting.{bits-conditions}
+use Rattle.lh_region_joins.proofs.Selectors.{bits-conditions}
 use Rattle.lh_region.specs.Stands.{IsDrive, AreDrives}
 use Rattle.lh_region.specs.declared.rows.DriveRow.{DriveRow}
-use Rattle.lh_region.proofs.Rowing.{drives-grown, drives-push}
+use Rattle.lh_region.proofs.RowLists.{drives-grown, drives-push}
 use Rattle.lh_shape.specs.Merging.{are_alike, merged_from}
 use Rattle.lh_shape.specs.Merged.{MergesDriveIf, MergesDrive}
 use Rattle.lh_shape.specs.ByIds.{drive_at, drives_at, DriveFits, DrivesFit}
-use Rattle.lh_shape.proofs.Merging.{part-alike}
+use Rattle.lh_shape.proofs.MergedDriveLaws.{part-alike}
 use Rattle.lh_shape.proofs.Alike.{drive-is}
 
 -- ---- drives as an arena grows

@@ -17,7 +17,7 @@ use Rattle.lh_term.specs.SameTree.{same_tree, same_tree-is}
 use Rattle.lh_term.specs.Make.{is_bit_value, bit_of, make_operation}
 use Rattle.lh_term.specs.Conjuncts.{all_conjuncts, joined_conjuncts, with_term, with_terms, conjuncts_of, conjunction_from, conjunction}
 use Rattle.lh_term.specs.Laws.{MeansSame}
-use Rattle.lh_term.proofs.Typing.{means_fit}
+use Rattle.lh_term.proofs.TermTypes.{means_fit}
 use Rattle.lh_term.proofs.Sound.{IsBit, IntTerm, bit_mean, bit_value_is, bit_of_fit, bit_typed, one_wide, operation_sound}
 
 -- ---- terms of one bit

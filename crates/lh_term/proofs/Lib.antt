@@ -1,10 +1,10 @@
 pub mod Arenas
-pub mod Typing
+pub mod TermTypes
 pub mod Sound
 pub mod Values
 pub mod Walks
 pub mod Conditions
 pub mod Greatest
-pub mod Reaching
+pub mod TermWalks
 pub mod Swaps
 pub mod Salts

@@ -21,7 +21,7 @@ use Rattle.lh_term.specs.Mean.{Valuation, IsFitting, chosen, mean, means}
 use Rattle.lh_term.specs.SameTree.{same_tree, same_tree-is}
 use Rattle.lh_term.specs.Make.{is_that, is_constant, all_constant, value_in, values_in, is_zero, is_ones, is_bit, is_bit_value, negated, is_not_of, anded, halves, width_in, zero_like, ones_like, bit_of, found_or, not_rows, make_not, and_rows, or_rows, eq_rows, neq_rows, rows_of, make_operation, make_choice}
 use Rattle.lh_term.specs.Laws.{MeansSame}
-use Rattle.lh_term.proofs.Typing.{value_is, fits_term, gives_is, mean_fits}
+use Rattle.lh_term.proofs.TermTypes.{value_is, fits_term, gives_is, mean_fits}
 
 -- ---- steps
 

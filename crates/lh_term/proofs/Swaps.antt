@@ -28,7 +28,7 @@ use Rattle.lh_term.specs.declared.term.Term.TheVariants.{Op as Applied, Choice}
 use Rattle.lh_term.specs.declared.term.TermNode.{TermNode}
 use Rattle.lh_term.proofs.Arenas.{trees_grow, map_append, map_length, at_below}
 use Rattle.lh_term.proofs.Sound.{operation_sound, choice_sound}
-use Rattle.lh_term.proofs.Reaching.{on_at, on_below, behind}
+use Rattle.lh_term.proofs.TermWalks.{on_at, on_below, behind}
 
 -- ---- types and meaning
 

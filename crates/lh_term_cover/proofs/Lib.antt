@@ -1,3 +1,3 @@
-pub mod Merging
+pub mod MergedRanges
 pub mod Within
 pub mod Sets

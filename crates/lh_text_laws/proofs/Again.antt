@@ -6,7 +6,7 @@ use Rattle.lh_unit.specs.Marks.{comma}
 use Rattle.lh_unit.specs.Pieces.{Piece, token, space, IsLexeme, IsSpaced, lexemes_in, commas, behind_commas}
 use Rattle.lh_unit.specs.Within.{Each}
 use Rattle.lh_unit.specs.SpellsParts.{SpellsParts, SpellsList, SpellsBehind}
-use Rattle.lh_text_laws.proofs.Spacing.{spaced-comma, spaced-enclosed}
+use Rattle.lh_text_laws.proofs.SpacedLines.{spaced-comma, spaced-enclosed}
 
 -- the pieces are spaced and spell what S says, whatever follows them
 pub record PiecesSpell (S : List Lexeme → List Lexeme → Type 0) (ps : List Piece) : Type 0 where

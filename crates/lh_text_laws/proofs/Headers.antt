@@ -18,7 +18,7 @@ use Rattle.lh_unit.specs.declared.inst.UnitKind.{UnitKind}
 use Rattle.lh_unit.specs.declared.inst.UnitKind.TheVariants as kind
 use Rattle.lh_unit.specs.declared.inst.Declare.{Declare}
 use Rattle.lh_unit.specs.declared.inst.Declare.TheVariants as declare
-use Rattle.lh_text_laws.proofs.Spacing.{spaced-append, spaced-space, spaced-enclosed}
+use Rattle.lh_text_laws.proofs.SpacedLines.{spaced-append, spaced-space, spaced-enclosed}
 use Rattle.lh_text_laws.proofs.Again.{Whole, PiecesSpell, Again, at_end, again-map, list-again}
 use Rattle.lh_text_laws.proofs.Types.{type-again, row_pieces-list}
 use Rattle.lh_text_laws.proofs.Operands.{unit_lexeme, unit-again, typed-again}

@@ -16,7 +16,7 @@ use Rattle.lh_unit.specs.SpellsParts.{SpellsParts, SpellsList, SpellsBehind, Spe
 use Rattle.lh_unit.specs.SpellsInst.{SpellsDelay, SpellsWordTyped, SpellsInst, SpellsLine}
 use Rattle.lh_unit_names.specs.declared.name.UnitName.{UnitName}
 use Rattle.lh_text_laws.specs.Printable.{HasInstLine}
-use Rattle.lh_text_laws.proofs.Spacing.{spaced-append, spaced-space, spaced-comma, spaced-enclosed, word-lexeme}
+use Rattle.lh_text_laws.proofs.SpacedLines.{spaced-append, spaced-space, spaced-comma, spaced-enclosed, word-lexeme}
 use Rattle.lh_text_laws.proofs.Again.{Whole, PiecesSpell, Again, at_end, joined, parts-again, list-again, behind-again}
 use Rattle.lh_text_laws.proofs.Types.{type-again}
 use Rattle.lh_text_laws.proofs.Numbers.{integer-again, time-again}

@@ -1,5 +1,5 @@
 pub mod Numerals
-pub mod Spacing
+pub mod SpacedLines
 pub mod Written
 pub mod Again
 pub mod Types
@@ -16,5 +16,5 @@ pub mod Readings
 pub mod Units
 pub mod Apart
 pub mod Together
-pub mod Printing
+pub mod PrintableUnits
 pub mod Printed

@@ -12,7 +12,7 @@ use Rattle.lh_unit.specs.CanonTypes.{time_text, steps_pieces, time_pieces}
 use Rattle.lh_unit.specs.Within.{Each}
 use Rattle.lh_unit.specs.SpellsNumbers.{SpellsNumber, SpellsInteger, unit_scale, SpellsFemtoseconds, SpellsSteps, SpellsTime}
 use Rattle.lh_text_laws.proofs.Numerals.{number_of-decimal, decimal-named, decimal-some, all_name_bytes-append}
-use Rattle.lh_text_laws.proofs.Spacing.{spaced-append}
+use Rattle.lh_text_laws.proofs.SpacedLines.{spaced-append}
 use Rattle.lh_text_laws.proofs.Again.{PiecesSpell, Again, at_end}
 use Rattle.lh_text_laws.proofs.Types.{number-lexeme}
 

@@ -16,7 +16,7 @@ use Rattle.lh_unit.specs.SpellsTypes.{SpellsType}
 use Rattle.lh_unit.specs.SpellsParts.{SpellsUnitName, SpellsLocal, SpellsTyped, SpellsOperand, SpellsBare, SpellsWithType, SpellsMaybe, SpellsTrigger, SpellsEdge}
 use Rattle.lh_unit.specs.SpellsInst.{Column, typed, bare, free, SpellsColumn, SpellsColumns}
 use Rattle.lh_unit_names.specs.declared.name.UnitName.{UnitName}
-use Rattle.lh_text_laws.proofs.Spacing.{spaced-append, spaced-space, spaced-comma, spaced-enclosed, word-lexeme}
+use Rattle.lh_text_laws.proofs.SpacedLines.{spaced-append, spaced-space, spaced-comma, spaced-enclosed, word-lexeme}
 use Rattle.lh_text_laws.proofs.Again.{PiecesSpell, Again, joined, again-map, again-nothing}
 use Rattle.lh_text_laws.proofs.Types.{type-again}
 

@@ -15,7 +15,7 @@ use Rattle.lh_unit.specs.SpellsNumbers.{SpellsNumber}
 use Rattle.lh_unit.specs.SpellsParts.{SpellsBehind, SpellsOperand, SpellsBare, SpellsWithType}
 use Rattle.lh_unit.specs.SpellsInst.{columns, IsOpWord, SpellsWordOp, SpellsPure}
 use Rattle.lh_text_laws.proofs.Numerals.{number_of-decimal}
-use Rattle.lh_text_laws.proofs.Spacing.{spaced-append, spaced-enclosed, word-lexeme}
+use Rattle.lh_text_laws.proofs.SpacedLines.{spaced-append, spaced-enclosed, word-lexeme}
 use Rattle.lh_text_laws.proofs.Again.{Whole, PiecesSpell, at_end, parts-again, behind-again}
 use Rattle.lh_text_laws.proofs.Types.{number-lexeme}
 use Rattle.lh_text_laws.proofs.Numbers.{number-again}

@@ -20,7 +20,7 @@ use Rattle.lh_text_laws.specs.Laws.{SpelledIsPrintable}
 use Rattle.lh_text_laws.specs.Printable.{HasLine, HasInstLine, HasLabelLine, IsLabelled, HasShape, result_repeats, results_repeat, label_repeats, labels_repeat, IsPrintable, IsPrintableItem}
 use Rattle.lh_text_laws.proofs.Apart.{opened, Fine, alone-stands}
 use Rattle.lh_text_laws.proofs.Items.{item-again}
-use Rattle.lh_text_laws.proofs.Printing.{unit_of, block, start_blocks, headed-start, lines_of-last, line_count-last, blocks_define-lines}
+use Rattle.lh_text_laws.proofs.PrintableUnits.{unit_of, block, start_blocks, headed-start, lines_of-last, line_count-last, blocks_define-lines}
 use Rattle.lh_text_laws.proofs.Readings.{read_to}
 use Rattle.lh_text_laws.proofs.Steps.{block_in, unit-in, no_header, no_declare}
 use Rattle.lh_text_laws.proofs.Walks.{HasBlock}

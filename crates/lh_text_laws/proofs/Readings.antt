@@ -9,7 +9,7 @@ use Rattle.lh_unit.specs.Within.{Each}
 use Rattle.lh_unit.specs.Spells.{LineItem, empty_item, Spells}
 use Rattle.lh_unit.specs.Reads.{ReadState, after, Takes, Walk, start}
 use Rattle.lh_unit.specs.WellFormed.{IsSpelled}
-use Rattle.lh_unit.proofs.Rendering.{lexemes-render}
+use Rattle.lh_unit.proofs.RenderedPieces.{lexemes-render}
 use Rattle.lh_text_laws.specs.ItemLines.{item_line}
 use Rattle.lh_text_laws.specs.Laws.{EveryReadingIsSpelled, CanonHasItsLines, HasItsTokens, CanonHasItsTokens}
 use Rattle.lh_text_laws.proofs.Written.{written}

@@ -11,7 +11,7 @@ use Rattle.lh_unit.specs.CanonTypes.{type_pieces, row_pieces, row_behind}
 use Rattle.lh_unit.specs.Within.{Each}
 use Rattle.lh_unit.specs.SpellsTypes.{SpellsTree, SpellsRow, SpellsType}
 use Rattle.lh_text_laws.proofs.Numerals.{number_of-decimal, decimal-named, decimal-some}
-use Rattle.lh_text_laws.proofs.Spacing.{spaced-append, spaced-comma, spaced-enclosed, word-lexeme}
+use Rattle.lh_text_laws.proofs.SpacedLines.{spaced-append, spaced-comma, spaced-enclosed, word-lexeme}
 use Rattle.lh_text_laws.proofs.Again.{PiecesSpell, Again, joined}
 
 -- the word of a number

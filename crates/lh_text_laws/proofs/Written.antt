@@ -7,7 +7,7 @@ use Rattle.lh_unit.specs.Tokens.{tokens, bytes_at, lexeme_of, lexeme_at, lexemes
 use Rattle.lh_unit.specs.declared.token.Token.{Token}
 use Rattle.lh_unit.specs.declared.token.TokenKind.{TokenKind}
 use Rattle.lh_unit.specs.declared.token.TokenKind.TheVariants as kind
-use Rattle.lh_unit.proofs.Lexing.{lexemes-tokens, tokens-spelled}
+use Rattle.lh_unit.proofs.LexedTokens.{lexemes-tokens, tokens-spelled}
 
 spelled-written : (k : TokenKind) (bs : List ℕ) → IsSpelling k bs → IsLexeme (lexeme_of k bs)
 spelled-written kind.Word bs h = h

@@ -10,7 +10,7 @@ use Rattle.lh_unit.specs.Hierarchy.{Instance}
 use Rattle.lh_unit.specs.Pass.{pass}
 use Rattle.lh_unit.specs.World.{State, of_process, of_entity, start_by, process_act, entity_act, runs, if_woken, act, bit_numbers, bit_differs, Rules}
 use Rattle.lh_trace_laws.proofs.BitSets.{SameSet, same_any}
-use Rattle.lh_trace_laws.proofs.Standing.{scene, fresh, waiting_at, EndsAt, sensed, CombFor}
+use Rattle.lh_trace_laws.proofs.StandsFor.{scene, fresh, waiting_at, EndsAt, sensed, CombFor}
 use Rattle.lh_trace_laws.proofs.Simulation.{Matches, SimulationRelation}
 
 module _ (r : Rules) (x y : UnitText) (i : Instance) (c : CombFor r x y i) where

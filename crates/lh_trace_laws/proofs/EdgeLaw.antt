@@ -13,7 +13,7 @@ use Rattle.lh_unit.specs.Pass.{pass}
 use Rattle.lh_unit.specs.World.{State, of_process, of_entity, start_by, Act, runs, if_woken, act, bit_numbers, bit_at, bit_differs, Rules}
 use Rattle.lh_trace_laws.specs.Replacing.{answer_of}
 use Rattle.lh_trace_laws.proofs.BitSets.{has, SameSet, IsWithin, bits_read, same_any, any_within, any_agree, read_agree, none_of, not_differ}
-use Rattle.lh_trace_laws.proofs.Standing.{scene, fresh, waiting_at, EndsAt, sensed, EdgeFor}
+use Rattle.lh_trace_laws.proofs.StandsFor.{scene, fresh, waiting_at, EndsAt, sensed, EdgeFor}
 use Rattle.lh_trace_laws.proofs.Simulation.{Matches, SimulationRelation}
 
 module _ (r : Rules) (x y : UnitText) (i : Instance) (c : EdgeFor r x y i) where

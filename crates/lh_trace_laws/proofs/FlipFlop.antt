@@ -25,7 +25,7 @@ use Rattle.lh_trace_laws.specs.Replacing.{MayStand}
 use Rattle.lh_trace_laws.proofs.Samples.{global, gives, does, typed, bit, bit_signal, input, output, block, delay}
 use Rattle.lh_trace_laws.proofs.ActivationsLaw.{run_enough}
 use Rattle.lh_trace_laws.proofs.BitSets.{SameSet, bits_read}
-use Rattle.lh_trace_laws.proofs.Standing.{scene, fresh, waiting_at, EndsAt, EdgeFor}
+use Rattle.lh_trace_laws.proofs.StandsFor.{scene, fresh, waiting_at, EndsAt, EdgeFor}
 use Rattle.lh_trace_laws.proofs.MayStandLaw.{edge_may_stand}
 use Rattle.lh_trace_laws.proofs.ReplacingLaw.{replaced_same_trace}
 

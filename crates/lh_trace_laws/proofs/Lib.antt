@@ -17,7 +17,7 @@ pub mod WishesLaw
 pub mod HistoryLaw
 pub mod FirstFaultLaw
 pub mod BitSets
-pub mod Standing
+pub mod StandsFor
 pub mod CombLaw
 pub mod EdgeLaw
 pub mod OnceLaw

@@ -8,7 +8,7 @@ use Rattle.lh_unit.specs.Hierarchy.{Instance, SignalText, Child, Hierarchy, line
 use Rattle.lh_unit.specs.World.{Rules}
 use Rattle.lh_trace_laws.specs.Replacing.{HasWidths, MayStand}
 use Rattle.lh_trace_laws.proofs.Simulation.{SimulationRelation, same_answers}
-use Rattle.lh_trace_laws.proofs.Standing.{CombFor, EdgeFor, OnceFor}
+use Rattle.lh_trace_laws.proofs.StandsFor.{CombFor, EdgeFor, OnceFor}
 use Rattle.lh_trace_laws.proofs.CombLaw.{comb_simulation}
 use Rattle.lh_trace_laws.proofs.EdgeLaw.{edge_simulation}
 use Rattle.lh_trace_laws.proofs.OnceLaw.{once_simulation}

@@ -8,7 +8,7 @@ use Rattle.lh_unit.specs.Activation.{halted}
 use Rattle.lh_unit.specs.Hierarchy.{Instance}
 use Rattle.lh_unit.specs.Pass.{pass}
 use Rattle.lh_unit.specs.World.{State, of_process, of_entity, start_by, act, bit_differs, Rules}
-use Rattle.lh_trace_laws.proofs.Standing.{fresh, OnceFor}
+use Rattle.lh_trace_laws.proofs.StandsFor.{fresh, OnceFor}
 use Rattle.lh_trace_laws.proofs.Simulation.{Matches, SimulationRelation}
 
 module _ (r : Rules) (x y : UnitText) (i : Instance) (c : OnceFor r x y i) where

@@ -1,11 +1,11 @@
-pub mod Lexing
+pub mod LexedTokens
 mod LexRows
 mod CanonRows
-pub mod Rendering
+pub mod RenderedPieces
 pub mod Lists
-pub mod Defining
+pub mod ValueDefinitions
 pub mod Tables
-mod Entering
+mod NameEntries
 pub mod Within
 pub mod Arenas
 pub mod Texts
@@ -17,7 +17,7 @@ pub mod Writes
 pub mod ModuleLaws
 pub mod ById
 pub mod ByIdInsts
-pub mod Giving
+pub mod DefinitionsGive
 pub mod ByIdPlaces
-pub mod Placing
+pub mod PlacedIds
 pub mod Seen

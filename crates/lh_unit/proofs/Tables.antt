@@ -16,8 +16,8 @@ use Rattle.lh_unit.specs.declared.inst.ValueDef.TheVariants as value_def
 use Rattle.lh_unit.specs.declared.inst.Inst.{Inst}
 use Rattle.lh_unit.specs.declared.inst.Arg.{Arg}
 use Rattle.lh_unit.specs.declared.table.TableLine.{TableLine}
-pub use Rattle.lh_unit.proofs.Defining.{is_arg-push, is_made-push}
-use Rattle.lh_unit.proofs.Defining.{definition-tells, IsDefinition-with_arg, IsDefinition-with_line, IsDefinition-same, arg-defines, line-defines, once-with_arg, once-with_line}
+pub use Rattle.lh_unit.proofs.ValueDefinitions.{is_arg-push, is_made-push}
+use Rattle.lh_unit.proofs.ValueDefinitions.{definition-tells, IsDefinition-with_arg, IsDefinition-with_line, IsDefinition-same, arg-defines, line-defines, once-with_arg, once-with_line}
 use Rattle.lh_unit.proofs.Lists.{Same, same, other, same_or, nat_eq-refl, nat_eq-other, or_false, or_true, or-assoc, get_or-push_default, front_last, map-ext, map-same, flat-append}
 use Rattle.lh_unit_names.proofs.Lists.{Trichotomy, before, at, past, trichotomy, AllDistinct-push}
 use Rattle.lh_types.proofs.Lists.{get_below, get_last}

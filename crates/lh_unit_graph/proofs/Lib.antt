@@ -1,3 +1,3 @@
-pub mod Measuring
-pub mod Searching
-pub mod Stepping
+pub mod MeasureSums
+pub mod SearchState
+pub mod SearchSteps

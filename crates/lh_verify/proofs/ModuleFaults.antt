@@ -15,7 +15,7 @@ use Rattle.lh_unit.specs.Placed.{IsItemOf}
 use Rattle.lh_verify.specs.Verifying.{NamesFault, UnitFault, FirstFaultOfUnit, FirstFaultOfItem, ItemBegun, named_fault}
 use Rattle.lh_verify_values.proofs.KnowingSteps.{take-item}
 use Rattle.lh_unit.proofs.Lists.{drop-item}
-use Rattle.lh_unit.proofs.Placing.{item-within}
+use Rattle.lh_unit.proofs.PlacedIds.{item-within}
 
 sites-append : (xs ys : List ItemText) → sites (xs ++ ys) ≡ sites xs ++ sites ys
 sites-append [] ys = refl

@@ -1,8 +1,8 @@
 pub mod Bits
-pub mod Keeping
-pub mod Spreading
-pub mod Searching
-pub mod Routing
+pub mod KeptWords
+pub mod SpreadWords
+pub mod SearchState
+pub mod RouteWords
 pub mod LackingBits
 pub mod EveryRoute
 pub mod Above

@@ -1,2 +1,2 @@
 pub mod MarkingSteps
-pub mod Turning
+pub mod ProbeTurns

@@ -19,7 +19,7 @@ use Rattle.lh_verify_values.specs.declared.scope.Fact.{Fact}
 use Rattle.lh_verify_values.specs.FactsOfUnit.{FactAfter, FactsAfter, GivenBy, GivenArg, FactOfInst, FactOfArg, Marks, blank, line_kind, line_type, arg_type}
 use Rattle.lh_types.specs.Types.{TypeTree}
 use Rattle.lh_verify_values.specs.Numbers.{Grows}
-use Rattle.lh_verify_values.proofs.Numbering.{number-grows}
+use Rattle.lh_verify_values.proofs.TypeNumbers.{number-grows}
 use Rattle.lh_unit.proofs.Tables.{is_made-push, is_arg-push}
 
 -- a write at one place

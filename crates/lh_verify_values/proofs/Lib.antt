@@ -1,5 +1,5 @@
 pub mod KnowingSteps
-pub mod Numbering
+pub mod TypeNumbers
 pub mod ParamSteps
 pub mod ScopeParts
 pub mod MadeTypes

@@ -5,7 +5,7 @@ use Rattle.lh_types.proofs.Lists.{push_cases}
 use Rattle.lh_unit.specs.Arena.{Arena, args_at}
 use Rattle.lh_unit.specs.declared.inst.Arg.{Arg}
 use Rattle.lh_verify_values.specs.Numbers.{Grows, AreNumbersOf}
-use Rattle.lh_verify_values.proofs.Numbering.{numbers-grow, numbers-push}
+use Rattle.lh_verify_values.proofs.TypeNumbers.{numbers-grow, numbers-push}
 use Rattle.lh_verify_values.proofs.KnowingSteps.{take-item, take-all}
 
 -- no argument

@@ -16,7 +16,7 @@ use Rattle.lh_types.specs.declared.val.Val.{Val}
 use Rattle.lh_wave.specs.WaveText.{value_line, differing_lines, any_differs}
 use Rattle.lh_wave.specs.declared.changed.Changed.{Changed}
 use Rattle.lh_wave.specs.Changed.{HasNone, IsNoted, with_number, present_value, present_values}
-use Rattle.lh_wave.proofs.Recording.{IsSameAt, values_drop, passed_over, differs_at, same_differ, from_not}
+use Rattle.lh_wave.proofs.ValueLines.{IsSameAt, values_drop, passed_over, differs_at, same_differ, from_not}
 
 -- the number stands in the list from this place on
 abbrev pub IsAhead : (numbers : List ℕ) → (i : ℕ) → ℕ → Type 0

@@ -1,4 +1,4 @@
-use Rattle.lh_flat_state_laws.proofs.Acting.{flat_texts_act}
+use Rattle.lh_flat_state_laws.proofs.FlatActivations.{flat_texts_act}
 use Rattle.lh_flat_state_laws.proofs.activation_law.Goals as goal
 
 pub returns : goal.returns

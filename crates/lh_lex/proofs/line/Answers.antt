@@ -2,7 +2,7 @@ use Rattle.std.proofs.Common.{◌≡◌, ℕ, List, Some, None, Result, Ok, Err,
 use Rattle.lh_unit.specs.Lexemes.{lexemes}
 use Rattle.lh_unit.specs.Tokens.{tokens, lexeme_at, lexemes_of, fault_place, AreTokensOf, Covers}
 use Rattle.lh_unit.specs.declared.token.Token.{Token}
-use Rattle.lh_unit.proofs.Lexing.{lexemes-tokens, tokens-spelled, tokens-covered}
+use Rattle.lh_unit.proofs.LexedTokens.{lexemes-tokens, tokens-spelled, tokens-covered}
 use Rattle.lh_lex.specs.Faults.{NamesFault, Refuses}
 use Rattle.lh_lex.specs.declared.LexFault.{LexFault}
 use Rattle.lh_lex.specs.declared.LexFault.TheVariants.{BadByte, OutOfMemory}

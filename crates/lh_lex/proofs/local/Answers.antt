@@ -1,6 +1,6 @@
 use Rattle.std.proofs.Common.{◌≡◌, ◌∷◌, true, rules}
 use Rattle.lh_unit.specs.Lexemes.{fits_name}
-use Rattle.lh_lex.proofs.Taking.{local-taken}
+use Rattle.lh_lex.proofs.TokenFronts.{local-taken}
 use Rattle.lh_lex.proofs.local.Goals as goal
 
 pub returns-clause-taken : goal.returns-clause-taken

@@ -1,5 +1,5 @@
 use Rattle.std.proofs.Common.{◌≡◌, ◌∷◌, rules}
-use Rattle.lh_lex.proofs.Taking.{split-taken, split-spelled}
+use Rattle.lh_lex.proofs.TokenFronts.{split-taken, split-spelled}
 use Rattle.lh_lex.proofs.split.Goals as goal
 
 pub returns-clause-taken : goal.returns-clause-taken

@@ -1,6 +1,6 @@
 use Rattle.std.proofs.Common.{◌≡◌, ◌∷◌, true, rules}
 use Rattle.lh_unit_names.specs.Names.{is_name_byte}
-use Rattle.lh_lex.proofs.Taking.{word-taken}
+use Rattle.lh_lex.proofs.TokenFronts.{word-taken}
 use Rattle.lh_lex.proofs.word.Goals as goal
 
 pub returns-clause-taken : goal.returns-clause-taken

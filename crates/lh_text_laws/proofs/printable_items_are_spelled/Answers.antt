@@ -1,4 +1,4 @@
-use Rattle.lh_text_laws.proofs.Printing.{printable_is_spelled}
+use Rattle.lh_text_laws.proofs.PrintableUnits.{printable_is_spelled}
 use Rattle.lh_text_laws.proofs.Printed.{spelled_is_printable}
 use Rattle.lh_text_laws.proofs.printable_items_are_spelled.Goals as goal
 

@@ -1,7 +1,7 @@
 use Rattle.std.proofs.Common.{◌<◌, length, arith}
 use Rattle.std.proofs.lemmas.Bool.Decides.{nat_tests}
 use Rattle.lh_args.proofs.Forms.{if_none}
-use Rattle.lh_args.proofs.Finding.{no_option, given_twice}
+use Rattle.lh_args.proofs.OptionsFound.{no_option, given_twice}
 use Rattle.lh_args.proofs.found.found_in.Goals as goal
 
 pub returns-in_err-setting-clause-none : goal.returns-in_err-setting-clause-none

@@ -1,5 +1,5 @@
 use Rattle.std.proofs.Common.{length}
-use Rattle.lh_args.proofs.Finding.{Progress}
+use Rattle.lh_args.proofs.OptionsFound.{Progress}
 use Rattle.lh_args.proofs.found.found_in.Given as goal
 
 abbrev pub invariant-loop-rest : goal.invariant-loop-rest

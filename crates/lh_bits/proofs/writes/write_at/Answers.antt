@@ -1,5 +1,5 @@
 use Rattle.std.proofs.Common.{◌∙◌}
-use Rattle.lh_bits.proofs.Writing.{found-here, found-later, left-later}
+use Rattle.lh_bits.proofs.WrittenBits.{found-here, found-later, left-later}
 use Rattle.lh_bits.proofs.writes.write_at.Goals as goal
 
 pub returns-then-rest-n : goal.returns-then-rest-n

@@ -1,4 +1,4 @@
-use Rattle.lh_edge.proofs.Resting.{rests}
+use Rattle.lh_edge.proofs.TriggersRest.{rests}
 use Rattle.lh_edge.proofs.laws.rests_without_change.Goals as goal
 
 pub returns : goal.returns

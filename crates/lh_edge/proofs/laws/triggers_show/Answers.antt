@@ -1,4 +1,4 @@
-use Rattle.lh_edge.proofs.Firing.{triggers_show}
+use Rattle.lh_edge.proofs.TriggersFire.{triggers_show}
 use Rattle.lh_edge.proofs.laws.triggers_show.Goals as goal
 
 pub returns : goal.returns

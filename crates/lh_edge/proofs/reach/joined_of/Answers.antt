@@ -6,7 +6,7 @@ use Rattle.lh_term.specs.declared.term.TermId.{TermId}
 use Rattle.lh_term.specs.Arena.{trees}
 use Rattle.lh_term.proofs.Swaps.{term_there}
 use Rattle.lh_term.proofs.Greatest.{Taken, taken, fewer, no-keys}
-use Rattle.lh_term.proofs.Reaching.{ReachedSoFar, reached_start, reached_next, reached_end, next_less}
+use Rattle.lh_term.proofs.TermWalks.{ReachedSoFar, reached_start, reached_next, reached_end, next_less}
 use Rattle.lh_edge.specs.Reached.{joined_by}
 use Rattle.lh_edge.proofs.reach.joined_of.Goals as goal
 

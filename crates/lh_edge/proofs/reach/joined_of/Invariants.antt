@@ -2,7 +2,7 @@ use Rattle.std.specs.Ordering.{nat_cmp}
 use Rattle.std.specs.BTreeSet as sorted
 use Rattle.lh_term.specs.Arena.{trees}
 use Rattle.lh_term.proofs.Greatest.{top}
-use Rattle.lh_term.proofs.Reaching.{ReachedSoFar}
+use Rattle.lh_term.proofs.TermWalks.{ReachedSoFar}
 use Rattle.lh_edge.specs.Reached.{joined_by}
 use Rattle.lh_edge.proofs.reach.joined_of.Given as goal
 

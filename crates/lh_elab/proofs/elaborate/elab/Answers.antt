@@ -9,7 +9,7 @@ use Rattle.lh_elab.specs.declared.build.Building.{Building}
 use Rattle.lh_elab.specs.declared.build.Pending.{Pending}
 use Rattle.lh_elab_plan.specs.Plans.{IsPlan}
 use Rattle.lh_elab.proofs.ByName.{reads}
-use Rattle.lh_elab.proofs.Elaborating.{top-ports, top-fits, starts, ends, built-is, refuses, final}
+use Rattle.lh_elab.proofs.ElaborationEnds.{top-ports, top-fits, starts, ends, built-is, refuses, final}
 use Rattle.lh_elab.proofs.Underway.{Popped, next-fits, few-instances, has-room, children-low, falls, goes-on}
 use Rattle.lh_elab.proofs.Connected.{starts-connected, still-connected, answers}
 use Rattle.lh_elab.proofs.elaborate.elab.Goals as goal

@@ -3,7 +3,7 @@ use Rattle.lh_unit.specs.Hierarchy.{hierarchies}
 use Rattle.lh_elab.specs.Elaborates.{ArePlans}
 use Rattle.lh_elab.proofs.Underway.{Underway, counts}
 use Rattle.lh_elab.proofs.Walks.{left}
-use Rattle.lh_elab.proofs.Elaborating.{final}
+use Rattle.lh_elab.proofs.ElaborationEnds.{final}
 use Rattle.lh_elab.proofs.Connected.{Connected}
 use Rattle.lh_elab.proofs.elaborate.elab.Given as goal
 

@@ -1,4 +1,4 @@
-use Rattle.lh_elab.proofs.Reading.{entity-insts}
+use Rattle.lh_elab.proofs.InstanceGraph.{entity-insts}
 use Rattle.lh_unit.specs.Arena.{inst_count}
 use Rattle.lh_unit.proofs.ModuleLaws.{insts-at}
 use Rattle.lh_elab.proofs.graph.entity_node.Goals as goal

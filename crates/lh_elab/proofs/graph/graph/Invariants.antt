@@ -1,4 +1,4 @@
-use Rattle.lh_elab.proofs.Reading.{GraphTo}
+use Rattle.lh_elab.proofs.InstanceGraph.{GraphTo}
 use Rattle.lh_elab.proofs.graph.graph.Given as goal
 
 abbrev pub invariant-loop-unit : goal.invariant-loop-unit

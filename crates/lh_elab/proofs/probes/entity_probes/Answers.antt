@@ -8,7 +8,7 @@ use Rattle.lh_elab.specs.declared.probes.Probe.{Probe}
 use Rattle.lh_elab_plan.specs.Plans.{AreRangesOf}
 use Rattle.lh_elab.specs.Probed.{above, probed_in}
 use Rattle.lh_elab_plan.proofs.PlanSteps.{insts-in}
-use Rattle.lh_elab.proofs.Probing.{entity-probes, in-each}
+use Rattle.lh_elab.proofs.EntityProbes.{entity-probes, in-each}
 use Rattle.lh_elab.proofs.probes.entity_probes.Goals as goal
 
 pub probes_in-requires-clause-insts : goal.probes_in-requires-clause-insts

@@ -7,7 +7,7 @@ use Rattle.lh_unit.specs.declared.inst.InstId.{InstId}
 use Rattle.lh_elab.specs.Probed.{above}
 use Rattle.lh_verify_laws.proofs.EachItem.{each-rest}
 use Rattle.lh_elab_plan.proofs.StaticSteps.{line_in}
-use Rattle.lh_elab.proofs.Probing.{more-probes, all-probes}
+use Rattle.lh_elab.proofs.EntityProbes.{more-probes, all-probes}
 use Rattle.lh_elab.proofs.probes.probes_in.Goals as goal
 
 pub loop-inst-preserved : goal.loop-inst-preserved

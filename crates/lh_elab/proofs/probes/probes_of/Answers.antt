@@ -4,7 +4,7 @@ use Rattle.lh_unit.specs.Within.{Each}
 use Rattle.lh_eval.specs.declared.instance.Instance.{Instance}
 use Rattle.lh_elab.specs.Answer.{InstanceIs}
 use Rattle.lh_elab.specs.Probed.{probed_by, ProbesOf}
-use Rattle.lh_elab.proofs.Probing.{IsWithin, instance-is, unit-senses, senses, probes-few, next-probed, all-within}
+use Rattle.lh_elab.proofs.EntityProbes.{IsWithin, instance-is, unit-senses, senses, probes-few, next-probed, all-within}
 use Rattle.lh_elab.proofs.probes.probes_of.Goals as goal
 
 pub parts_at-requires : goal.parts_at-requires

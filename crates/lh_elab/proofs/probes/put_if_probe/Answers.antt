@@ -1,6 +1,6 @@
 use Rattle.std.proofs.Common.{◌≡◌, [], ◌∷◌, ◌++◌, sym, ◌∙◌}
 use Rattle.std.proofs.lemmas.Result.{on_ok_weaker}
-use Rattle.lh_elab.proofs.Probing.{probe-more, probe-none}
+use Rattle.lh_elab.proofs.EntityProbes.{probe-more, probe-none}
 use Rattle.lh_elab.proofs.probes.put_if_probe.Goals as goal
 
 pub returns-in-Some : goal.returns-in-Some

@@ -5,7 +5,7 @@ use Rattle.lh_unit.specs.Naming.{kind_text}
 use Rattle.lh_elab.specs.Graph.{max_counted}
 use Rattle.lh_elab.specs.Refusals.{arg_bits_of, limited}
 use Rattle.lh_elab.proofs.Placed.{limit-within}
-use Rattle.lh_elab.proofs.Refusing.{refuses-function, Refuses-measured, Refuses-limited}
+use Rattle.lh_elab.proofs.RefusalLaws.{refuses-function, Refuses-measured, Refuses-limited}
 use Rattle.lh_elab.proofs.refusal.first_refusal.Goals as goal
 
 pub returns-then-is_function-clause-refuses : goal.returns-then-is_function-clause-refuses

@@ -3,7 +3,7 @@ use Rattle.lh_unit_graph.specs.Measures.{NodesWithin}
 use Rattle.lh_elab.specs.Measures.{measuring}
 use Rattle.lh_elab.specs.Graph.{IsGraph}
 use Rattle.lh_elab.proofs.Placed.{found-within}
-use Rattle.lh_elab.proofs.Reading.{graph-within}
+use Rattle.lh_elab.proofs.InstanceGraph.{graph-within}
 use Rattle.lh_elab.proofs.refusal.measured.Goals as goal
 
 pub measure_of-requires-clause-within : goal.measure_of-requires-clause-within

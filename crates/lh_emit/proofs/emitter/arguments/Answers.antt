@@ -1,4 +1,4 @@
-use Rattle.lh_emit.proofs.Beginning.{args-first, args-next, args-end}
+use Rattle.lh_emit.proofs.EmptyEntity.{args-first, args-next, args-end}
 use Rattle.lh_emit.proofs.emitter.arguments.Goals as goal
 
 pub loop-left-init : goal.loop-left-init

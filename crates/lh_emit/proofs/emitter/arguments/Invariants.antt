@@ -1,5 +1,5 @@
 use Rattle.std.proofs.Common.{length}
-use Rattle.lh_emit.proofs.Beginning.{AddingArgs}
+use Rattle.lh_emit.proofs.EmptyEntity.{AddingArgs}
 use Rattle.lh_emit.proofs.emitter.arguments.Given as goal
 
 abbrev pub invariant-loop-left : goal.invariant-loop-left

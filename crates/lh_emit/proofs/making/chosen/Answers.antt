@@ -2,7 +2,7 @@ use Rattle.std.proofs.Common.{sym, ap, ◌∙◌}
 use Rattle.std.specs.Option.{is_none}
 use Rattle.lh_types.specs.Faults.{array_fault}
 use Rattle.lh_term.specs.Arena.{trees, tree_at}
-use Rattle.lh_emit.proofs.Composing.{chosen-made}
+use Rattle.lh_emit.proofs.TermParts.{chosen-made}
 use Rattle.lh_emit.proofs.making.chosen.Goals as goal
 use Rattle.lh_emit_def.proofs.Pairs.{pair-typed}
 

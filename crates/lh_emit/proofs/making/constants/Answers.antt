@@ -4,7 +4,7 @@ use Rattle.lh_term.specs.Tree.{constant}
 use Rattle.lh_term.specs.Arena.{StandsForTree}
 use Rattle.lh_types.specs.declared.val.Val.{Val}
 use Rattle.lh_term.proofs.Swaps.{grows_on}
-use Rattle.lh_emit.proofs.Composing.{constants-next, constants-end}
+use Rattle.lh_emit.proofs.TermParts.{constants-next, constants-end}
 use Rattle.lh_emit.proofs.making.constants.Goals as goal
 
 pub loop-left-preserved : goal.loop-left-preserved

@@ -1,5 +1,5 @@
 use Rattle.std.proofs.Common.{length}
-use Rattle.lh_emit.proofs.Composing.{ConstantsSoFar}
+use Rattle.lh_emit.proofs.TermParts.{ConstantsSoFar}
 use Rattle.lh_emit.proofs.making.constants.Given as goal
 
 abbrev pub invariant-loop-left : goal.invariant-loop-left

@@ -1,4 +1,4 @@
-use Rattle.lh_emit.proofs.Composing.{values-made, values-fit, choice-parts, choice-typed}
+use Rattle.lh_emit.proofs.TermParts.{values-made, values-fit, choice-parts, choice-typed}
 use Rattle.lh_emit.proofs.making.made_of.Goals as goal
 
 pub constants-requires : goal.constants-requires

@@ -1,5 +1,5 @@
 use Rattle.std.proofs.Common.{◌∙◌}
-use Rattle.lh_emit.proofs.Composing.{made-op}
+use Rattle.lh_emit.proofs.TermParts.{made-op}
 use Rattle.lh_emit.proofs.making.needs_of.Goals as goal
 
 pub returns-in_ok-from_slice-in-Op : goal.returns-in_ok-from_slice-in-Op

@@ -1,4 +1,4 @@
-use Rattle.lh_emit.proofs.Composing.{parts-copied}
+use Rattle.lh_emit.proofs.TermParts.{parts-copied}
 use Rattle.lh_emit.proofs.making.parts_of.Goals as goal
 
 pub returns-in-Array : goal.returns-in-Array

@@ -1,7 +1,7 @@
 use Rattle.std.proofs.Common.{◌≡◌, ◌++◌, ◌∷◌, [], ◌<◌, ◌≤◌, length, drop, get_or, refl, ap, ◌∙◌, arith}
 use Rattle.lh_emit.specs.Operands.{with_type}
 use Rattle.lh_emit.specs.Operations.{each_with_type}
-use Rattle.lh_emit.proofs.Operating.{each-in, each-next, each-all}
+use Rattle.lh_emit.proofs.OperationOperands.{each-in, each-next, each-all}
 use Rattle.lh_emit.proofs.operations.each_typed.Goals as goal
 
 pub ty-requires : goal.ty-requires

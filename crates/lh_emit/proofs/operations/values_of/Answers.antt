@@ -1,6 +1,6 @@
 use Rattle.std.proofs.Common.{◌≡◌, ◌++◌, ◌∷◌, [], ◌<◌, ◌≤◌, length, map, drop, Some, refl, ap, ◌∙◌, arith}
 use Rattle.lh_emit.specs.Values.{value_in}
-use Rattle.lh_emit.proofs.Operating.{has-value, value-next, value-all}
+use Rattle.lh_emit.proofs.OperationOperands.{has-value, value-next, value-all}
 use Rattle.lh_emit.proofs.operations.values_of.Goals as goal
 
 pub value_of-requires : goal.value_of-requires

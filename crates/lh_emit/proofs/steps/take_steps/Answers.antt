@@ -1,5 +1,5 @@
 use Rattle.std.proofs.Common.{◌≡◌, ◌∙◌, length, get_or, refl, ap, arith}
-use Rattle.lh_emit.proofs.Walking.{walks-first, walks-on, walks-cause, walks-end, step-can, types-left, type-first, err-cause, gives-fault}
+use Rattle.lh_emit.proofs.StepLaws.{walks-first, walks-on, walks-cause, walks-end, step-can, types-left, type-first, err-cause, gives-fault}
 use Rattle.lh_emit.specs.Steps.{WalksNot}
 use Rattle.lh_emit.proofs.steps.take_steps.Goals as goal
 

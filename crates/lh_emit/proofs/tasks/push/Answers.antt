@@ -1,4 +1,4 @@
-use Rattle.lh_emit.proofs.Stacking.{pushed}
+use Rattle.lh_emit.proofs.TaskStacks.{pushed}
 use Rattle.lh_emit.proofs.tasks.push.Goals as goal
 
 pub returns : goal.returns

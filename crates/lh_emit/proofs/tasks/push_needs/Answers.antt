@@ -1,5 +1,5 @@
 use Rattle.std.proofs.Common.{◌≡◌, ◌-◌, length, refl, arith}
-use Rattle.lh_emit.proofs.Stacking.{needs-first, needs-next, needs-end}
+use Rattle.lh_emit.proofs.TaskStacks.{needs-first, needs-next, needs-end}
 use Rattle.lh_emit.proofs.tasks.push_needs.Goals as goal
 
 pub loop-k-init : goal.loop-k-init

@@ -1,5 +1,5 @@
 use Rattle.std.proofs.Common.{◌≡◌, ◌+◌, length, get_or, ◌∷◌, [], None, ap, ◌∙◌, arith, length-append}
-use Rattle.lh_emit.proofs.Valuing.{none-more}
+use Rattle.lh_emit.proofs.ValuePlaces.{none-more}
 use Rattle.lh_emit.proofs.values.make_room.Goals as goal
 
 pub loop-items-preserved : goal.loop-items-preserved

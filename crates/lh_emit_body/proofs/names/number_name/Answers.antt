@@ -1,7 +1,7 @@
 use Rattle.std.proofs.Common.{◌≡◌, ◌++◌, [], ◌∷◌, ap, sym, ◌∙◌, subst, arith, decimal}
 use Rattle.lh_unit_names.specs.Names.{IsName}
 use Rattle.lh_emit_def.specs.Names.{value_name}
-use Rattle.lh_emit_def.proofs.Naming.{number-name}
+use Rattle.lh_emit_def.proofs.ValueNames.{number-name}
 use Rattle.lh_emit_body.proofs.names.number_name.Goals as goal
 
 pub new-requires : goal.new-requires

@@ -1,10 +1,10 @@
 use Rattle.lh_unit.specs.declared.inst.Inst.TheVariants as inst
 use Rattle.lh_term.proofs.Swaps.{grows_on}
 use Rattle.lh_emit_shapes.specs.Putting.{PutsDriveNot}
-use Rattle.lh_emit_shapes.proofs.Testing.{err-memory}
+use Rattle.lh_emit_shapes.proofs.ConditionNeeds.{err-memory}
 use Rattle.lh_emit_shapes.proofs.Driven.{can-delay, can-cond, can-part, value-not, after-value, delay-not, after-delay, cond-not, after-cond, part-not, has-room, drv-within, put-ok, put-err}
 use Rattle.lh_emit_shapes.proofs.bodies.put_drive.Goals as goal
-use Rattle.lh_emit.proofs.Walking.{err-cause}
+use Rattle.lh_emit.proofs.StepLaws.{err-cause}
 
 pub returns-in_err-value-clause-cause : goal.returns-in_err-value-clause-cause
 returns-in_err-value-clause-cause c =

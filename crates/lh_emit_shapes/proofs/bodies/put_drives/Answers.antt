@@ -3,10 +3,10 @@ use Rattle.std.proofs.lemmas.List.{drop_all}
 use Rattle.lh_unit.proofs.Lists.{drop-item}
 use Rattle.lh_term.proofs.Swaps.{grows_on}
 use Rattle.lh_emit_shapes.specs.Putting.{PutsDrivesNot}
-use Rattle.lh_emit_shapes.proofs.Growing.{grows-same}
+use Rattle.lh_emit_shapes.proofs.RowGrowth.{grows-same}
 use Rattle.lh_emit_shapes.proofs.Drives.{drives-begin, drives-can, drives-next, drives-not, drives-end}
 use Rattle.lh_emit_shapes.proofs.bodies.put_drives.Goals as goal
-use Rattle.lh_emit.proofs.Walking.{err-cause}
+use Rattle.lh_emit.proofs.StepLaws.{err-cause}
 
 pub returns-in_err-put_drive-clause-cause : goal.returns-in_err-put_drive-clause-cause
 returns-in_err-put_drive-clause-cause c =

@@ -3,7 +3,7 @@ use Rattle.lh_unit.specs.declared.inst.Inst.TheVariants as inst
 use Rattle.lh_emit_shapes.specs.Putting.{PutsRegisterNot}
 use Rattle.lh_emit_shapes.proofs.Registers.{none-registered, reg-triggers-not, reg-can-part, reg-part-not, reg-has-room, reg-within, reg-put-ok, reg-put-err}
 use Rattle.lh_emit_shapes.proofs.bodies.put_register.Goals as goal
-use Rattle.lh_emit.proofs.Walking.{err-cause}
+use Rattle.lh_emit.proofs.StepLaws.{err-cause}
 
 pub returns-then-len-eq0-clause-put : goal.returns-then-len-eq0-clause-put
 returns-then-len-eq0-clause-put c = none-registered c.args.origin.now c.args.row.now c.args.terms.now c.args.emitter.now (sym c.len.ensures ∙ grind (arith, c.if-len-eq0.true))

@@ -3,10 +3,10 @@ use Rattle.std.proofs.lemmas.List.{drop_all}
 use Rattle.lh_unit.proofs.Lists.{drop-item}
 use Rattle.lh_term.proofs.Swaps.{grows_on}
 use Rattle.lh_emit_shapes.specs.Putting.{PutsRegistersNot}
-use Rattle.lh_emit_shapes.proofs.Growing.{grows-same}
+use Rattle.lh_emit_shapes.proofs.RowGrowth.{grows-same}
 use Rattle.lh_emit_shapes.proofs.Registers.{registers-begin, registers-can, registers-next, registers-not, registers-end}
 use Rattle.lh_emit_shapes.proofs.bodies.put_registers.Goals as goal
-use Rattle.lh_emit.proofs.Walking.{err-cause}
+use Rattle.lh_emit.proofs.StepLaws.{err-cause}
 
 pub returns-in_err-put_register-clause-cause : goal.returns-in_err-put_register-clause-cause
 returns-in_err-put_register-clause-cause c =

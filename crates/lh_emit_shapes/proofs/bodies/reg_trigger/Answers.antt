@@ -3,7 +3,7 @@ use Rattle.lh_emit_shapes.specs.Putting.{NeedsTriggerNot}
 use Rattle.lh_emit_shapes.proofs.Tells.{names-then}
 use Rattle.lh_emit_shapes.proofs.Triggered.{can-now, can-gate, can-delay, value-not, after-value, now-not, after-now, gate-not, after-gate, delay-not, needs-trigger}
 use Rattle.lh_emit_shapes.proofs.bodies.reg_trigger.Goals as goal
-use Rattle.lh_emit.proofs.Walking.{err-cause}
+use Rattle.lh_emit.proofs.StepLaws.{err-cause}
 
 pub returns-in_err-value-clause-cause : goal.returns-in_err-value-clause-cause
 returns-in_err-value-clause-cause c =

@@ -3,11 +3,11 @@ use Rattle.std.proofs.lemmas.List.{drop_all}
 use Rattle.lh_unit.proofs.Lists.{drop-item}
 use Rattle.lh_term.proofs.Swaps.{grows_on}
 use Rattle.lh_emit_shapes.specs.Putting.{NeedsTriggersNot}
-use Rattle.lh_emit_shapes.proofs.Testing.{err-memory}
-use Rattle.lh_emit_shapes.proofs.Growing.{grows-same}
+use Rattle.lh_emit_shapes.proofs.ConditionNeeds.{err-memory}
+use Rattle.lh_emit_shapes.proofs.RowGrowth.{grows-same}
 use Rattle.lh_emit_shapes.proofs.Registers.{TriggersSoFar, triggers-begin, triggers-can, triggers-next, triggers-not, triggers-end}
 use Rattle.lh_emit_shapes.proofs.bodies.row_triggers.Goals as goal
-use Rattle.lh_emit.proofs.Walking.{err-cause}
+use Rattle.lh_emit.proofs.StepLaws.{err-cause}
 
 pub loop-trigger-init : goal.loop-trigger-init
 loop-trigger-init c =

@@ -1,4 +1,4 @@
-use Rattle.lh_emit_source.proofs.Keeping.{takes-none, takes-seen, takes-new}
+use Rattle.lh_emit_source.proofs.FirstSteps.{takes-none, takes-seen, takes-new}
 use Rattle.lh_emit_source.proofs.origin.take.Goals as goal
 
 pub returns-in_default : goal.returns-in_default

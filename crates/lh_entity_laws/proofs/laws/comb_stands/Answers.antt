@@ -1,5 +1,5 @@
 use Rattle.lh_flat_state_laws.specs.Lasting.{Lasting}
-use Rattle.lh_entity_laws.proofs.Assembling.{each-comb}
+use Rattle.lh_entity_laws.proofs.StandsForProcess.{each-comb}
 use Rattle.lh_entity_laws.proofs.Instances.{reach-over}
 use Rattle.lh_entity_laws.proofs.laws.comb_stands.Goals as goal
 

@@ -1,4 +1,4 @@
-use Rattle.lh_entity_laws.proofs.Assembling.{all-stand}
+use Rattle.lh_entity_laws.proofs.StandsForProcess.{all-stand}
 use Rattle.lh_entity_laws.proofs.laws.lowered_stands.Goals as goal
 
 pub returns : goal.returns

@@ -1,5 +1,5 @@
 use Rattle.lh_flat_state_laws.specs.Lasting.{Lasting}
-use Rattle.lh_entity_laws.proofs.Assembling.{each-once}
+use Rattle.lh_entity_laws.proofs.StandsForProcess.{each-once}
 use Rattle.lh_entity_laws.proofs.Instances.{reach-over}
 use Rattle.lh_entity_laws.proofs.laws.once_stands.Goals as goal
 

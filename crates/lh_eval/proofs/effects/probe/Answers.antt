@@ -2,7 +2,7 @@ use Rattle.std.proofs.Common.{sym, ◌∙◌}
 use Rattle.lh_types.specs.ValueOf.{datum_of}
 use Rattle.lh_unit.specs.Arena.{naming}
 use Rattle.lh_unit.specs.Naming.{operand_text}
-use Rattle.lh_eval.proofs.Holding.{same-held}
+use Rattle.lh_eval.proofs.HeldByIds.{same-held}
 use Rattle.lh_eval.proofs.PartsRead.{probe-is}
 use Rattle.lh_eval.proofs.effects.probe.Goals as goal
 

@@ -1,4 +1,4 @@
-use Rattle.lh_eval.proofs.Holding.{holds-same, holds-more, holds-given, holds-nothing}
+use Rattle.lh_eval.proofs.HeldByIds.{holds-same, holds-more, holds-given, holds-nothing}
 use Rattle.lh_eval.proofs.laws.held_law.Goals as goal
 
 pub returns : goal.returns

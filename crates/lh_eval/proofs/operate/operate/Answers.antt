@@ -8,7 +8,7 @@ use Rattle.lh_unit.specs.Naming.{operand_text}
 use Rattle.lh_unit.specs.Within.{Each}
 use Rattle.lh_unit.specs.declared.inst.Typed.{Typed}
 use Rattle.lh_eval.specs.Holding.{data_in}
-use Rattle.lh_eval.proofs.Holding.{same-held}
+use Rattle.lh_eval.proofs.HeldByIds.{same-held}
 use Rattle.lh_eval.proofs.PartsRead.{of-applied, of-not_applied}
 use Rattle.lh_eval.proofs.operate.operate.Goals as goal
 

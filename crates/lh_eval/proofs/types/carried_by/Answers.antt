@@ -5,7 +5,7 @@ use Rattle.lh_unit.specs.Arena.{args_at, naming}
 use Rattle.lh_unit.specs.Naming.{inst_text}
 use Rattle.lh_unit.specs.Typing.{carried, result_type}
 use Rattle.lh_unit.specs.declared.inst.Arg.{Arg}
-use Rattle.lh_unit.proofs.Giving.{value_type-argument, value_type-instruction, value_type-missing}
+use Rattle.lh_unit.proofs.DefinitionsGive.{value_type-argument, value_type-instruction, value_type-missing}
 use Rattle.lh_eval.proofs.types.carried_by.Goals as goal
 
 pub returns-in-Missing : goal.returns-in-Missing

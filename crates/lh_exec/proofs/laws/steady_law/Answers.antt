@@ -1,5 +1,5 @@
 use Rattle.lh_exec.proofs.BeginsHeld.{begin-holds, activation-steady}
-use Rattle.lh_eval_laws.proofs.Finding.{is-some}
+use Rattle.lh_eval_laws.proofs.OperandsFound.{is-some}
 use Rattle.lh_unit.specs.Activation.{control_at}
 use Rattle.lh_unit.specs.Arena.{unit_text_at}
 use Rattle.lh_exec.proofs.laws.steady_law.Goals as goal

@@ -1,6 +1,6 @@
 use Rattle.std.proofs.Common.{arith, ◌∙◌}
 use Rattle.lh_flat.specs.Graph.{node_of}
-use Rattle.lh_flat.proofs.Reading.{GraphTo-none, GraphTo-push, GraphTo-all}
+use Rattle.lh_flat.proofs.CallGraph.{GraphTo-none, GraphTo-push, GraphTo-all}
 use Rattle.lh_flat.proofs.calls.graph.Goals as goal
 
 pub loop-unit-init : goal.loop-unit-init

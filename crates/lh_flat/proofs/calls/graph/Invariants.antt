@@ -1,4 +1,4 @@
-use Rattle.lh_flat.proofs.Reading.{GraphTo}
+use Rattle.lh_flat.proofs.CallGraph.{GraphTo}
 use Rattle.lh_flat.proofs.calls.graph.Given as goal
 
 abbrev pub invariant-loop-unit : goal.invariant-loop-unit

@@ -1,4 +1,4 @@
-use Rattle.lh_flat.proofs.Reading.{placed-at}
+use Rattle.lh_flat.proofs.CallGraph.{placed-at}
 use Rattle.lh_flat.proofs.calls.unit_node.Goals as goal
 
 pub take_block-requires : goal.take_block-requires

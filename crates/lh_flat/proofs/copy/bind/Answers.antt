@@ -1,7 +1,7 @@
 use Rattle.std.proofs.Common.{◌-◌, refl, sym, ◌∙◌, subst, arith}
 use Rattle.lh_unit.specs.Table.{ArgsWithin}
-use Rattle.lh_unit.proofs.Placing.{ArgsWithin-at}
-use Rattle.lh_flat.proofs.Building.{bound-none}
+use Rattle.lh_unit.proofs.PlacedIds.{ArgsWithin-at}
+use Rattle.lh_flat.proofs.BuilderRoom.{bound-none}
 use Rattle.lh_flat.proofs.copy.bind.Goals as goal
 
 pub loop-k-init : goal.loop-k-init

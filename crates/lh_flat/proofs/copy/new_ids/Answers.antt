@@ -1,7 +1,7 @@
 use Rattle.std.proofs.Common.{◌≡◌, ◌+◌, ◌∷◌, [], length, ap, ◌∙◌, sym, arith}
 use Rattle.std.proofs.lemmas.List.{length-append}
 use Rattle.lh_flat.specs.Building.{new_ids}
-use Rattle.lh_flat.proofs.Building.{ids-next}
+use Rattle.lh_flat.proofs.BuilderRoom.{ids-next}
 use Rattle.lh_flat.proofs.copy.new_ids.Goals as goal
 
 pub loop-id-preserved : goal.loop-id-preserved

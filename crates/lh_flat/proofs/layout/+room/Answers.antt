@@ -6,8 +6,8 @@ use Rattle.lh_unit.specs.Arena.{Arena, inst_at}
 use Rattle.lh_unit.specs.declared.inst.BlockId.{BlockId}
 use Rattle.lh_unit.specs.declared.inst.InstId.{InstId}
 use Rattle.lh_unit.specs.declared.inst.UnitId.{UnitId}
-use Rattle.lh_flat.proofs.Reading.{placed-at}
-use Rattle.lh_flat.proofs.Building.{no_room, flat_room, room-more}
+use Rattle.lh_flat.proofs.CallGraph.{placed-at}
+use Rattle.lh_flat.proofs.BuilderRoom.{no_room, flat_room, room-more}
 use Rattle.lh_flat.specs.Graph.{callee_of}
 use Rattle.lh_flat.specs.Building.{insts_room, block_room, blocks_room, unit_room, call_room}
 use Rattle.lh_flat.proofs.layout.+room.Goals as goal

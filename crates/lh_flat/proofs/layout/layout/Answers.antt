@@ -4,7 +4,7 @@ use Rattle.lh_unit.specs.Arena.{block_insts_at}
 use Rattle.lh_unit.specs.declared.inst.BlockId.{BlockId}
 use Rattle.lh_flat.specs.Building.{call_room, insts_room, spans_with, span_at}
 use Rattle.lh_flat.specs.Renames.{no_span}
-use Rattle.lh_flat.proofs.Reading.{placed-at}
+use Rattle.lh_flat.proofs.CallGraph.{placed-at}
 use Rattle.lh_flat.proofs.layout.layout.Goals as goal
 
 pub insts_room-requires : goal.insts_room-requires

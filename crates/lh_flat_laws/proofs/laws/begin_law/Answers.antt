@@ -1,4 +1,4 @@
-use Rattle.lh_flat_laws.proofs.Activating.{begins_alike}
+use Rattle.lh_flat_laws.proofs.FlatActivations.{begins_alike}
 use Rattle.lh_flat_laws.proofs.laws.begin_law.Goals as goal
 
 pub returns : goal.returns

@@ -1,4 +1,4 @@
-use Rattle.lh_flat_laws.proofs.Tidying.{functions_are_tidy, processes_are_tidy}
+use Rattle.lh_flat_laws.proofs.TidyUnits.{functions_are_tidy, processes_are_tidy}
 use Rattle.lh_flat_laws.proofs.laws.tidy_law.Goals as goal
 
 pub returns : goal.returns

@@ -1,4 +1,4 @@
-use Rattle.lh_flat_state_laws.proofs.Padding.{padded_bits}
+use Rattle.lh_flat_state_laws.proofs.ZeroPadding.{padded_bits}
 use Rattle.lh_flat_state_laws.proofs.zeros.bits_law.Goals as goal
 
 pub returns : goal.returns

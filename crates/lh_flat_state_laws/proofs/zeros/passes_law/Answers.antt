@@ -1,4 +1,4 @@
-use Rattle.lh_flat_state_laws.proofs.Padding.{padded_passes}
+use Rattle.lh_flat_state_laws.proofs.ZeroPadding.{padded_passes}
 use Rattle.lh_flat_state_laws.proofs.zeros.passes_law.Goals as goal
 
 pub returns : goal.returns

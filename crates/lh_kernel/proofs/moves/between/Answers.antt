@@ -1,4 +1,4 @@
-use Rattle.lh_kernel.proofs.Moving.{parts_same, between_same, between_are}
+use Rattle.lh_kernel.proofs.ActivationMoves.{parts_same, between_same, between_are}
 use Rattle.lh_kernel.proofs.moves.between.Goals as goal
 
 pub returns-then-eq : goal.returns-then-eq

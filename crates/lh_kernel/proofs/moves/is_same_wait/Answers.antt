@@ -1,5 +1,5 @@
 use Rattle.std.proofs.Common.{◌≡◌, ◌∙◌, rules, sym}
-use Rattle.lh_kernel.proofs.Moving.{parts_same}
+use Rattle.lh_kernel.proofs.ActivationMoves.{parts_same}
 use Rattle.lh_kernel.proofs.moves.is_same_wait.Goals as goal
 
 pub returns-then-eq : goal.returns-then-eq

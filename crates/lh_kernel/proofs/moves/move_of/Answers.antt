@@ -1,4 +1,4 @@
-use Rattle.lh_kernel.proofs.Moving.{move_by}
+use Rattle.lh_kernel.proofs.ActivationMoves.{move_by}
 use Rattle.lh_kernel.proofs.moves.move_of.Goals as goal
 
 pub returns : goal.returns

@@ -5,7 +5,7 @@ use Rattle.lh_kernel_states.specs.declared.state.InstState.{InstState}
 use Rattle.lh_unit.proofs.Lists.{Each-item}
 use Rattle.lh_kernel.specs.Moves.{IsMove, SensesFit, SensesAsBefore}
 use Rattle.lh_kernel.specs.declared.noted.Move.{Move}
-use Rattle.lh_kernel.proofs.Moving.{AreKnownMoves, moves_none, moves_next, moves_still, moves_all, read_item, left_read, entered_read}
+use Rattle.lh_kernel.proofs.ActivationMoves.{AreKnownMoves, moves_none, moves_next, moves_still, moves_all, read_item, left_read, entered_read}
 use Rattle.lh_kernel.proofs.moves.moves_of.Goals as goal
 use Rattle.lh_kernel.proofs.moves.moves_of.Goals.{then-not-senses_as_before+in_ok-move_of+in_ok-push, else-not-senses_as_before}
 

@@ -1,5 +1,5 @@
 use Rattle.std.proofs.Common.{take}
-use Rattle.lh_kernel.proofs.Moving.{AreKnownMoves}
+use Rattle.lh_kernel.proofs.ActivationMoves.{AreKnownMoves}
 use Rattle.lh_kernel.proofs.moves.moves_of.Given as goal
 
 abbrev pub invariant-loop-done : goal.invariant-loop-done

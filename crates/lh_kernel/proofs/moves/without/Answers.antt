@@ -1,5 +1,5 @@
 use Rattle.std.proofs.Common.{ℕ, List, ◌+◌, get_or, refl, sym, ◌∙◌, subst, true≢false}
-use Rattle.lh_kernel.proofs.Moving.{LeftOver, over_more, over_same, over_all}
+use Rattle.lh_kernel.proofs.ActivationMoves.{LeftOver, over_more, over_same, over_all}
 use Rattle.lh_kernel.proofs.moves.without.Goals as goal
 use Rattle.lh_kernel.proofs.moves.without.Goals.{then-not-has+in_ok-enter, else-not-has}
 

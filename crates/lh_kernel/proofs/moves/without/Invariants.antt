@@ -1,4 +1,4 @@
-use Rattle.lh_kernel.proofs.Moving.{LeftOver}
+use Rattle.lh_kernel.proofs.ActivationMoves.{LeftOver}
 use Rattle.lh_kernel.proofs.moves.without.Given as goal
 
 abbrev pub invariant-loop-number : goal.invariant-loop-number

@@ -1,4 +1,4 @@
-use Rattle.lh_kernel.proofs.Looking.{looked_width}
+use Rattle.lh_kernel.proofs.LookedBits.{looked_width}
 use Rattle.lh_kernel.proofs.plan.changes_in.Goals as goal
 
 pub all_changes-requires-clause-width : goal.all_changes-requires-clause-width

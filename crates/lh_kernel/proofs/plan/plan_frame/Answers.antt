@@ -1,5 +1,5 @@
 use Rattle.lh_kernel.specs.Phases.{awake_in}
-use Rattle.lh_kernel.proofs.Noting.{on_err}
+use Rattle.lh_kernel.proofs.NotedInstances.{on_err}
 use Rattle.lh_kernel.proofs.Tallies.{rises_activated}
 use Rattle.lh_kernel.proofs.plan.plan_frame.Goals as goal
 

@@ -2,7 +2,7 @@ use Rattle.std.proofs.Common.{List, length, ap, ◌∙◌}
 use Rattle.lh_kernel.specs.declared.run.Activation.{Activation}
 use Rattle.lh_kernel.specs.Puts.{wishes_ran}
 use Rattle.lh_kernel.specs.Ran.{outcomes_ran}
-use Rattle.lh_kernel.proofs.Looking.{moves_fit, moves_as}
+use Rattle.lh_kernel.proofs.LookedBits.{moves_fit, moves_as}
 use Rattle.lh_kernel.proofs.plan.plan_ran.Goals as goal
 
 pub moves_of-requires-clause-fit : goal.moves_of-requires-clause-fit

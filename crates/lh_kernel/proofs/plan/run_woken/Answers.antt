@@ -3,8 +3,8 @@ use Rattle.lh_kernel_states.specs.declared.state.InstState.{InstState}
 use Rattle.lh_kernel.specs.States.{StatesFit}
 use Rattle.lh_kernel.specs.Phases.{awake_in}
 use Rattle.lh_kernel.proofs.Next.{none_by, some_by}
-use Rattle.lh_kernel.proofs.Looking.{looked_width, looked_fit, all_awake, some_awake, rises_awake, known_awake, ran_by, tally_by, err_by, are_asleep}
-use Rattle.lh_kernel.proofs.Noting.{on_err}
+use Rattle.lh_kernel.proofs.LookedBits.{looked_width, looked_fit, all_awake, some_awake, rises_awake, known_awake, ran_by, tally_by, err_by, are_asleep}
+use Rattle.lh_kernel.proofs.NotedInstances.{on_err}
 use Rattle.lh_kernel.proofs.Tallies.{rises_none}
 use Rattle.lh_kernel.proofs.plan.run_woken.Goals as goal
 

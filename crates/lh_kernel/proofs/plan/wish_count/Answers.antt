@@ -1,7 +1,7 @@
 use Rattle.std.proofs.Common.{◌≡◌, ◌∙◌, ◌+◌, ℕ, List, length, drop, ap, arith}
 use Rattle.lh_kernel.specs.Puts.{wishes_ran}
 use Rattle.lh_kernel.specs.declared.run.Activation.{Activation}
-use Rattle.lh_kernel.proofs.Putting.{count_on}
+use Rattle.lh_kernel.proofs.PutWishes.{count_on}
 use Rattle.lh_kernel.proofs.plan.wish_count.Goals as goal
 use Rattle.lh_types.proofs.Lists.{drop_end}
 

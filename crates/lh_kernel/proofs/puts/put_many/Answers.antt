@@ -2,7 +2,7 @@ use Rattle.std.proofs.Common.{◌≡◌, List, ℕ, suc, Bool, length, ap, sym, 
 use Rattle.std.proofs.lemmas.List.{nil_from_length}
 use Rattle.lh_time.specs.declared.Instant.{Instant}
 use Rattle.lh_kernel.specs.Puts.{wishes_by}
-use Rattle.lh_kernel.proofs.Putting.{AreToBePut, puts_start, puts_on, puts_end}
+use Rattle.lh_kernel.proofs.PutWishes.{AreToBePut, puts_start, puts_on, puts_end}
 use Rattle.lh_kernel.proofs.puts.put_many.Goals as goal
 
 pub loop-wish-init : goal.loop-wish-init

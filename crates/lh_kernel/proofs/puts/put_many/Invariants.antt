@@ -1,6 +1,6 @@
 use Rattle.std.proofs.Common.{◌≤◌, ◌+◌, length}
 use Rattle.lh_kernel.specs.Puts.{wishes_by}
-use Rattle.lh_kernel.proofs.Putting.{AreToBePut}
+use Rattle.lh_kernel.proofs.PutWishes.{AreToBePut}
 use Rattle.lh_kernel.proofs.puts.put_many.Given as goal
 
 -- the wishes that are left are still to be put, and there is room for them

@@ -5,7 +5,7 @@ use Rattle.lh_kernel_states.specs.declared.state.InstState.{InstState}
 use Rattle.lh_kernel.specs.declared.run.Activation.{Activation}
 use Rattle.lh_kernel.specs.Ran.{states_after}
 use Rattle.lh_kernel.specs.Puts.{wishes_by, wishes_ran, WerePut, CanBePut}
-use Rattle.lh_kernel.proofs.Putting.{AreToBePut, can_front, puts_more, length_ran, known_on}
+use Rattle.lh_kernel.proofs.PutWishes.{AreToBePut, can_front, puts_more, length_ran, known_on}
 use Rattle.lh_kernel.proofs.puts.take_acts.Goals as goal
 
 pub put_wishes-requires-clause-can : goal.put_wishes-requires-clause-can

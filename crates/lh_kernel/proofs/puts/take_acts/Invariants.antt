@@ -3,7 +3,7 @@ use Rattle.lh_unit.specs.Within.{Each}
 use Rattle.lh_kernel.specs.declared.run.Activation.{Activation}
 use Rattle.lh_kernel.specs.Ran.{states_after}
 use Rattle.lh_kernel.specs.Puts.{wishes_ran}
-use Rattle.lh_kernel.proofs.Putting.{AreToBePut}
+use Rattle.lh_kernel.proofs.PutWishes.{AreToBePut}
 use Rattle.lh_kernel.proofs.puts.take_acts.Given as goal
 
 -- what is left is still to be taken, and there is room for its wishes

@@ -1,4 +1,4 @@
-use Rattle.lh_kernel.proofs.Running.{outcomes-next}
+use Rattle.lh_kernel.proofs.InstanceRuns.{outcomes-next}
 use Rattle.lh_kernel.proofs.run.outcomes_of.Goals as goal
 
 pub loop-done-preserved : goal.loop-done-preserved

@@ -4,7 +4,7 @@ use Rattle.std.proofs.lemmas.Option.{slice_get_read}
 use Rattle.lh_types.specs.Raised.{raised}
 use Rattle.lh_elab.specs.Answer.{InstanceIs}
 use Rattle.lh_kernel.specs.Ran.{AllRan}
-use Rattle.lh_kernel.proofs.Running.{in-place, known-at, turn-on, turn-off, turn-sound, tally-more, tally-off, tally-some, on-err}
+use Rattle.lh_kernel.proofs.InstanceRuns.{in-place, known-at, turn-on, turn-off, turn-sound, tally-more, tally-off, tally-some, on-err}
 use Rattle.lh_kernel.proofs.Places.{as_many, fit_at}
 use Rattle.lh_kernel.proofs.run.run_all.Goals as goal
 use Rattle.lh_unit.proofs.Lists.{Each-get}

@@ -4,7 +4,7 @@ use Rattle.lh_elab.specs.Probed.{AreProbes}
 use Rattle.lh_kernel_states.specs.declared.state.InstState.{InstState}
 use Rattle.lh_kernel.specs.Noted.{SensedWithin, IsNotedFor}
 use Rattle.lh_kernel.proofs.Places.{as_many}
-use Rattle.lh_kernel.proofs.Starting.{sensed_within}
+use Rattle.lh_kernel.proofs.FirstStates.{sensed_within}
 use Rattle.lh_kernel.proofs.start.begin_all.Goals as goal
 
 pub noted_for-requires-clause-few : goal.noted_for-requires-clause-few

@@ -4,7 +4,7 @@ use Rattle.lh_types.specs.declared.part.Range.{Range}
 use Rattle.lh_unit.specs.World.{bit_numbers}
 use Rattle.lh_kernel_changes.specs.Touched.{AreTouched, AreWithin}
 use Rattle.lh_kernel.specs.Noting.{HasNoted}
-use Rattle.lh_kernel.proofs.Starting.{touched_known}
+use Rattle.lh_kernel.proofs.FirstStates.{touched_known}
 use Rattle.lh_kernel.proofs.start.note_instance.Goals as goal
 
 pub signals_of-requires-clause-within : goal.signals_of-requires-clause-within

@@ -1,6 +1,6 @@
 use Rattle.std.proofs.Common.{arith, length, refl, ◌∙◌}
 use Rattle.std.proofs.lemmas.Option.{slice_get_read}
-use Rattle.lh_kernel.proofs.Starting.{noted_none, noted_more, noted_all, as_long, within_read}
+use Rattle.lh_kernel.proofs.FirstStates.{noted_none, noted_more, noted_all, as_long, within_read}
 use Rattle.lh_kernel.proofs.start.noted_for.Goals as goal
 
 pub loop-number-init : goal.loop-number-init

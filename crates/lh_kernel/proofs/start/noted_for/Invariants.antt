@@ -1,4 +1,4 @@
-use Rattle.lh_kernel.proofs.Starting.{NotedTo}
+use Rattle.lh_kernel.proofs.FirstStates.{NotedTo}
 use Rattle.lh_kernel.proofs.start.noted_for.Given as goal
 
 abbrev pub invariant-loop-number : goal.invariant-loop-number

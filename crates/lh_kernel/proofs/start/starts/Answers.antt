@@ -3,7 +3,7 @@ use Rattle.lh_unit.specs.Within.{Each}
 use Rattle.lh_elab.specs.Answer.{InstanceIs}
 use Rattle.lh_eval.specs.declared.instance.Instance.{Instance}
 use Rattle.std.proofs.Common.{List, sym}
-use Rattle.lh_kernel.proofs.Starting.{started_more, started_all}
+use Rattle.lh_kernel.proofs.FirstStates.{started_more, started_all}
 use Rattle.lh_kernel.proofs.start.starts.Goals as goal
 
 pub loop-instance-preserved : goal.loop-instance-preserved

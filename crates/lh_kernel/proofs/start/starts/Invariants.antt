@@ -1,5 +1,5 @@
 use Rattle.std.proofs.Common.{length, take}
-use Rattle.lh_kernel.proofs.Starting.{Started}
+use Rattle.lh_kernel.proofs.FirstStates.{Started}
 use Rattle.lh_kernel.proofs.start.starts.Given as goal
 
 abbrev pub invariant-loop-instance : goal.invariant-loop-instance

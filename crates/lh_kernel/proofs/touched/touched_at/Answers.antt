@@ -1,7 +1,7 @@
 use Rattle.std.proofs.Common.{ℕ, List, length, ◌∙◌, ap, sym, subst}
-use Rattle.lh_queue.proofs.Taking.{within_at}
+use Rattle.lh_queue.proofs.TakenWishes.{within_at}
 use Rattle.lh_kernel.specs.Touched.{first_in}
-use Rattle.lh_kernel.proofs.Touching.{TouchedTo, touched_none, touched_more, touched_less, touched_end, touched_gone, touched_late}
+use Rattle.lh_kernel.proofs.WishedSignals.{TouchedTo, touched_none, touched_more, touched_less, touched_end, touched_gone, touched_late}
 use Rattle.lh_kernel.proofs.touched.touched_at.Goals as goal
 
 pub loop-key-init : goal.loop-key-init

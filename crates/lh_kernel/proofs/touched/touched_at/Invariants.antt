@@ -1,6 +1,6 @@
 use Rattle.std.proofs.Common.{length}
 use Rattle.lh_queue.specs.Places.{rest_from}
-use Rattle.lh_kernel.proofs.Touching.{TouchedTo}
+use Rattle.lh_kernel.proofs.WishedSignals.{TouchedTo}
 use Rattle.lh_kernel.proofs.touched.touched_at.Given as goal
 
 abbrev pub invariant-loop-key : goal.invariant-loop-key

@@ -1,6 +1,6 @@
 use Rattle.std.proofs.Common.{arith, ◌≡◌, ◌∙◌, ap, sym, length, ℕ, ◌++◌, ◌∷◌, [], List}
 use Rattle.std.specs.List.{range_with_len}
-use Rattle.lh_kernel.proofs.Waking.{range_push, awake_all}
+use Rattle.lh_kernel.proofs.WokenInstances.{range_push, awake_all}
 use Rattle.lh_kernel.proofs.woken.all_of.Goals as goal
 
 pub loop-number-preserved : goal.loop-number-preserved

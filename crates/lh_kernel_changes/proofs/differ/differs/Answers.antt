@@ -1,7 +1,7 @@
 use Rattle.std.proofs.Common.{length, refl}
 use Rattle.std.proofs.lemmas.List.{get_or_default}
 use Rattle.std.proofs.lemmas.Bool.{false≢true}
-use Rattle.lh_kernel_changes.proofs.Touching.{part_within}
+use Rattle.lh_kernel_changes.proofs.TouchedSignals.{part_within}
 use Rattle.lh_kernel_changes.proofs.Same.{part_same, part_differs}
 use Rattle.lh_kernel_changes.proofs.differ.differs.Goals as goal
 

@@ -1,7 +1,7 @@
 use Rattle.std.proofs.Common.{length, get_or, [], refl}
 use Rattle.std.proofs.lemmas.List.{get_or_default}
 use Rattle.lh_types.specs.declared.part.Range.{Range}
-use Rattle.lh_kernel_changes.proofs.Touching.{part_within, parts_more, parts_all}
+use Rattle.lh_kernel_changes.proofs.TouchedSignals.{part_within, parts_more, parts_all}
 use Rattle.lh_kernel_changes.proofs.signals.signals_of.Goals as goal
 
 pub touch-requires-clause-within : goal.touch-requires-clause-within

@@ -1,6 +1,6 @@
 use Rattle.std.proofs.Common.{arith, length, ◌-◌}
 use Rattle.lh_kernel_changes.proofs.Filled.{number_le}
-use Rattle.lh_kernel_changes.proofs.Touching.{entered_more, row_entered}
+use Rattle.lh_kernel_changes.proofs.TouchedSignals.{entered_more, row_entered}
 use Rattle.lh_kernel_changes.proofs.signals.touch.Goals as goal
 
 pub overflow_add-signal-end : goal.overflow_add-signal-end

@@ -1,4 +1,4 @@
-use Rattle.lh_kernel_changes.proofs.Touching.{EnteredTo}
+use Rattle.lh_kernel_changes.proofs.TouchedSignals.{EnteredTo}
 use Rattle.lh_kernel_changes.proofs.signals.touch.Given as goal
 
 abbrev pub invariant-loop-signal : goal.invariant-loop-signal

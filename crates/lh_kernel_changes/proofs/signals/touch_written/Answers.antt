@@ -1,5 +1,5 @@
 use Rattle.std.proofs.Common.{length}
-use Rattle.lh_kernel_changes.proofs.Touching.{run_within, runs_more, runs_all}
+use Rattle.lh_kernel_changes.proofs.TouchedSignals.{run_within, runs_more, runs_all}
 use Rattle.lh_kernel_changes.proofs.signals.touch_written.Goals as goal
 
 pub touch-requires-clause-within : goal.touch-requires-clause-within

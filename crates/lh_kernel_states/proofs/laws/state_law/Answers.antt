@@ -1,4 +1,4 @@
-use Rattle.lh_kernel_states.proofs.Standing.{fitting-stand, senses-alike, wakes-alike, senses-within, unit-is_named}
+use Rattle.lh_kernel_states.proofs.InstanceStates.{fitting-stand, senses-alike, wakes-alike, senses-within, unit-is_named}
 use Rattle.lh_kernel_states.proofs.laws.state_law.Goals as goal
 
 pub returns-clause-stand : goal.returns-clause-stand

@@ -1,7 +1,7 @@
 use Rattle.std.proofs.Common.{◌∙◌, arith}
 use Rattle.std.proofs.lemmas.List.{get_or_default}
 use Rattle.lh_unit.specs.Arena.{unit_count}
-use Rattle.lh_lower.proofs.Reporting.{text-all, row-within}
+use Rattle.lh_lower.proofs.ReportRows.{text-all, row-within}
 use Rattle.lh_lower.proofs.text.text_of.Goals as goal
 
 pub put_row-requires : goal.put_row-requires

@@ -1,5 +1,5 @@
 use Rattle.std.proofs.Common.{◌≡◌}
-use Rattle.lh_lower.proofs.Reporting.{text_to}
+use Rattle.lh_lower.proofs.ReportRows.{text_to}
 use Rattle.lh_lower.proofs.text.text_of.Given as goal
 
 abbrev pub invariant-loop-row : goal.invariant-loop-row

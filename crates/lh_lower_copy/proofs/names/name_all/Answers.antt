@@ -1,5 +1,5 @@
 use Rattle.std.proofs.Common.{[], slice_index_or}
-use Rattle.lh_lower_copy.proofs.Naming.{values-start}
+use Rattle.lh_lower_copy.proofs.NamesById.{values-start}
 use Rattle.lh_lower_copy.proofs.names.name_all.Goals as goal
 
 pub loop-name-init : goal.loop-name-init

@@ -1,7 +1,7 @@
 use Rattle.std.proofs.Common.{Ok, subst, arith}
 use Rattle.lh_unit.specs.Arena.{label_count, label_name_at}
 use Rattle.lh_unit.specs.Builders.{FindsLabel}
-use Rattle.lh_lower_copy.proofs.Naming.{labels-start, labels-next, labels-differ}
+use Rattle.lh_lower_copy.proofs.NamesById.{labels-start, labels-next, labels-differ}
 use Rattle.lh_lower_copy.proofs.names.name_labels.Goals as goal
 
 pub loop-label-preserved : goal.loop-label-preserved

@@ -1,7 +1,7 @@
 use Rattle.std.proofs.Common.{Ok, subst, sym, arith}
 use Rattle.lh_unit.specs.Builders.{FindsUnit}
 use Rattle.lh_lower_copy.specs.Named.{NamesUnits}
-use Rattle.lh_lower_copy.proofs.Naming.{units-start, units-next}
+use Rattle.lh_lower_copy.proofs.NamesById.{units-start, units-next}
 use Rattle.lh_lower_copy.proofs.names.name_units.Goals as goal
 
 pub loop-unit-init : goal.loop-unit-init

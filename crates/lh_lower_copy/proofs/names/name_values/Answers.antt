@@ -1,7 +1,7 @@
 use Rattle.std.proofs.Common.{Ok, subst, arith}
 use Rattle.lh_unit.specs.Arena.{value_count, value_name_at}
 use Rattle.lh_unit.specs.Builders.{FindsValue}
-use Rattle.lh_lower_copy.proofs.Naming.{values-start, values-next, values-differ}
+use Rattle.lh_lower_copy.proofs.NamesById.{values-start, values-next, values-differ}
 use Rattle.lh_lower_copy.proofs.names.name_values.Goals as goal
 
 pub loop-value-preserved : goal.loop-value-preserved

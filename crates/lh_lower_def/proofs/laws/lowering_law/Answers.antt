@@ -1,4 +1,4 @@
-use Rattle.lh_lower_def.proofs.Keeping.{lowered-is-kept, kept-is-lowered, functions-stay, names-stay, lowered-again, rows-are-processes}
+use Rattle.lh_lower_def.proofs.KeptItems.{lowered-is-kept, kept-is-lowered, functions-stay, names-stay, lowered-again, rows-are-processes}
 use Rattle.lh_lower_def.proofs.laws.lowering_law.Goals as goal
 
 pub returns : goal.returns

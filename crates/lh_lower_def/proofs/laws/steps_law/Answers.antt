@@ -1,4 +1,4 @@
-use Rattle.lh_lower_def.proofs.Stepping.{lowered-one-by-one}
+use Rattle.lh_lower_def.proofs.LoweringSteps.{lowered-one-by-one}
 use Rattle.lh_lower_def.proofs.laws.steps_law.Goals as goal
 
 pub returns : goal.returns

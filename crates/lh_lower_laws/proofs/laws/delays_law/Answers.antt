@@ -1,4 +1,4 @@
-use Rattle.lh_lower_laws.proofs.Writing.{delays-written}
+use Rattle.lh_lower_laws.proofs.WrittenDelays.{delays-written}
 use Rattle.lh_lower_laws.proofs.laws.delays_law.Goals as goal
 
 pub returns : goal.returns

@@ -1,5 +1,5 @@
 use Rattle.lh_entity_laws.proofs.Few.{unit-args-few}
-use Rattle.lh_lower_laws.proofs.Forming.{lowered-faultless}
+use Rattle.lh_lower_laws.proofs.LoweredForm.{lowered-faultless}
 use Rattle.lh_lower_laws.proofs.laws.faultless_law.Goals as goal
 
 pub returns : goal.returns

@@ -1,4 +1,4 @@
-use Rattle.lh_lower_laws.proofs.Tracing.{same-trace, same-trace-within, large-is-enough}
+use Rattle.lh_lower_laws.proofs.LoweredTrace.{same-trace, same-trace-within, large-is-enough}
 use Rattle.lh_lower_laws.proofs.laws.same_trace_law.Goals as goal
 
 pub returns : goal.returns

@@ -1,5 +1,5 @@
 use Rattle.lh_entity_laws.proofs.Few.{unit-args-few}
-use Rattle.lh_lower_laws.proofs.Forming.{all-spelled, lowered-printable}
+use Rattle.lh_lower_laws.proofs.LoweredForm.{all-spelled, lowered-printable}
 use Rattle.lh_lower_laws.specs.Same.{LoweredIsPrintable}
 use Rattle.lh_lower_laws.proofs.laws.spelled_law.Goals as goal
 

@@ -4,7 +4,7 @@ use Rattle.lh_unit.specs.Arena.{naming, value_count}
 use Rattle.lh_unit.specs.Naming.{arg_text}
 use Rattle.lh_unit.specs.Canon.{argument}
 use Rattle.lh_unit.proofs.Lists.{drop-item}
-use Rattle.lh_unit.proofs.Placing.{args-item}
+use Rattle.lh_unit.proofs.PlacedIds.{args-item}
 use Rattle.lh_text_buffer.proofs.Parts.{all-left, none-left}
 use Rattle.lh_print.proofs.Joined.{in_row, in_row-first, row_step}
 use Rattle.lh_print.proofs.arguments.put_arguments.Goals as goal

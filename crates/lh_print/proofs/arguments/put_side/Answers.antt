@@ -6,7 +6,7 @@ use Rattle.lh_unit.specs.Naming.{arg_text}
 use Rattle.lh_unit.specs.Pieces.{render}
 use Rattle.lh_unit.specs.Canon.{argument, side_of}
 use Rattle.lh_unit.proofs.Lists.{drop-item}
-use Rattle.lh_unit.proofs.Placing.{args-item}
+use Rattle.lh_unit.proofs.PlacedIds.{args-item}
 use Rattle.lh_text_buffer.proofs.Parts.{all-left, none-left}
 use Rattle.lh_print.proofs.Joined.{in_row, in_row-first, row_step, row_same}
 use Rattle.lh_print.proofs.Sides.{side_of-here, side_of-other}

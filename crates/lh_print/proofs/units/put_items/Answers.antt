@@ -4,7 +4,7 @@ use Rattle.lh_unit.specs.Arena.{item_text_at}
 use Rattle.lh_unit.specs.Canon.{canon, canon_lines, item_lines}
 use Rattle.lh_unit.specs.declared.inst.Item.{Item}
 use Rattle.lh_unit.proofs.Lists.{drop-item}
-use Rattle.lh_unit.proofs.Placing.{item-placed}
+use Rattle.lh_unit.proofs.PlacedIds.{item-placed}
 use Rattle.lh_text_buffer.proofs.Parts.{none-left}
 use Rattle.lh_print.proofs.Joined.{line_step}
 use Rattle.lh_print.proofs.units.put_items.Goals as goal

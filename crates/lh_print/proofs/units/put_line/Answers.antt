@@ -1,7 +1,7 @@
 use Rattle.std.proofs.Common.{subst, sym}
 use Rattle.lh_unit.specs.Arena.{sizes}
 use Rattle.lh_unit.specs.Within.{MaybeWithin}
-use Rattle.lh_unit.proofs.Placing.{result-placed}
+use Rattle.lh_unit.proofs.PlacedIds.{result-placed}
 use Rattle.lh_print.proofs.units.put_line.Goals as goal
 
 pub put_assigned-requires : goal.put_assigned-requires

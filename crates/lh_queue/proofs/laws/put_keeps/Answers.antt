@@ -1,4 +1,4 @@
-use Rattle.lh_queue.proofs.Keeping.{more_within, more_names, more_apart, more_due}
+use Rattle.lh_queue.proofs.KeptWishes.{more_within, more_names, more_apart, more_due}
 use Rattle.lh_queue.proofs.laws.put_keeps.Goals as goal
 
 pub returns : goal.returns

@@ -1,4 +1,4 @@
-use Rattle.lh_queue.proofs.Keeping.{later_within, later_names, later_apart}
+use Rattle.lh_queue.proofs.KeptWishes.{later_within, later_names, later_apart}
 use Rattle.lh_queue.proofs.laws.take_keeps.Goals as goal
 
 pub returns : goal.returns

@@ -1,4 +1,4 @@
-use Rattle.lh_queue.proofs.Keeping.{different_apart, sooner_due}
+use Rattle.lh_queue.proofs.KeptWishes.{different_apart, sooner_due}
 use Rattle.lh_queue.proofs.laws.wishes_differ.Goals as goal
 
 pub returns : goal.returns

@@ -13,7 +13,7 @@ use Rattle.lh_react.specs.Standing.{StandsForPass, line_in, passed_all, trigger_
 use Rattle.lh_eval.proofs.BeginSteps.{entity-insts, entity-lines}
 use Rattle.lh_eval_laws.proofs.FitLaws.{unit-is-sound, begins-fit}
 use Rattle.lh_eval.specs.Wishing.{WishWithin}
-use Rattle.lh_eval.proofs.Wishing.{writes-within}
+use Rattle.lh_eval.proofs.DriveWishes.{writes-within}
 use Rattle.lh_react.proofs.PassFits.{pass-seen, pass-within}
 use Rattle.lh_react.proofs.entity.run_each.Goals as goal
 

@@ -4,7 +4,7 @@ use Rattle.lh_unit.specs.Arena.{naming, unit_text_at}
 use Rattle.lh_unit.specs.Contents.{TriggerText}
 use Rattle.lh_unit.specs.Naming.{trigger_text}
 use Rattle.lh_react.specs.TriggerBits.{AreTriggerBits}
-use Rattle.lh_react.proofs.Adding.{adds-next}
+use Rattle.lh_react.proofs.TriggerLists.{adds-next}
 use Rattle.lh_react.proofs.places.add_register.Goals as goal
 
 pub loop-trigger-init : goal.loop-trigger-init

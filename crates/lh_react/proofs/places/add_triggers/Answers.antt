@@ -1,5 +1,5 @@
 use Rattle.std.proofs.Common.{sym, ◌∙◌}
-use Rattle.lh_react.proofs.Adding.{adds-none, adds-register}
+use Rattle.lh_react.proofs.TriggerLists.{adds-none, adds-register}
 use Rattle.lh_react.proofs.places.add_triggers.Goals as goal
 
 pub returns-in-Reg : goal.returns-in-Reg

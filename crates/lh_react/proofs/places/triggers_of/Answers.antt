@@ -1,7 +1,7 @@
 use Rattle.lh_unit.specs.Arena.{unit_text_at}
 use Rattle.lh_unit.proofs.Lists.{Each-at}
 use Rattle.lh_react.specs.Standing.{line_in}
-use Rattle.lh_react.proofs.Adding.{found-next, found-all}
+use Rattle.lh_react.proofs.TriggerLists.{found-next, found-all}
 use Rattle.lh_react.proofs.ProbedBits.{all-within}
 use Rattle.lh_react.proofs.places.triggers_of.Goals as goal
 

@@ -1,7 +1,7 @@
 use Rattle.std.proofs.Common.{map, take}
 use Rattle.lh_unit.specs.Arena.{unit_text_at}
 use Rattle.lh_react.specs.Standing.{line_in}
-use Rattle.lh_react.proofs.Adding.{Found}
+use Rattle.lh_react.proofs.TriggerLists.{Found}
 use Rattle.lh_react.proofs.places.triggers_of.Given as goal
 
 abbrev pub invariant-loop-inst : goal.invariant-loop-inst

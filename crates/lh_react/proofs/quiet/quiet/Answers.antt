@@ -2,7 +2,7 @@ use Rattle.std.proofs.Common.{Some, ap, sym, ◌∙◌}
 use Rattle.std.specs.Rc.{rc_value}
 use Rattle.lh_react.specs.State.{values_of}
 use Rattle.lh_react.specs.declared.state.Known.{Known}
-use Rattle.lh_react.proofs.Adding.{quiet-known}
+use Rattle.lh_react.proofs.TriggerLists.{quiet-known}
 use Rattle.lh_react.proofs.quiet.quiet.Goals as goal
 
 pub returns-then-all_rest : goal.returns-then-all_rest

@@ -1,5 +1,5 @@
 use Rattle.std.proofs.Common.{◌<◌, arith, length}
-use Rattle.lh_react.proofs.Adding.{rests-both}
+use Rattle.lh_react.proofs.TriggerLists.{rests-both}
 use Rattle.lh_react.proofs.quiet.rest_in_turn.Goals as goal
 
 pub loop-number-preserved : goal.loop-number-preserved

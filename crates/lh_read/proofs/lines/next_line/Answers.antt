@@ -1,4 +1,4 @@
-use Rattle.lh_read.proofs.Splitting.{lines-Some, lines-None}
+use Rattle.lh_read.proofs.FirstLines.{lines-Some, lines-None}
 use Rattle.lh_read.proofs.lines.next_line.Goals as goal
 
 pub returns-in-Some-clause-lines : goal.returns-in-Some-clause-lines

@@ -1,6 +1,6 @@
 use Rattle.std.proofs.Common.{◌+◌, ℕ, arith, sym, subst}
 use Rattle.lh_region.specs.Ahead.{LeadsNowhere}
-use Rattle.lh_region.proofs.Reaching.{nowhere-first, nowhere-next}
+use Rattle.lh_region.proofs.BlocksAhead.{nowhere-first, nowhere-next}
 use Rattle.lh_region.proofs.ahead.no_edges.Goals as goal
 
 pub loop-init : goal.loop-init

@@ -1,6 +1,6 @@
 use Rattle.lh_term.proofs.Swaps.{grows_on}
 use Rattle.lh_region_joins.proofs.Conditions.{grows-none, condition-grown}
-use Rattle.lh_region.proofs.Branching.{test-asked, test-condition, still-grown, and-made}
+use Rattle.lh_region.proofs.BranchConditions.{test-asked, test-condition, still-grown, and-made}
 use Rattle.lh_region.proofs.branch.and_at.Goals as goal
 
 pub value_at-requires-clause-told : goal.value_at-requires-clause-told

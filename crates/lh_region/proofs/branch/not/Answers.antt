@@ -1,5 +1,5 @@
 use Rattle.lh_term.specs.Arena.{trees, tree_at}
-use Rattle.lh_region.proofs.Branching.{takes-not}
+use Rattle.lh_region.proofs.BranchConditions.{takes-not}
 use Rattle.lh_region.proofs.branch.not.Goals as goal
 
 pub op-requires-clause-fits : goal.op-requires-clause-fits

@@ -1,7 +1,7 @@
 use Rattle.lh_term.specs.Arena.{trees, tree_at}
 use Rattle.lh_term.proofs.Swaps.{grows_on}
 use Rattle.lh_region_joins.proofs.Conditions.{condition-grown}
-use Rattle.lh_region.proofs.Branching.{test-asked, test-condition, still-grown, not-made, and-made, and-not-made, is-grown}
+use Rattle.lh_region.proofs.BranchConditions.{test-asked, test-condition, still-grown, not-made, and-made, and-not-made, is-grown}
 use Rattle.lh_region.proofs.branch.sides_at.Goals as goal
 
 pub value_at-requires-clause-told : goal.value_at-requires-clause-told

@@ -2,7 +2,7 @@ use Rattle.std.proofs.Common.{◌+◌, List, take, refl, subst}
 use Rattle.std.proofs.lemmas.List.{take_more, take_all}
 use Rattle.lh_term.specs.declared.term.TermId.{TermId}
 use Rattle.lh_region.specs.Effects.{IsWithAsserts}
-use Rattle.lh_region.proofs.Rowing.{asserts-none, asserts-next}
+use Rattle.lh_region.proofs.RowLists.{asserts-none, asserts-next}
 use Rattle.lh_region.proofs.effects.add_asserts.Goals as goal
 
 abbrev no_term : TermId

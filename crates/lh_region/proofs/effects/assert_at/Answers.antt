@@ -4,7 +4,7 @@ use Rattle.lh_region.specs.declared.taking.PlaceValue.{PlaceValue}
 use Rattle.lh_region.specs.Taken.{asks_at, CanAskAll, AreTold, StillToldAll}
 use Rattle.lh_region.specs.Effects.{IsWithAsserts}
 use Rattle.lh_region_joins.proofs.Conditions.{grows-none}
-use Rattle.lh_region.proofs.Rowing.{asserted-more}
+use Rattle.lh_region.proofs.RowLists.{asserted-more}
 use Rattle.lh_region.proofs.effects.assert_at.Goals as goal
 
 pub returns-clause-still : goal.returns-clause-still

@@ -5,7 +5,7 @@ use Rattle.lh_region.specs.declared.rows.DriveRow.{DriveRow}
 use Rattle.lh_region.specs.Effects.{IsDriven, StillDriven}
 use Rattle.lh_region_joins.proofs.Conditions.{grows-none}
 use Rattle.lh_term.proofs.Swaps.{grows_on}
-use Rattle.lh_region.proofs.Rowing.{driven-more, driven-still, delay-asked}
+use Rattle.lh_region.proofs.RowLists.{driven-more, driven-still, delay-asked}
 use Rattle.lh_region.proofs.effects.drive.Goals as goal
 
 pub returns-clause-rows : goal.returns-clause-rows

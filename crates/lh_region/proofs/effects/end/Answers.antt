@@ -3,7 +3,7 @@ use Rattle.std.proofs.lemmas.Result.{on_ok_weaker}
 use Rattle.lh_region.specs.declared.rows.Rows.{Rows}
 use Rattle.lh_region.specs.declared.rows.EndRow.{EndRow}
 use Rattle.lh_region.specs.Effects.{IsEnded}
-use Rattle.lh_region.proofs.Rowing.{ended-more}
+use Rattle.lh_region.proofs.RowLists.{ended-more}
 use Rattle.lh_region.proofs.effects.end.Goals as goal
 
 pub returns-clause-rows : goal.returns-clause-rows

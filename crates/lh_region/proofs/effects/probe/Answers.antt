@@ -1,6 +1,6 @@
 use Rattle.std.proofs.Common.{refl}
 use Rattle.lh_region.specs.declared.rows.Rows.{Rows}
-use Rattle.lh_region.proofs.Rowing.{probed-more}
+use Rattle.lh_region.proofs.RowLists.{probed-more}
 use Rattle.lh_region.proofs.effects.probe.Goals as goal
 
 pub returns-clause-rows : goal.returns-clause-rows

@@ -1,4 +1,4 @@
-use Rattle.lh_region.proofs.Heading.{heads-agree}
+use Rattle.lh_region.proofs.HeadBlock.{heads-agree}
 use Rattle.lh_region.proofs.laws.head_law.Goals as goal
 
 pub returns : goal.returns

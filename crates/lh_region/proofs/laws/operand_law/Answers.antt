@@ -1,4 +1,4 @@
-use Rattle.lh_region.proofs.Operating.{operands-agree}
+use Rattle.lh_region.proofs.PhiOperands.{operands-agree}
 use Rattle.lh_region.proofs.laws.operand_law.Goals as goal
 
 pub returns : goal.returns

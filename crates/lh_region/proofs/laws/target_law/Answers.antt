@@ -1,4 +1,4 @@
-use Rattle.lh_region.proofs.Targeting.{target-by-ways}
+use Rattle.lh_region.proofs.OneTarget.{target-by-ways}
 use Rattle.lh_region.proofs.laws.target_law.Goals as goal
 
 pub returns : goal.returns

@@ -1,5 +1,5 @@
 use Rattle.std.proofs.Common.{arith}
-use Rattle.lh_region.proofs.Going.{leads-here, leads-next}
+use Rattle.lh_region.proofs.LeadingEdges.{leads-here, leads-next}
 use Rattle.lh_region.proofs.leading.lead.Goals as goal
 
 pub returns-then-to-edge-clause-leads : goal.returns-then-to-edge-clause-leads

@@ -2,7 +2,7 @@ use Rattle.std.proofs.Common.{◌∙◌, ◌+◌, ◌++◌, ◌∷◌, [], take,
 use Rattle.std.proofs.lemmas.List.{take_more}
 use Rattle.lh_flat.specs.declared.flat.FlatInst.{FlatInst}
 use Rattle.lh_term.proofs.Swaps.{grows_on}
-use Rattle.lh_region.proofs.Starting.{start-next}
+use Rattle.lh_region.proofs.EntryConstants.{start-next}
 use Rattle.lh_region.proofs.start.start_of.Goals as goal
 
 pub loop-line-preserved : goal.loop-line-preserved

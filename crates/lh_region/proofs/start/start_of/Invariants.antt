@@ -1,5 +1,5 @@
 use Rattle.std.proofs.Common.{take}
-use Rattle.lh_region.proofs.Starting.{StartSoFar}
+use Rattle.lh_region.proofs.EntryConstants.{StartSoFar}
 use Rattle.lh_region.proofs.start.start_of.Given as goal
 
 abbrev pub invariant-loop-line : goal.invariant-loop-line

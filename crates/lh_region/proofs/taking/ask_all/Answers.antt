@@ -3,7 +3,7 @@ use Rattle.lh_term.specs.declared.term.TermId.{TermId}
 use Rattle.std.proofs.lemmas.List.{take_more, take_all}
 use Rattle.lh_region.specs.declared.taking.PlaceValue.{PlaceValue}
 use Rattle.lh_term.proofs.Swaps.{grows_on}
-use Rattle.lh_region.proofs.Gathering.{AskSoFar, ask-none, ask-in, ask-told, ask-next, ask-end}
+use Rattle.lh_region.proofs.AskedValues.{AskSoFar, ask-none, ask-in, ask-told, ask-next, ask-end}
 use Rattle.lh_region.proofs.taking.ask_all.Goals as goal
 
 abbrev no_ask : PlaceValue

@@ -1,5 +1,5 @@
 use Rattle.std.proofs.Common.{take}
-use Rattle.lh_region.proofs.Gathering.{AskSoFar}
+use Rattle.lh_region.proofs.AskedValues.{AskSoFar}
 use Rattle.lh_region.proofs.taking.ask_all.Given as goal
 
 abbrev pub invariant-loop-ask : goal.invariant-loop-ask

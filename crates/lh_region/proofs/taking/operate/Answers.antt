@@ -8,7 +8,7 @@ use Rattle.lh_term.proofs.Swaps.{grows_on}
 use Rattle.lh_region.specs.declared.taking.PlaceValue.{PlaceValue}
 use Rattle.lh_region.specs.Taken.{asks_at, CanAskAll, AreTold, StillToldAll}
 use Rattle.lh_region_joins.proofs.Conditions.{grows-none}
-use Rattle.lh_region.proofs.Gathering.{operands-asked, operands-in, operands-fit, operated-is, operated-still}
+use Rattle.lh_region.proofs.AskedValues.{operands-asked, operands-in, operands-fit, operated-is, operated-still}
 use Rattle.lh_region.proofs.taking.operate.Goals as goal
 
 pub ask_all-requires : goal.ask_all-requires

@@ -4,10 +4,10 @@ use Rattle.lh_term.proofs.Swaps.{grows_on}
 use Rattle.lh_region.specs.declared.taking.PlaceValue.{PlaceValue}
 use Rattle.lh_region_places.specs.Asked.{edges_at, IsJoin, CanJoin, IsJoined}
 use Rattle.lh_region.specs.Taken.{phi_asks, NamesEach, CanAskAll, AreTold, StillToldAll}
-use Rattle.lh_region_places.proofs.Placing.{same-length}
-use Rattle.lh_region_places.proofs.Telling.{selected-same}
+use Rattle.lh_region_places.proofs.PlaceLists.{same-length}
+use Rattle.lh_region_places.proofs.ToldValues.{selected-same}
 use Rattle.lh_region_joins.proofs.Conditions.{grows-none}
-use Rattle.lh_region.proofs.Phiing.{phi-asked, phi-joins, phi-merged, phi-still}
+use Rattle.lh_region.proofs.PhiValues.{phi-asked, phi-joins, phi-merged, phi-still}
 use Rattle.lh_region.proofs.taking.phi_at.Goals as goal
 
 pub phi_asks-requires : goal.phi_asks-requires

@@ -4,8 +4,8 @@ use Rattle.lh_term_cover.specs.Runs.{IsCover}
 use Rattle.lh_region_def.specs.Regions as texts
 use Rattle.lh_region.specs.declared.rows.EndRow.{EndRow}
 use Rattle.lh_region.specs.Stands.{way_text}
-use Rattle.lh_region_places.proofs.Telling.{head-tail}
-use Rattle.lh_region.proofs.Targeting.{first_way, alike-first, alike-end, first-is, answer-is}
+use Rattle.lh_region_places.proofs.ToldValues.{head-tail}
+use Rattle.lh_region.proofs.OneTarget.{first_way, alike-first, alike-end, first-is, answer-is}
 use Rattle.lh_region.proofs.target.one_target.Goals as goal
 
 pub returns-then-not-branch : goal.returns-then-not-branch

@@ -1,6 +1,6 @@
 use Rattle.std.proofs.Common.{◌≡◌, drop}
 use Rattle.lh_region.specs.Targets.{ways_of}
-use Rattle.lh_region.proofs.Targeting.{all_alike, first_way}
+use Rattle.lh_region.proofs.OneTarget.{all_alike, first_way}
 use Rattle.lh_region.proofs.target.one_target.Given as goal
 
 abbrev pub invariant-loop-end : goal.invariant-loop-end

@@ -1,6 +1,6 @@
 use Rattle.std.proofs.Common.{drop, get_or, ◌+◌}
 use Rattle.std.proofs.lemmas.List.{drop_more}
-use Rattle.lh_region_joins.proofs.Joining.{no_edge, AnySoFar-none, AnySoFar-first, AnySoFar-next}
+use Rattle.lh_region_joins.proofs.EdgeJoins.{no_edge, AnySoFar-none, AnySoFar-first, AnySoFar-next}
 use Rattle.lh_region_joins.proofs.joins.any_of.Goals as goal
 
 pub or-requires-clause-a_holds : goal.or-requires-clause-a_holds

@@ -1,5 +1,5 @@
 use Rattle.std.proofs.Common.{drop}
-use Rattle.lh_region_joins.proofs.Joining.{AnySoFar}
+use Rattle.lh_region_joins.proofs.EdgeJoins.{AnySoFar}
 use Rattle.lh_region_joins.proofs.joins.any_of.Given as goal
 
 abbrev pub invariant-loop-edge : goal.invariant-loop-edge

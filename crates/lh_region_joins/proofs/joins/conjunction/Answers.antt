@@ -1,6 +1,6 @@
 use Rattle.std.proofs.Common.{drop, get_or, ◌+◌}
 use Rattle.std.proofs.lemmas.List.{drop_more}
-use Rattle.lh_region_joins.proofs.Joining.{no_id, AllSoFar-none, AllSoFar-first, AllSoFar-next}
+use Rattle.lh_region_joins.proofs.EdgeJoins.{no_id, AllSoFar-none, AllSoFar-first, AllSoFar-next}
 use Rattle.lh_region_joins.proofs.joins.conjunction.Goals as goal
 
 pub and-requires-clause-b_holds : goal.and-requires-clause-b_holds

@@ -1,5 +1,5 @@
 use Rattle.std.proofs.Common.{drop}
-use Rattle.lh_region_joins.proofs.Joining.{AllSoFar}
+use Rattle.lh_region_joins.proofs.EdgeJoins.{AllSoFar}
 use Rattle.lh_region_joins.proofs.joins.conjunction.Given as goal
 
 abbrev pub invariant-loop-cond : goal.invariant-loop-cond

@@ -1,7 +1,7 @@
 use Rattle.std.proofs.Common.{◌<◌, ◌≤◌, ℕ, drop, get_or, ◌+◌, sym, subst}
 use Rattle.std.proofs.lemmas.List.{drop_more, drop_all}
-use Rattle.lh_region_joins.proofs.Joining.{no_id}
-use Rattle.lh_region_joins.proofs.Selecting.{MergeSoFar-none, MergeSoFar-can, MergeSoFar-next, MergeSoFar-end}
+use Rattle.lh_region_joins.proofs.EdgeJoins.{no_id}
+use Rattle.lh_region_joins.proofs.Selectors.{MergeSoFar-none, MergeSoFar-can, MergeSoFar-next, MergeSoFar-end}
 use Rattle.lh_region_joins.proofs.joins.merge.Goals as goal
 
 pub loop-k-init : goal.loop-k-init

@@ -1,5 +1,5 @@
 use Rattle.std.proofs.Common.{drop}
-use Rattle.lh_region_joins.proofs.Selecting.{MergeSoFar}
+use Rattle.lh_region_joins.proofs.Selectors.{MergeSoFar}
 use Rattle.lh_region_joins.proofs.joins.merge.Given as goal
 
 abbrev pub invariant-loop-k : goal.invariant-loop-k

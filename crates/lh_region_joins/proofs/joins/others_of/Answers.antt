@@ -1,7 +1,7 @@
 use Rattle.std.proofs.Common.{List, subst, ap, ◌∙◌}
 use Rattle.lh_region_def.specs.Joins.{RegionEdge}
 use Rattle.lh_region_joins.specs.Joins.{edges_on, AreOthers}
-use Rattle.lh_region_joins.proofs.Selecting.{edges-later}
+use Rattle.lh_region_joins.proofs.Selectors.{edges-later}
 use Rattle.lh_region_joins.proofs.joins.others_of.Goals as goal
 
 pub returns : goal.returns

@@ -6,7 +6,7 @@ use Rattle.lh_term.specs.Conjuncts.{conjunction}
 use Rattle.lh_term.specs.declared.term.TermId.{TermId}
 use Rattle.lh_unit.proofs.Lists.{drop-item}
 use Rattle.lh_region_joins.specs.Joins.{IsConditionAt, edges_on, after_first, AreOthers}
-use Rattle.lh_region_joins.proofs.Selecting.{SelectorsSoFar, SelectorsSoFar-none, SelectorsSoFar-conds, SelectorsSoFar-next, SelectorsSoFar-end}
+use Rattle.lh_region_joins.proofs.Selectors.{SelectorsSoFar, SelectorsSoFar-none, SelectorsSoFar-conds, SelectorsSoFar-next, SelectorsSoFar-end}
 use Rattle.lh_region_joins.proofs.joins.selectors.Goals as goal
 
 pub loop-conds-init : goal.loop-conds-init

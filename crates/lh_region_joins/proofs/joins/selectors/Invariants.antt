@@ -1,6 +1,6 @@
 use Rattle.std.proofs.Common.{drop}
 use Rattle.lh_region_joins.specs.Joins.{edges_on}
-use Rattle.lh_region_joins.proofs.Selecting.{SelectorsSoFar}
+use Rattle.lh_region_joins.proofs.Selectors.{SelectorsSoFar}
 use Rattle.lh_region_joins.proofs.joins.selectors.Given as goal
 
 abbrev pub invariant-loop-conds : goal.invariant-loop-conds

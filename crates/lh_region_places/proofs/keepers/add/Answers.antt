@@ -1,5 +1,5 @@
 use Rattle.std.proofs.Common.{◌∙◌}
-use Rattle.lh_region_places.proofs.Lasting.{stays}
+use Rattle.lh_region_places.proofs.LastKeeper.{stays}
 use Rattle.lh_region_places.proofs.keepers.add.Goals as goal
 
 pub returns-clause-still : goal.returns-clause-still

@@ -1,6 +1,6 @@
 use Rattle.std.proofs.Common.{◌∙◌, true, false, sym, true≢false}
 use Rattle.lh_region_places.specs.Keepers.{keeper}
-use Rattle.lh_region_places.proofs.Lasting.{within-place, up-to-last, of-value}
+use Rattle.lh_region_places.proofs.LastKeeper.{within-place, up-to-last, of-value}
 use Rattle.lh_region_places.proofs.keepers.last_up_to.Goals as goal
 
 pub returns-in-None : goal.returns-in-None

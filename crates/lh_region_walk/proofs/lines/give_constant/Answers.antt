@@ -6,7 +6,7 @@ use Rattle.lh_term.specs.Arena.{StandsForTree}
 use Rattle.lh_region_places.specs.Asked.{SamePlaces, IsWithAt}
 use Rattle.lh_region.specs.Gives.{GivesTerm}
 use Rattle.lh_region_walk.specs.Lines.{IsThat, GivesWhere}
-use Rattle.lh_region_places.proofs.Placing.{with-same}
+use Rattle.lh_region_places.proofs.PlaceLists.{with-same}
 use Rattle.lh_region_joins.proofs.Conditions.{grows-none}
 use Rattle.lh_region_walk.proofs.GivingWhere.{gives-that}
 use Rattle.lh_region_walk.proofs.lines.give_constant.Goals as goal

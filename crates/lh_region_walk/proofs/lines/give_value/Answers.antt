@@ -3,7 +3,7 @@ use Rattle.std.proofs.lemmas.Result.{on_ok_weaker}
 use Rattle.lh_region_places.specs.Asked.{SamePlaces, IsWithAt}
 use Rattle.lh_region.specs.Gives.{GivesTerm}
 use Rattle.lh_region_walk.specs.Lines.{IsToldOf, GivesWhere}
-use Rattle.lh_region_places.proofs.Placing.{same-length, with-same}
+use Rattle.lh_region_places.proofs.PlaceLists.{same-length, with-same}
 use Rattle.lh_region_walk.proofs.GivingWhere.{gives-told}
 use Rattle.lh_region_walk.proofs.lines.give_value.Goals as goal
 

@@ -2,7 +2,7 @@ use Rattle.lh_region_places.specs.Asked.{IsWithAt}
 use Rattle.lh_region.specs.Gives.{GivesTerm}
 use Rattle.lh_region_walk.specs.Merges.{TakesPhi}
 use Rattle.lh_region_walk.proofs.Answered.{ok-both}
-use Rattle.lh_region_walk.proofs.Choosing.{phi-merges, phi-within, takes-phi}
+use Rattle.lh_region_walk.proofs.PhiChoices.{phi-merges, phi-within, takes-phi}
 use Rattle.lh_region_walk.proofs.opening.take_phi.Goals as goal
 
 pub phi_at-requires-clause-is_in : goal.phi_at-requires-clause-is_in

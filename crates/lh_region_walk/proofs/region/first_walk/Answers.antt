@@ -5,7 +5,7 @@ use Rattle.lh_region_walk.specs.Both.{GoesFirst, FirstStops}
 use Rattle.lh_region.specs.Starts.{lines_left}
 use Rattle.lh_region_walk.specs.Turns.{GoesThrough, GoesNot}
 use Rattle.lh_region_walk.proofs.First.{IsHeadPlace, constants-grown, can-start, goes-first, first-stops}
-use Rattle.lh_region_walk.proofs.Forming.{entry-fits}
+use Rattle.lh_region_walk.proofs.FormedText.{entry-fits}
 use Rattle.lh_term.proofs.Swaps.{grows_on}
 use Rattle.lh_region_walk.proofs.region.first_walk.Goals as goal
 

@@ -5,7 +5,7 @@ use Rattle.lh_region.specs.Heads.{begins_with_phi}
 use Rattle.lh_region_joins.proofs.Conditions.{grows-none}
 use Rattle.lh_region_walk.proofs.BothRegions.{block-read, answer-phi}
 use Rattle.lh_region_walk.proofs.HavingSteps.{has-steps}
-use Rattle.lh_region_walk.proofs.Forming.{head-within, blocks-there}
+use Rattle.lh_region_walk.proofs.FormedText.{head-within, blocks-there}
 use Rattle.lh_region_walk.proofs.region.regions.Goals as goal
 
 pub bounds-as_slice-head : goal.bounds-as_slice-head

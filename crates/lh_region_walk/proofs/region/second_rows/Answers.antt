@@ -1,7 +1,7 @@
 use Rattle.std.proofs.Common.{refl}
 use Rattle.std.proofs.lemmas.Result.{err_from_is_err_and}
 use Rattle.lh_term.proofs.Swaps.{grows_on}
-use Rattle.lh_region_walk.proofs.Following.{past-of, again-of, next-place, can-follow, second-through, second-stops, past-stops}
+use Rattle.lh_region_walk.proofs.SecondRegion.{past-of, again-of, next-place, can-follow, second-through, second-stops, past-stops}
 use Rattle.lh_region_walk.proofs.region.second_rows.Goals as goal
 
 pub walk_from-requires-clause-start : goal.walk_from-requires-clause-start

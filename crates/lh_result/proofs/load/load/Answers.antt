@@ -7,7 +7,7 @@ use Rattle.lh_unit.specs.WellFormed.{IsFaultless}
 use Rattle.lh_text_laws.proofs.Readings.{every_reading_is_spelled}
 use Rattle.lh_result.specs.Steps.{IsFaultStatus, Loads}
 use Rattle.lh_result.specs.Result.{source_limit}
-use Rattle.lh_result.proofs.Loading.{Loads-stopped, of_source, Loads-faulty, Loads-done}
+use Rattle.lh_result.proofs.LoadSteps.{Loads-stopped, of_source, Loads-faulty, Loads-done}
 use Rattle.lh_result.proofs.load.load.Goals as goal
 
 pub verify-requires : goal.verify-requires

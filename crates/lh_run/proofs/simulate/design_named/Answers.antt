@@ -2,7 +2,7 @@ use Rattle.std.proofs.Common.{◌≡◌, refl, sym, ◌∙◌, subst, None}
 use Rattle.lh_unit.specs.Arena.{contents}
 use Rattle.lh_unit.specs.Design.{elab, refused, top_missing}
 use Rattle.lh_unit_names.specs.declared.name.UnitName.{UnitName}
-use Rattle.lh_selftest.proofs.Missing.{elab-not_there, elab-not_defined}
+use Rattle.lh_selftest.proofs.MissingTop.{elab-not_there, elab-not_defined}
 use Rattle.lh_run.proofs.Tops.{is_missing}
 use Rattle.lh_run.proofs.simulate.design_named.Goals as goal
 

@@ -1,4 +1,4 @@
-use Rattle.lh_selftest.proofs.Counting.{units-by_id}
+use Rattle.lh_selftest.proofs.UnitCounts.{units-by_id}
 use Rattle.lh_selftest.proofs.units.count_units.Goals as goal
 
 pub returns : goal.returns

@@ -1,4 +1,4 @@
-use Rattle.lh_selftest_laws.proofs.Elaborating.{chain-elaborates}
+use Rattle.lh_selftest_laws.proofs.ChainDesign.{chain-elaborates}
 use Rattle.lh_selftest_laws.proofs.laws.elaborates_law.Goals as goal
 
 pub returns : goal.returns

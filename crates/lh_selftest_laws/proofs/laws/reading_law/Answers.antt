@@ -1,5 +1,5 @@
 use Rattle.lh_selftest_laws.proofs.Short.{generated-short}
-use Rattle.lh_selftest_laws.proofs.Reading.{generated-reads}
+use Rattle.lh_selftest_laws.proofs.ChainReads.{generated-reads}
 use Rattle.lh_selftest_laws.proofs.laws.reading_law.Goals as goal
 
 pub returns : goal.returns

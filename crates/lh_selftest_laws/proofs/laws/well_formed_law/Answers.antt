@@ -1,4 +1,4 @@
-use Rattle.lh_selftest_laws.proofs.Reading.{chain-spelled}
+use Rattle.lh_selftest_laws.proofs.ChainReads.{chain-spelled}
 use Rattle.lh_selftest_laws.proofs.Faultless.{chain-faultless}
 use Rattle.lh_selftest_laws.proofs.laws.well_formed_law.Goals as goal
 

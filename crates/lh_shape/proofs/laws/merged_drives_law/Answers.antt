@@ -1,4 +1,4 @@
-use Rattle.lh_shape.proofs.Merging.{merged-wish, merged-typed, merged-reads, merged-drives-drive}
+use Rattle.lh_shape.proofs.MergedDriveLaws.{merged-wish, merged-typed, merged-reads, merged-drives-drive}
 use Rattle.lh_shape.proofs.laws.merged_drives_law.Goals as goal
 
 pub returns : goal.returns

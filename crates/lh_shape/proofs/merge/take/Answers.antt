@@ -1,7 +1,7 @@
 use Rattle.std.proofs.Common.{◌∙◌, refl, sym}
 use Rattle.lh_region_joins.proofs.Conditions.{grows-none}
 use Rattle.lh_shape.specs.ByIds.{drive_at}
-use Rattle.lh_shape.proofs.Merging.{part-alike}
+use Rattle.lh_shape.proofs.MergedDriveLaws.{part-alike}
 use Rattle.lh_shape.proofs.Merged.{takes-both, takes-one}
 use Rattle.lh_shape.proofs.merge.take.Goals as goal
 

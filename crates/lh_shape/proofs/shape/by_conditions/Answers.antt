@@ -6,7 +6,7 @@ use Rattle.lh_shape.specs.declared.kinds.Shape.TheVariants as kind
 use Rattle.lh_shape.specs.declared.shape.Registers.{Registers}
 use Rattle.lh_region_joins.proofs.Conditions.{grows-none}
 use Rattle.lh_shape.proofs.Merged.{drives-fit-grown, drives-at-grown}
-use Rattle.lh_shape.proofs.Edging.{shape-by, conditions-left, conditions-shape}
+use Rattle.lh_shape.proofs.RegisterShapes.{shape-by, conditions-left, conditions-shape}
 use Rattle.lh_shape.proofs.shape.by_conditions.Goals as goal
 
 pub by_target-requires : goal.by_target-requires

@@ -1,5 +1,5 @@
 use Rattle.std.proofs.Common.{◌∙◌, sym}
-use Rattle.lh_shape.proofs.Edging.{shape-left}
+use Rattle.lh_shape.proofs.RegisterShapes.{shape-left}
 use Rattle.lh_shape.proofs.shape.by_reasons.Goals as goal
 
 pub returns-in-Some-clause-is : goal.returns-in-Some-clause-is

@@ -1,4 +1,4 @@
-use Rattle.lh_shape.proofs.Edging.{finds}
+use Rattle.lh_shape.proofs.RegisterShapes.{finds}
 use Rattle.lh_shape.proofs.shape.found_for.Goals as goal
 
 pub returns-in_default-clause-finds : goal.returns-in_default-clause-finds

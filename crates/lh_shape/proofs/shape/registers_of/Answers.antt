@@ -6,7 +6,7 @@ use Rattle.lh_shape.specs.ByIds.{drives_at}
 use Rattle.lh_shape.specs.Answers.{AddsFound}
 use Rattle.lh_shape.specs.declared.shape.Added.{Added}
 use Rattle.lh_shape.specs.declared.shape.Added.TheVariants as added
-use Rattle.lh_shape.proofs.Edging.{RegistersSoFar, registers-none, row-fits, found-fits, registers-row, registers-hide, registers-many, registers-end, registers-hidden}
+use Rattle.lh_shape.proofs.RegisterShapes.{RegistersSoFar, registers-none, row-fits, found-fits, registers-row, registers-hide, registers-many, registers-end, registers-hidden}
 use Rattle.lh_shape.proofs.shape.registers_of.Goals as goal
 use Rattle.lh_shape.proofs.shape.registers_of.Goals.{in-Row, in-Hidden}
 

@@ -2,7 +2,7 @@ use Rattle.std.proofs.Common.{drop, IfSome}
 use Rattle.lh_shape.specs.ByIds.{drives_at}
 use Rattle.lh_shape.specs.Answers.{Finds}
 use Rattle.lh_shape.specs.declared.shape.Found.{Found}
-use Rattle.lh_shape.proofs.Edging.{RegistersSoFar}
+use Rattle.lh_shape.proofs.RegisterShapes.{RegistersSoFar}
 use Rattle.lh_shape.proofs.shape.registers_of.Given as goal
 
 abbrev pub invariant-loop-drive : goal.invariant-loop-drive

@@ -1,5 +1,5 @@
 use Rattle.std.proofs.Common.{◌∙◌, refl, sym}
-use Rattle.lh_shape.proofs.Edging.{shape-once}
+use Rattle.lh_shape.proofs.RegisterShapes.{shape-once}
 use Rattle.lh_shape.proofs.shape.shape_of_regions.Goals as goal
 
 pub returns-then-is_once-clause-is : goal.returns-then-is_once-clause-is

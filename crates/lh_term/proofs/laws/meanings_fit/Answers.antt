@@ -1,4 +1,4 @@
-use Rattle.lh_term.proofs.Typing.{mean_fits}
+use Rattle.lh_term.proofs.TermTypes.{mean_fits}
 use Rattle.lh_term.proofs.laws.meanings_fit.Goals as goal
 
 pub returns : goal.returns

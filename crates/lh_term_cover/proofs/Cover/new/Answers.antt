@@ -1,7 +1,7 @@
 use Rattle.std.proofs.Common.{◌≡◌, List, ap, ◌∙◌, subst, IsPermutation}
 use Rattle.lh_term_cover.specs.declared.runs.CoverRun.{CoverRun}
 use Rattle.lh_term_cover.specs.Runs.{runs_of, merged}
-use Rattle.lh_term_cover.proofs.Merging.{is_cover}
+use Rattle.lh_term_cover.proofs.MergedRanges.{is_cover}
 use Rattle.lh_term_cover.proofs.Cover.new.Goals as goal
 
 pub returns : goal.returns

@@ -1,7 +1,7 @@
 use Rattle.std.proofs.Common.{subst, sym}
 use Rattle.lh_unit.specs.Within.{Each}
 use Rattle.lh_unit.specs.Placed.{IsBlockOf}
-use Rattle.lh_unit.proofs.Placing.{blocks-placed}
+use Rattle.lh_unit.proofs.PlacedIds.{blocks-placed}
 use Rattle.lh_verify.proofs.spots.spots.Goals as goal
 
 pub put_blocks-requires-clause-blocks : goal.put_blocks-requires-clause-blocks

@@ -2,7 +2,7 @@ use Rattle.std.proofs.Common.{◌≡◌, ℕ, ◌+◌, Bool, true, List, ap, sub
 use Rattle.lh_unit.specs.Arena.{table_at, value_count, inst_count}
 use Rattle.lh_verify_labels.specs.Marking.{Reaches, Advances}
 use Rattle.lh_verify_labels.specs.Turns.{all_led, with_turns}
-use Rattle.lh_verify_labels.proofs.Turning.{turns-reach}
+use Rattle.lh_verify_labels.proofs.ProbeTurns.{turns-reach}
 use Rattle.lh_verify_labels.proofs.probes.by_turns.Goals as goal
 
 pub returns-then-are_same : goal.returns-then-are_same

@@ -4,7 +4,7 @@ use Rattle.lh_unit.specs.Table.{line_at}
 use Rattle.lh_unit.specs.Arena.{sizes, table_at, value_count}
 use Rattle.lh_verify_labels.specs.Marking.{comes_from}
 use Rattle.lh_verify_labels.proofs.MarkingSteps.{advance-more}
-use Rattle.lh_unit.proofs.Placing.{result-placed}
+use Rattle.lh_unit.proofs.PlacedIds.{result-placed}
 use Rattle.lh_verify_labels.proofs.probes.mark_inst.Goals as goal
 
 pub bounds-next-place : goal.bounds-next-place

@@ -2,7 +2,7 @@ use Rattle.std.proofs.Common.{◌≡◌, ℕ, ◌+◌, ◌++◌, ◌∷◌, [], 
 use Rattle.lh_unit.specs.declared.inst.Arg.{Arg}
 use Rattle.lh_verify_values.specs.FactsOfUnit.{FactsAfter, Marks}
 use Rattle.lh_verify_values.proofs.KnowingSteps.{take-item, take-all}
-use Rattle.lh_unit.proofs.Placing.{args-item}
+use Rattle.lh_unit.proofs.PlacedIds.{args-item}
 use Rattle.lh_verify_values.proofs.facts.tell_args.Goals as goal
 
 pub tell_arg_at-requires-clause-within : goal.tell_arg_at-requires-clause-within

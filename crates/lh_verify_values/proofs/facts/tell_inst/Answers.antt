@@ -4,7 +4,7 @@ use Rattle.lh_unit.specs.Within.{MaybeWithin}
 use Rattle.lh_unit.specs.Table.{line_at}
 use Rattle.lh_unit.specs.Arena.{naming, sizes, table_at, value_count}
 use Rattle.lh_verify_values.proofs.KnowingSteps.{knows-after, knows-more, knows-grows, on-ok-both}
-use Rattle.lh_unit.proofs.Placing.{result-placed}
+use Rattle.lh_unit.proofs.PlacedIds.{result-placed}
 use Rattle.lh_verify_values.proofs.facts.tell_inst.Goals as goal
 
 pub bounds-facts-place : goal.bounds-facts-place

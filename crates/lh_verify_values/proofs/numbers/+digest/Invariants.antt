@@ -1,5 +1,5 @@
 use Rattle.lh_types.specs.Types.{node_count, node_count_row, row_of}
-use Rattle.lh_verify_values.proofs.Numbering.{DigestAt}
+use Rattle.lh_verify_values.proofs.TypeNumbers.{DigestAt}
 use Rattle.lh_verify_values.proofs.numbers.+digest.Given as goal
 
 abbrev pub decreases-digest : goal.decreases-digest

@@ -3,7 +3,7 @@ use Rattle.std.proofs.lemmas.Result.{err_from_is_err_and}
 use Rattle.lh_unit.specs.Paths.{shown_in, path_at}
 use Rattle.lh_design.specs.Texts.{design_text}
 use Rattle.lh_wave.proofs.Courses.{none_of}
-use Rattle.lh_wave.proofs.HeadGoing.{head_start, head_put, head_passed, head_short, head_stopped, head_short_by, head_told}
+use Rattle.lh_wave.proofs.HeadLaws.{head_start, head_put, head_passed, head_short, head_stopped, head_short_by, head_told}
 use Rattle.lh_wave.proofs.head.write_trace_head.Goals as goal
 
 pub returns-in_err-path-clause-err : goal.returns-in_err-path-clause-err

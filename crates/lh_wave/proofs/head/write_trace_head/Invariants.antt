@@ -1,7 +1,7 @@
 use Rattle.std.proofs.Common.{◌≡◌, ◌≤◌}
 use Rattle.lh_unit.specs.Paths.{shown_in, path_at}
 use Rattle.lh_design.specs.Texts.{design_text}
-use Rattle.lh_wave.proofs.HeadGoing.{HeadGoing}
+use Rattle.lh_wave.proofs.HeadLaws.{HeadGoing}
 use Rattle.lh_wave.proofs.head.write_trace_head.Given as goal
 
 abbrev pub invariant-loop-k : goal.invariant-loop-k

@@ -4,7 +4,7 @@ use Rattle.lh_unit.specs.Paths.{shown_in}
 use Rattle.lh_design.specs.Texts.{design_text}
 use Rattle.lh_wave.specs.HeadText.{signals_in}
 use Rattle.lh_wave.proofs.Courses.{none_of, none_failed, failed_short}
-use Rattle.lh_wave.proofs.HeadGoing.{head_by_vcd}
+use Rattle.lh_wave.proofs.HeadLaws.{head_by_vcd}
 use Rattle.lh_wave.proofs.run.write_head.Goals as goal
 
 pub returns-in_err-head-in-Vcd-clause-err : goal.returns-in_err-head-in-Vcd-clause-err

@@ -1,6 +1,6 @@
 use Rattle.std.proofs.Common.{refl}
 use Rattle.lh_text_buffer.proofs.Parts.{all-left}
-use Rattle.lh_wave.proofs.Recording.{AllWriting-next, AllWriting-end}
+use Rattle.lh_wave.proofs.ValueLines.{AllWriting-next, AllWriting-end}
 use Rattle.lh_wave.proofs.waveform.put_all.Goals as goal
 
 pub loop-k-init : goal.loop-k-init

@@ -1,4 +1,4 @@
-use Rattle.lh_wave.proofs.Recording.{AllWriting}
+use Rattle.lh_wave.proofs.ValueLines.{AllWriting}
 use Rattle.lh_wave.proofs.waveform.put_all.Given as goal
 
 abbrev pub invariant-loop-k : goal.invariant-loop-k

@@ -1,7 +1,7 @@
 use Rattle.std.proofs.Common.{map, ap, ◌∙◌}
 use Rattle.std.proofs.lemmas.List.{take_all}
 use Rattle.lh_types.specs.ValueOf.{datum_of}
-use Rattle.lh_wave.proofs.Recording.{values_more}
+use Rattle.lh_wave.proofs.ValueLines.{values_more}
 use Rattle.lh_wave.proofs.waveform.values_of.Goals as goal
 
 pub loop-c-init : goal.loop-c-init

@@ -1,5 +1,5 @@
 use Rattle.std.proofs.Common.{sym, ◌∙◌}
-use Rattle.lh_args.proofs.Watching.{no_titles}
+use Rattle.lh_args.proofs.WatchTitles.{no_titles}
 use Rattle.lh_args.proofs.command.TitlesIterator.next.Goals as goal
 
 pub returns-clause-steps : goal.returns-clause-steps

@@ -1,4 +1,4 @@
-use Rattle.lh_args.proofs.Finding.{found_watch}
+use Rattle.lh_args.proofs.OptionsFound.{found_watch}
 use Rattle.lh_args.proofs.found.FoundOptions.with.Goals as goal
 
 pub returns-in-Watch-clause-some : goal.returns-in-Watch-clause-some

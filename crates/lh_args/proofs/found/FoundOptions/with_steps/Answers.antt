@@ -1,5 +1,5 @@
 use Rattle.std.proofs.Common.{sym}
-use Rattle.lh_args.proofs.Finding.{found_steps, steps_twice}
+use Rattle.lh_args.proofs.OptionsFound.{found_steps, steps_twice}
 use Rattle.lh_args.proofs.found.FoundOptions.with_steps.Goals as goal
 
 pub returns-then-is_some-clause-none : goal.returns-then-is_some-clause-none

@@ -1,5 +1,5 @@
 use Rattle.std.proofs.Common.{sym}
-use Rattle.lh_args.proofs.Finding.{found_top, top_twice}
+use Rattle.lh_args.proofs.OptionsFound.{found_top, top_twice}
 use Rattle.lh_args.proofs.found.FoundOptions.with_top.Goals as goal
 
 pub returns-then-is_some-clause-none : goal.returns-then-is_some-clause-none

@@ -1,4 +1,4 @@
-use Rattle.lh_args.proofs.Finding.{found_vcd, vcd_twice}
+use Rattle.lh_args.proofs.OptionsFound.{found_vcd, vcd_twice}
 use Rattle.lh_args.proofs.found.FoundOptions.with_vcd.Goals as goal
 
 pub returns-then-self-clause-none : goal.returns-then-self-clause-none

@@ -1,5 +1,5 @@
 use Rattle.std.proofs.Common.{length, arith}
-use Rattle.lh_bits.proofs.Writing.{row-within, part-written}
+use Rattle.lh_bits.proofs.WrittenBits.{row-within, part-written}
 use Rattle.lh_bits.proofs.bit_run.BitRun.set.Goals as goal
 
 pub put_part-requires-clause-within : goal.put_part-requires-clause-within

@@ -1,6 +1,6 @@
 use Rattle.std.proofs.Common.{◌≡◌, ◌+◌, ◌++◌, ap, ◌∙◌, rules}
 use Rattle.lh_bits.specs.Writes.{numbered}
-use Rattle.lh_bits.proofs.Writing.{bits-push, counted-push}
+use Rattle.lh_bits.proofs.WrittenBits.{bits-push, counted-push}
 use Rattle.lh_bits.proofs.writes.BitWrites.push_run.Goals as goal
 
 pub invariant_of-self-2 : goal.invariant_of-self-2

@@ -1,6 +1,6 @@
 use Rattle.std.proofs.Common.{◌+◌, List, Bool, length, drop, ap, sym, ◌∙◌, subst}
 use Rattle.lh_bits.specs.Writes.{numbered, bits_of, written, BitsWithin}
-use Rattle.lh_bits.proofs.Writing.{runs-next, within-left, within-written, written-append}
+use Rattle.lh_bits.proofs.WrittenBits.{runs-next, within-left, within-written, written-append}
 use Rattle.lh_bits.proofs.writes.BitWrites.set.Goals as goal
 
 pub set-requires : goal.set-requires

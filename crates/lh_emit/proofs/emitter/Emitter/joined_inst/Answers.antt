@@ -1,5 +1,5 @@
 use Rattle.std.proofs.Common.{◌≡◌, ◌∙◌, refl}
-use Rattle.lh_emit.proofs.Giving.{have-made, gives-joined, inst-cause, inst-no-memory, joined-not}
+use Rattle.lh_emit.proofs.GivenLines.{have-made, gives-joined, inst-cause, inst-no-memory, joined-not}
 use Rattle.lh_term.proofs.Swaps.{in_grown}
 use Rattle.lh_emit.proofs.emitter.Emitter.joined_inst.Goals as goal
 

@@ -1,6 +1,6 @@
 use Rattle.std.proofs.Common.{◌≡◌}
-use Rattle.lh_emit.proofs.Giving.{can-give, makes-inst, makes-not, make-cause, make-no-memory}
-use Rattle.lh_emit.proofs.Walking.{gives-fault}
+use Rattle.lh_emit.proofs.GivenLines.{can-give, makes-inst, makes-not, make-cause, make-no-memory}
+use Rattle.lh_emit.proofs.StepLaws.{gives-fault}
 use Rattle.lh_emit.proofs.emitter.Emitter.make.Goals as goal
 
 pub give-requires : goal.give-requires

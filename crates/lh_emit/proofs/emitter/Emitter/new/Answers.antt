@@ -1,7 +1,7 @@
 use Rattle.std.proofs.Common.{◌≡◌, ◌∙◌, sym}
 use Rattle.lh_emit_source.specs.Origins.{source_by}
-use Rattle.lh_emit.proofs.Beginning.{begins-emitted}
-use Rattle.lh_emit.proofs.Sourcing.{source-of, source-names}
+use Rattle.lh_emit.proofs.EmptyEntity.{begins-emitted}
+use Rattle.lh_emit.proofs.SourceSteps.{source-of, source-names}
 use Rattle.lh_emit.proofs.emitter.Emitter.new.Goals as goal
 
 pub returns : goal.returns

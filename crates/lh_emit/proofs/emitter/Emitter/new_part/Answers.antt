@@ -1,5 +1,5 @@
-use Rattle.lh_emit.proofs.Parting.{new-types, new-from, takes-new, takes-not, part-cause, part-no-memory}
-use Rattle.lh_emit.proofs.Sourcing.{route-steps}
+use Rattle.lh_emit.proofs.PartNeeds.{new-types, new-from, takes-new, takes-not, part-cause, part-no-memory}
+use Rattle.lh_emit.proofs.SourceSteps.{route-steps}
 use Rattle.lh_emit.proofs.emitter.Emitter.new_part.Goals as goal
 
 pub returns-in_err-route : goal.returns-in_err-route

@@ -4,7 +4,7 @@ use Rattle.lh_emit.specs.Underway.{tops}
 use Rattle.lh_emit.specs.Values.{value_in}
 use Rattle.lh_emit.specs.declared.tasks.Task.TheVariants.{Need}
 use Rattle.lh_region_joins.proofs.Conditions.{grows-none}
-use Rattle.lh_emit.proofs.Going.{go-there, go-open, go-no-memory, go-cause, goes-not-open, need-in}
+use Rattle.lh_emit.proofs.TaskSteps.{go-there, go-open, go-no-memory, go-cause, goes-not-open, need-in}
 use Rattle.lh_emit.proofs.emitter.Emitter.open.Goals as goal
 
 pub returns-then-is_some-clause-gone : goal.returns-then-is_some-clause-gone

@@ -3,7 +3,7 @@ use Rattle.lh_unit.specs.declared.inst.Typed.{Typed}
 use Rattle.lh_term.specs.declared.term.TermId.{TermId}
 use Rattle.lh_term.specs.Arena.{AreIn}
 use Rattle.lh_emit.specs.Operations.{HaveValues, AreValues, IsOperandsOn, operands_of}
-use Rattle.lh_emit.proofs.Giving.{values-length}
+use Rattle.lh_emit.proofs.GivenLines.{values-length}
 use Rattle.lh_emit.proofs.emitter.Emitter.operands_on.Goals as goal
 
 along : {E : Type 0} (P Q : List Typed → Type 0) (r : Result (List Typed) E) → ((x : List Typed) → P x → Q x) → IfOk r P → IfOk r Q

@@ -1,5 +1,5 @@
 use Rattle.std.proofs.Common.{◌≡◌}
-use Rattle.lh_emit.proofs.Giving.{can-probe, gives-probe, probe-not, inst-cause, inst-no-memory}
+use Rattle.lh_emit.proofs.GivenLines.{can-probe, gives-probe, probe-not, inst-cause, inst-no-memory}
 use Rattle.lh_emit.proofs.emitter.Emitter.probe.Goals as goal
 
 pub take_part-requires : goal.take_part-requires

@@ -1,4 +1,4 @@
-use Rattle.lh_emit.proofs.Giving.{inst-no-memory}
+use Rattle.lh_emit.proofs.GivenLines.{inst-no-memory}
 use Rattle.lh_emit.proofs.emitter.Emitter.probe_inst.Goals as goal
 
 pub returns-in_err-part : goal.returns-in_err-part

@@ -1,6 +1,6 @@
 use Rattle.std.proofs.Common.{ap, sym, ◌∙◌}
 use Rattle.lh_term.specs.Tree.{constant}
-use Rattle.lh_emit.proofs.Giving.{gives-scalar, inst-no-memory}
+use Rattle.lh_emit.proofs.GivenLines.{gives-scalar, inst-no-memory}
 use Rattle.lh_emit.proofs.emitter.Emitter.scalar_inst.Goals as goal
 
 pub returns : goal.returns

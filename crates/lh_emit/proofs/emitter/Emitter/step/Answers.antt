@@ -1,7 +1,7 @@
 use Rattle.std.proofs.Common.{◌≡◌, ◌∷◌, sym, subst}
 use Rattle.lh_emit.specs.Underway.{CanGo, GoesOr, tops}
 use Rattle.lh_emit.specs.declared.tasks.Task.{Task}
-use Rattle.lh_emit.proofs.Going.{can-make, go-make}
+use Rattle.lh_emit.proofs.TaskSteps.{can-make, go-make}
 use Rattle.lh_emit.proofs.emitter.Emitter.step.Goals as goal
 
 pub open-requires : goal.open-requires

@@ -2,7 +2,7 @@ use Rattle.std.proofs.Common.{◌≡◌, ◌∙◌, ap, sym, subst, false}
 use Rattle.lh_types.specs.Types.{int_type}
 use Rattle.lh_emit.specs.Parts.{part_in}
 use Rattle.lh_emit.specs.Underway.{CanTakePart, IsNewPart, TakesPartOr}
-use Rattle.lh_emit.proofs.Parting.{part-in-args, takes-whole, takes-known, part-no-memory, new-part}
+use Rattle.lh_emit.proofs.PartNeeds.{part-in-args, takes-whole, takes-known, part-no-memory, new-part}
 use Rattle.lh_emit.proofs.emitter.Emitter.take_part.Goals as goal
 
 pub is_whole-requires : goal.is_whole-requires

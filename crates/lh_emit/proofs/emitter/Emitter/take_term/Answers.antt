@@ -2,7 +2,7 @@ use Rattle.std.proofs.Common.{◌≡◌, ◌∙◌, [], ◌∷◌, List, length,
 use Rattle.lh_term.proofs.Swaps.{grows_on}
 use Rattle.lh_emit.specs.declared.tasks.Task.{Task}
 use Rattle.lh_region_joins.proofs.Conditions.{grows-none}
-use Rattle.lh_emit.proofs.Going.{gone-first, can-step, gone-next, less-left, step-cause, nothing-left, takes-term, term-valued, term-cause, term-no-memory}
+use Rattle.lh_emit.proofs.TaskSteps.{gone-first, can-step, gone-next, less-left, step-cause, nothing-left, takes-term, term-valued, term-cause, term-no-memory}
 use Rattle.lh_emit.proofs.emitter.Emitter.take_term.Goals as goal
 
 pub loop-task-init : goal.loop-task-init

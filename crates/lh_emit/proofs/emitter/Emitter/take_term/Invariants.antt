@@ -1,6 +1,6 @@
 use Rattle.lh_emit.specs.Tasks.{steps_size}
 use Rattle.lh_emit.specs.Underway.{steps_at, tops}
-use Rattle.lh_emit.proofs.Going.{GoneSoFar}
+use Rattle.lh_emit.proofs.TaskSteps.{GoneSoFar}
 use Rattle.lh_emit.proofs.emitter.Emitter.take_term.Given as goal
 
 abbrev pub invariant-loop-task : goal.invariant-loop-task

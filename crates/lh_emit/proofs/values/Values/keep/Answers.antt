@@ -1,4 +1,4 @@
-use Rattle.lh_emit.proofs.Valuing.{kept}
+use Rattle.lh_emit.proofs.ValuePlaces.{kept}
 use Rattle.lh_emit.proofs.values.Values.keep.Goals as goal
 
 pub returns : goal.returns

@@ -1,5 +1,5 @@
 use Rattle.std.proofs.Common.{◌≡◌, ◌++◌, ◌∷◌, [], refl, ap, ◌∙◌, ◌<◌, arith}
-use Rattle.lh_emit_body.proofs.Adding.{adds-arg}
+use Rattle.lh_emit_body.proofs.AddedLines.{adds-arg}
 use Rattle.lh_emit_body.proofs.lines.Lines.add_arg.Goals as goal
 
 pub returns : goal.returns

@@ -1,5 +1,5 @@
 use Rattle.std.proofs.Common.{◌≡◌, length, arith}
-use Rattle.lh_emit_body.proofs.Adding.{is-most, has-few, gives-nothing}
+use Rattle.lh_emit_body.proofs.AddedLines.{is-most, has-few, gives-nothing}
 use Rattle.lh_emit_body.proofs.lines.Lines.give.Goals as goal
 
 pub returns-then-len-eq-MAX_LINES : goal.returns-then-len-eq-MAX_LINES

@@ -1,6 +1,6 @@
 use Rattle.std.proofs.Common.{length}
 use Rattle.lh_emit_body.specs.Lines.{most_lines}
-use Rattle.lh_emit_body.proofs.Adding.{not-all, gives-named}
+use Rattle.lh_emit_body.proofs.AddedLines.{not-all, gives-named}
 use Rattle.lh_emit_body.proofs.lines.Lines.give_line.Goals as goal
 
 pub returns : goal.returns

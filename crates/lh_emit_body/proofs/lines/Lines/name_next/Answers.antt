@@ -1,5 +1,5 @@
 use Rattle.std.proofs.Common.{◌∙◌, refl}
-use Rattle.lh_emit_body.proofs.Adding.{room-seek}
+use Rattle.lh_emit_body.proofs.AddedLines.{room-seek}
 use Rattle.lh_emit_body.proofs.lines.Lines.name_next.Goals as goal
 
 pub name-requires : goal.name-requires

@@ -1,4 +1,4 @@
-use Rattle.lh_emit_body.proofs.Adding.{no-room, begins-none}
+use Rattle.lh_emit_body.proofs.AddedLines.{no-room, begins-none}
 use Rattle.lh_emit_body.proofs.lines.Lines.new.Goals as goal
 
 pub returns-clause-room : goal.returns-clause-room

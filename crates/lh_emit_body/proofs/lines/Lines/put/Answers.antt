@@ -1,5 +1,5 @@
 use Rattle.std.proofs.Common.{◌≡◌, length, refl, arith}
-use Rattle.lh_emit_body.proofs.Adding.{is-most, not-most, puts-nothing, puts-one}
+use Rattle.lh_emit_body.proofs.AddedLines.{is-most, not-most, puts-nothing, puts-one}
 use Rattle.lh_emit_body.proofs.lines.Lines.put.Goals as goal
 
 pub returns-then-len-eq-MAX_LINES : goal.returns-then-len-eq-MAX_LINES

@@ -1,7 +1,7 @@
 use Rattle.std.proofs.Common.{◌≡◌, ◌+◌, ◌-◌, suc, true, ap, sym, ◌∙◌, arith}
 use Rattle.lh_emit_def.specs.Names.{value_name, free_number}
 use Rattle.lh_emit_body.specs.Fresh.{is_among}
-use Rattle.lh_emit_body.proofs.Taking.{seeks-next, seeks-none, seeks-end}
+use Rattle.lh_emit_body.proofs.TakenNames.{seeks-next, seeks-none, seeks-end}
 use Rattle.lh_emit_body.proofs.names.Fresh.name.Goals as goal
 use Rattle.lh_emit_body.proofs.names.Fresh.name.Goals.{then-loop-tries-test+else-is_taken, else-loop-tries-test}
 

@@ -1,6 +1,6 @@
 use Rattle.std.proofs.Common.{◌≡◌, ◌+◌}
 use Rattle.lh_emit_def.specs.Names.{value_name}
-use Rattle.lh_emit_body.proofs.Taking.{Seeks}
+use Rattle.lh_emit_body.proofs.TakenNames.{Seeks}
 use Rattle.lh_emit_body.proofs.names.Fresh.name.Given as goal
 
 abbrev pub invariant-loop-tries : goal.invariant-loop-tries

@@ -1,5 +1,5 @@
 use Rattle.std.proofs.Common.{refl, sym, subst}
-use Rattle.lh_emit_body.proofs.Taking.{Enters, taken-passed, other-passed}
+use Rattle.lh_emit_body.proofs.TakenNames.{Enters, taken-passed, other-passed}
 use Rattle.lh_emit_body.proofs.names.Fresh.pass_over.Goals as goal
 
 pub returns-in_ok-insert-clause-passed : goal.returns-in_ok-insert-clause-passed

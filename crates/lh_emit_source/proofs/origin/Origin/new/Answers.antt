@@ -1,6 +1,6 @@
 use Rattle.std.proofs.Common.{length, subst, sym}
 use Rattle.lh_flat.specs.Below.{ValuesBelow}
-use Rattle.lh_emit_source.proofs.Keeping.{results-values}
+use Rattle.lh_emit_source.proofs.FirstSteps.{results-values}
 use Rattle.lh_emit_source.proofs.origin.Origin.new.Goals as goal
 
 pub firsts_among-requires : goal.firsts_among-requires

@@ -1,7 +1,7 @@
 use Rattle.std.proofs.Common.{length, refl, subst, sym}
 use Rattle.std.specs.Option.{IsSome}
 use Rattle.lh_emit_source.specs.Firsts.{kept_for, key_of}
-use Rattle.lh_emit_source.proofs.Keeping.{first-some, first-met, first-missed}
+use Rattle.lh_emit_source.proofs.FirstSteps.{first-some, first-met, first-missed}
 use Rattle.lh_emit_source.proofs.Routes.{steps-given, none-given}
 use Rattle.lh_emit_source.proofs.origin.Origin.steps.Goals as goal
 

@@ -2,7 +2,7 @@ use Rattle.std.proofs.Common.{◌≡◌, ◌-◌, ◌+◌, suc, true, false, ari
 use Rattle.lh_unit.specs.Activation.{run}
 use Rattle.lh_exec.specs.Standing.{scene_of, goes_on}
 use Rattle.lh_exec.proofs.Rights.{functions-right}
-use Rattle.lh_exec.proofs.Running.{more-fit, goes-on, ends-here, none-left}
+use Rattle.lh_exec.proofs.RunSteps.{more-fit, goes-on, ends-here, none-left}
 use Rattle.lh_exec.proofs.machine.Machine.run.Goals as goal
 
 pub loop-i-preserved : goal.loop-i-preserved

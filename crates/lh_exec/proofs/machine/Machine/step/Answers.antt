@@ -4,7 +4,7 @@ use Rattle.lh_unit.specs.Within.{Each}
 use Rattle.lh_unit.specs.declared.inst.InstId.{InstId}
 use Rattle.lh_unit.proofs.Lists.{Each-at}
 use Rattle.lh_exec.specs.Standing.{scene_of}
-use Rattle.lh_exec.proofs.Passing.{name-in, past-is, past, insts-here, stepped, line-right, past-fits}
+use Rattle.lh_exec.proofs.NextInstructions.{name-in, past-is, past, insts-here, stepped, line-right, past-fits}
 use Rattle.lh_exec.proofs.machine.Machine.step.Goals as goal
 
 pub result_of-name-requires-clause-inst : goal.result_of-name-requires-clause-inst

@@ -5,8 +5,8 @@ use Rattle.lh_unit.specs.declared.table.TableLine.{TableLine}
 use Rattle.lh_flat.specs.declared.build.FlatBuilder.{FlatBuilder}
 use Rattle.lh_flat.specs.Graph.{callee_of}
 use Rattle.lh_flat.specs.Building.{line_of, put, taken, line_added, insts_added, blocks_added, call_added}
-use Rattle.lh_flat.proofs.Reading.{placed-at}
-use Rattle.lh_flat.proofs.Building.{call_added-none, call_added-is, copy_added}
+use Rattle.lh_flat.proofs.CallGraph.{placed-at}
+use Rattle.lh_flat.proofs.BuilderRoom.{call_added-none, call_added-is, copy_added}
 use Rattle.lh_flat.proofs.build.FlatBuilder.+copying.Goals as goal
 
 pub add_call-returns-then-depth-eq0 : goal.add_call-returns-then-depth-eq0

@@ -1,4 +1,4 @@
-use Rattle.lh_flat.proofs.Reading.{placed-at}
+use Rattle.lh_flat.proofs.CallGraph.{placed-at}
 use Rattle.lh_flat.proofs.copy.UnitCopy.given.Goals as goal
 
 pub give_block-requires : goal.give_block-requires

@@ -1,7 +1,7 @@
 use Rattle.std.proofs.Common.{ap, ◌∙◌}
 use Rattle.std.specs.Option.{option_map}
 use Rattle.lh_flat.specs.Renames.{value_in, renamed}
-use Rattle.lh_flat.proofs.Building.{maybe-within}
+use Rattle.lh_flat.proofs.BuilderRoom.{maybe-within}
 use Rattle.lh_flat.proofs.copy.UnitCopy.inst.Goals as goal
 
 pub maybe-requires : goal.maybe-requires

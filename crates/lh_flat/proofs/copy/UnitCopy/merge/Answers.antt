@@ -1,5 +1,5 @@
 use Rattle.std.proofs.Common.{Some}
-use Rattle.lh_flat.proofs.Building.{maybe-within}
+use Rattle.lh_flat.proofs.BuilderRoom.{maybe-within}
 use Rattle.lh_flat.proofs.copy.UnitCopy.merge.Goals as goal
 
 pub value-requires : goal.value-requires

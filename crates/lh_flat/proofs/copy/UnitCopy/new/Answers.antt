@@ -1,7 +1,7 @@
 use Rattle.std.proofs.Common.{sym, ◌∙◌, subst}
 use Rattle.lh_unit.specs.Table.{ArgsWithin}
 use Rattle.lh_flat.specs.Building.{call_room}
-use Rattle.lh_flat.proofs.Building.{args-fit, ids-fit}
+use Rattle.lh_flat.proofs.BuilderRoom.{args-fit, ids-fit}
 use Rattle.lh_flat.proofs.copy.UnitCopy.new.Goals as goal
 
 pub bind-requires : goal.bind-requires

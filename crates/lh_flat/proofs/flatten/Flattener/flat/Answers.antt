@@ -3,8 +3,8 @@ use Rattle.std.proofs.lemmas.Result.{err_from_is_err_and}
 use Rattle.lh_unit.specs.declared.inst.UnitId.{UnitId}
 use Rattle.lh_unit_graph.specs.Measures.{NodesWithin}
 use Rattle.lh_flat.specs.Measures.{measuring}
-use Rattle.lh_flat.proofs.Reading.{graph-within}
-use Rattle.lh_flat.proofs.Flattening.{flat-refused, flat-deep, flat-large, flat-made, flat-below}
+use Rattle.lh_flat.proofs.CallGraph.{graph-within}
+use Rattle.lh_flat.proofs.FlatTexts.{flat-refused, flat-deep, flat-large, flat-made, flat-below}
 use Rattle.lh_flat.proofs.flatten.Flattener.flat.Goals as goal
 
 pub measure_of-requires-clause-within : goal.measure_of-requires-clause-within

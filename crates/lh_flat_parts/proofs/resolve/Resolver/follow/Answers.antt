@@ -1,4 +1,4 @@
-use Rattle.lh_flat_parts.proofs.Following.{follow-found, follow-within, follow-follows}
+use Rattle.lh_flat_parts.proofs.StepPaths.{follow-found, follow-within, follow-follows}
 use Rattle.lh_flat_parts.proofs.resolve.Resolver.follow.Goals as goal
 
 pub go_forth-requires-clause-found : goal.go_forth-requires-clause-found

@@ -1,5 +1,5 @@
 use Rattle.std.proofs.Common.{◌∙◌}
-use Rattle.lh_flat_parts.proofs.Following.{Walking-next}
+use Rattle.lh_flat_parts.proofs.StepPaths.{Walking-next}
 use Rattle.lh_flat_parts.proofs.resolve.Resolver.go_back.Goals as goal
 
 pub loop-next-smaller : goal.loop-next-smaller

@@ -1,5 +1,5 @@
 use Rattle.std.proofs.Common.{◌≡◌, ◌<◌, length}
-use Rattle.lh_flat_parts.proofs.Following.{OnWay, unmet_count}
+use Rattle.lh_flat_parts.proofs.StepPaths.{OnWay, unmet_count}
 use Rattle.lh_flat_parts.proofs.resolve.Resolver.go_back.Given as goal
 
 abbrev pub invariant-loop-next : goal.invariant-loop-next

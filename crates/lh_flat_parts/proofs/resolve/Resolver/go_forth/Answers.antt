@@ -3,7 +3,7 @@ use Rattle.lh_unit.specs.declared.inst.ValueId.{ValueId}
 use Rattle.lh_flat_parts.specs.declared.step.PartStep.{PartStep}
 use Rattle.lh_flat_parts.specs.Resolving.{Steppable, part_by_step}
 use Rattle.lh_flat_parts.specs.Steps.{step_at}
-use Rattle.lh_flat_parts.proofs.Following.{Forth-next}
+use Rattle.lh_flat_parts.proofs.StepPaths.{Forth-next}
 use Rattle.lh_flat_parts.proofs.resolve.Resolver.go_forth.Goals as goal
 
 pub part_of-requires-clause-found : goal.part_of-requires-clause-found

@@ -1,5 +1,5 @@
 use Rattle.std.proofs.Common.{◌≡◌, length}
-use Rattle.lh_flat_parts.proofs.Following.{Forth}
+use Rattle.lh_flat_parts.proofs.StepPaths.{Forth}
 use Rattle.lh_flat_parts.proofs.resolve.Resolver.go_forth.Given as goal
 
 abbrev pub invariant-loop-value : goal.invariant-loop-value

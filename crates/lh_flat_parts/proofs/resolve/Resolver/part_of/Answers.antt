@@ -1,5 +1,5 @@
 use Rattle.std.proofs.Common.{◌<◌, subst, sym, ℕ}
-use Rattle.lh_flat_parts.proofs.Following.{steps-from, read-step}
+use Rattle.lh_flat_parts.proofs.StepPaths.{steps-from, read-step}
 use Rattle.lh_flat_parts.proofs.resolve.Resolver.part_of.Goals as goal
 
 pub part_by-requires-clause-is_in : goal.part_by-requires-clause-is_in

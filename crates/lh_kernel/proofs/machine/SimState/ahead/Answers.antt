@@ -4,7 +4,7 @@ use Rattle.lh_kernel.specs.Touched.{bits_then}
 use Rattle.lh_kernel_changes.specs.Touched.{OthersStay}
 use Rattle.lh_kernel.specs.Kept.{IsKept}
 use Rattle.lh_kernel.specs.Phases.{awake_in, woken_in, IsPlanned, RisesWithin}
-use Rattle.lh_kernel.proofs.Noting.{on_err, noted_itself}
+use Rattle.lh_kernel.proofs.NotedInstances.{on_err, noted_itself}
 use Rattle.lh_kernel.proofs.Tallies.{rises_none, rises_woken}
 use Rattle.lh_kernel.specs.declared.machine.SimState.{SimState}
 use Rattle.lh_kernel.proofs.machine.SimState.ahead.Goals as goal

@@ -8,9 +8,9 @@ use Rattle.lh_kernel.specs.declared.machine.SimState.{SimState}
 use Rattle.lh_types.specs.Raised.{raised}
 use Rattle.lh_unit.specs.Frames.{activated_count}
 use Rattle.lh_kernel.specs.Phases.{awake_in, looked_at}
-use Rattle.lh_kernel.proofs.Noting.{on_err}
+use Rattle.lh_kernel.proofs.NotedInstances.{on_err}
 use Rattle.lh_kernel.proofs.Tallies.{tally_woken}
-use Rattle.lh_kernel.proofs.Framing.{is_taken, there_ahead, can_taken, kept_same, kept_runaway, back_same, kept_frame, frame_ends, frame_goes_on}
+use Rattle.lh_kernel.proofs.FrameLaws.{is_taken, there_ahead, can_taken, kept_same, kept_runaway, back_same, kept_frame, frame_ends, frame_goes_on}
 use Rattle.lh_kernel.proofs.machine.SimState.frame.Goals as goal
 
 pub commit-requires-clause-can : goal.commit-requires-clause-can

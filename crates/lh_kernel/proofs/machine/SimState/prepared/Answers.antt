@@ -2,7 +2,7 @@ use Rattle.std.proofs.Common.{sym, subst}
 use Rattle.lh_kernel.specs.Moves.{MovesKnown}
 use Rattle.lh_kernel.specs.Phases.{awake_in}
 use Rattle.lh_kernel.proofs.Ahead.{fresh_as}
-use Rattle.lh_kernel.proofs.Noting.{on_err, noted_itself}
+use Rattle.lh_kernel.proofs.NotedInstances.{on_err, noted_itself}
 use Rattle.lh_kernel.proofs.Tallies.{rises_activated}
 use Rattle.lh_kernel.proofs.machine.SimState.prepared.Goals as goal
 

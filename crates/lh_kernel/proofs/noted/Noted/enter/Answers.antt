@@ -1,6 +1,6 @@
 use Rattle.std.proofs.Common.{◌+◌, sym, ◌∙◌}
-use Rattle.lh_kernel.proofs.Noting.{at_err, at_ok}
-use Rattle.lh_kernel.proofs.Entering.{came_known, known_first, fresh_first, entered_next, entered_some}
+use Rattle.lh_kernel.proofs.NotedInstances.{at_err, at_ok}
+use Rattle.lh_kernel.proofs.NotedMoves.{came_known, known_first, fresh_first, entered_next, entered_some}
 use Rattle.lh_kernel.proofs.noted.Noted.enter.Goals as goal
 
 pub note-requires : goal.note-requires

@@ -1,5 +1,5 @@
 use Rattle.std.proofs.Common.{refl}
-use Rattle.lh_kernel.proofs.Noting.{known_next, forget_signal, forget_wake}
+use Rattle.lh_kernel.proofs.NotedInstances.{known_next, forget_signal, forget_wake}
 use Rattle.lh_kernel.proofs.noted.Noted.forget.Goals as goal
 
 pub leave-requires : goal.leave-requires

@@ -1,5 +1,5 @@
 use Rattle.std.proofs.Common.{arith, ◌-◌, drop}
-use Rattle.lh_kernel.proofs.Entering.{gone_known, drop_back, left_before}
+use Rattle.lh_kernel.proofs.NotedMoves.{gone_known, drop_back, left_before}
 use Rattle.lh_kernel.proofs.noted.Noted.leave.Goals as goal
 
 pub forget-requires : goal.forget-requires

@@ -1,5 +1,5 @@
 use Rattle.std.proofs.Common.{refl}
-use Rattle.lh_kernel.proofs.Noting.{known_next, note_signal, note_wake, noted_some, on_err}
+use Rattle.lh_kernel.proofs.NotedInstances.{known_next, note_signal, note_wake, noted_some, on_err}
 use Rattle.lh_kernel.proofs.noted.Noted.note.Goals as goal
 
 pub enter-requires : goal.enter-requires

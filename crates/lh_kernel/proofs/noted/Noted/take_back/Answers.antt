@@ -1,5 +1,5 @@
 use Rattle.std.proofs.Common.{arith, ◌-◌, drop}
-use Rattle.lh_kernel.proofs.Entering.{came_known, drop_back, taken_before, taken_whole, some_entered, back_again}
+use Rattle.lh_kernel.proofs.NotedMoves.{came_known, drop_back, taken_before, taken_whole, some_entered, back_again}
 use Rattle.lh_kernel.proofs.noted.Noted.take_back.Goals as goal
 
 pub forget-requires : goal.forget-requires

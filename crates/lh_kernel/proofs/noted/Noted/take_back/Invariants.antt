@@ -1,5 +1,5 @@
 use Rattle.std.proofs.Common.{drop}
-use Rattle.lh_kernel.proofs.Entering.{HasTakenBack}
+use Rattle.lh_kernel.proofs.NotedMoves.{HasTakenBack}
 use Rattle.lh_kernel.proofs.noted.Noted.take_back.Given as goal
 
 -- the moves from the number on are done

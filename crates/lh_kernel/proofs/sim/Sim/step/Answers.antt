@@ -5,7 +5,7 @@ use Rattle.lh_unit.specs.Frames.{activated_count}
 use Rattle.lh_kernel.specs.Phases.{RisesWithin, woken_in}
 use Rattle.lh_kernel.specs.declared.machine.SimState.{SimState}
 use Rattle.lh_kernel.specs.Simulation.{Simulation}
-use Rattle.lh_kernel.proofs.Stepping.{steps_frame, steps_runaway, steps_tally, steps_err, next_seen, ended_stands, goes_on_still}
+use Rattle.lh_kernel.proofs.StepLaws.{steps_frame, steps_runaway, steps_tally, steps_err, next_seen, ended_stands, goes_on_still}
 use Rattle.lh_kernel.proofs.Tallies.{raised_none}
 use Rattle.lh_kernel.proofs.sim.Sim.step.Goals as goal
 

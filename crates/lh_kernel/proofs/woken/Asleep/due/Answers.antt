@@ -1,6 +1,6 @@
 use Rattle.std.proofs.Common.{ℕ, refl}
 use Rattle.lh_kernel_wakes.specs.Waking.{IsNoted}
-use Rattle.lh_kernel.proofs.Waking.{first_more, first_due}
+use Rattle.lh_kernel.proofs.WokenInstances.{first_more, first_due}
 use Rattle.lh_kernel.proofs.woken.Asleep.due.Goals as goal
 
 pub loop-instance-preserved : goal.loop-instance-preserved

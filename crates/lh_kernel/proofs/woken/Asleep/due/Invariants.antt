@@ -1,4 +1,4 @@
-use Rattle.lh_kernel.proofs.Waking.{HasFirst}
+use Rattle.lh_kernel.proofs.WokenInstances.{HasFirst}
 use Rattle.lh_kernel.proofs.woken.Asleep.due.Given as goal
 
 abbrev pub invariant-loop-instance : goal.invariant-loop-instance

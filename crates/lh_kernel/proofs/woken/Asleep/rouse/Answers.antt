@@ -3,7 +3,7 @@ use Rattle.std.specs.List.{list_any}
 use Rattle.std.proofs.lemmas.Option.{slice_get-get_or, slice_get_within}
 use Rattle.lh_types.specs.declared.part.Range.{Range}
 use Rattle.lh_unit.specs.World.{bit_numbers, bit_differs}
-use Rattle.lh_kernel.proofs.Waking.{RousedTo, sensed_item, read_within, roused_there, roused_more, roused_not}
+use Rattle.lh_kernel.proofs.WokenInstances.{RousedTo, sensed_item, read_within, roused_there, roused_more, roused_not}
 use Rattle.lh_kernel.proofs.woken.Asleep.rouse.Goals as goal
 use Rattle.lh_kernel.proofs.woken.Asleep.rouse.Goals.{then-differs_with+in_ok-enter, else-differs_with}
 

@@ -1,4 +1,4 @@
-use Rattle.lh_kernel.proofs.Waking.{RousedTo}
+use Rattle.lh_kernel.proofs.WokenInstances.{RousedTo}
 use Rattle.lh_kernel.proofs.woken.Asleep.rouse.Given as goal
 
 abbrev pub invariant-loop-instance : goal.invariant-loop-instance

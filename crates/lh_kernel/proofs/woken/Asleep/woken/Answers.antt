@@ -1,6 +1,6 @@
 use Rattle.std.proofs.Common.{refl}
 use Rattle.lh_kernel_changes.proofs.Filled.{known_at}
-use Rattle.lh_kernel.proofs.Waking.{woken_more, woken_end, woken_are}
+use Rattle.lh_kernel.proofs.WokenInstances.{woken_more, woken_end, woken_are}
 use Rattle.lh_kernel.proofs.woken.Asleep.woken.Goals as goal
 
 pub rouse-requires-clause-known : goal.rouse-requires-clause-known

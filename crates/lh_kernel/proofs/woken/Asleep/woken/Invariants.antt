@@ -1,4 +1,4 @@
-use Rattle.lh_kernel.proofs.Waking.{WokenTo}
+use Rattle.lh_kernel.proofs.WokenInstances.{WokenTo}
 use Rattle.lh_kernel.proofs.woken.Asleep.woken.Given as goal
 
 abbrev pub invariant-loop-signal : goal.invariant-loop-signal

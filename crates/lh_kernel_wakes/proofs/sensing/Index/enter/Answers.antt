@@ -1,4 +1,4 @@
-use Rattle.lh_kernel_wakes.proofs.Noting.{noted_more}
+use Rattle.lh_kernel_wakes.proofs.IndexEntries.{noted_more}
 use Rattle.lh_kernel_wakes.proofs.sensing.Index.enter.Goals as goal
 
 pub returns-clause-has : goal.returns-clause-has

@@ -1,4 +1,4 @@
-use Rattle.lh_kernel_wakes.proofs.Noting.{one_new}
+use Rattle.lh_kernel_wakes.proofs.IndexEntries.{one_new}
 use Rattle.lh_kernel_wakes.proofs.sensing.Index.new.Goals as goal
 
 pub loop-signal-preserved : goal.loop-signal-preserved

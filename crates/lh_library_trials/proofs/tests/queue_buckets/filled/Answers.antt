@@ -1,7 +1,7 @@
 use Rattle.std.proofs.Common.{◌≢◌, ◌⊎◌, inl, inr, ⊎_elim, ℕ, refl, sym, subst, ◌∙◌, ap, get_or, arith}
 use Rattle.lh_time.specs.declared.Instant.{Instant}
 use Rattle.lh_queue.specs.Queued.{QueuedWish, EachWithin, NoneCompetes, with_held}
-use Rattle.lh_queue.proofs.Keeping.{more_within, more_apart, different_apart}
+use Rattle.lh_queue.proofs.KeptWishes.{more_within, more_apart, different_apart}
 use Rattle.lh_library_trials.proofs.tests.queue_buckets.filled.Goals as goal
 
 pub put-requires-clause-apart : goal.put-requires-clause-apart

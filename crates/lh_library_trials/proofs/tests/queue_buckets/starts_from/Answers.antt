@@ -1,5 +1,5 @@
 use Rattle.std.proofs.Common.{◌∙◌, sym}
-use Rattle.lh_queue.proofs.Keeping.{sooner_due}
+use Rattle.lh_queue.proofs.KeptWishes.{sooner_due}
 use Rattle.lh_library_trials.proofs.tests.queue_buckets.starts_from.Goals as goal
 
 pub returns-in-Some : goal.returns-in-Some

@@ -1,6 +1,6 @@
 use Rattle.std.proofs.Common.{List, sym, subst}
 use Rattle.lh_queue.specs.Queued.{QueuedWish, EachWithin}
-use Rattle.lh_queue.proofs.Keeping.{later_within}
+use Rattle.lh_queue.proofs.KeptWishes.{later_within}
 use Rattle.lh_library_trials.proofs.tests.queue_buckets.take.Goals as goal
 
 pub returns-then-len-eq8 : goal.returns-then-len-eq8

@@ -1,5 +1,5 @@
 use Rattle.std.proofs.Common.{refl}
-use Rattle.lh_lower.proofs.Taking.{declare-lowers}
+use Rattle.lh_lower.proofs.LoweredItems.{declare-lowers}
 use Rattle.lh_lower.proofs.lowering.Lowering.take.Goals as goal
 
 pub returns-in_ok-copy-in-Declare-clause-lowers : goal.returns-in_ok-copy-in-Declare-clause-lowers

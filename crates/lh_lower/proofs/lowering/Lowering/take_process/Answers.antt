@@ -2,7 +2,7 @@ use Rattle.std.proofs.Common.{refl, sym, subst}
 use Rattle.lh_unit.specs.Arena.{Arena, unit_text_at}
 use Rattle.lh_lower_copy.specs.Putting.{CanPut}
 use Rattle.lh_lower.specs.Outcomes.{IsOutcomeAt}
-use Rattle.lh_lower.proofs.Taking.{unit-within, flattens-same, copies-same, begun-there, can-add, can-put, entity-lowers, left-lowers}
+use Rattle.lh_lower.proofs.LoweredItems.{unit-within, flattens-same, copies-same, begun-there, can-add, can-put, entity-lowers, left-lowers}
 use Rattle.lh_lower.proofs.lowering.Lowering.take_process.Goals as goal
 
 pub put_entity-requires-clause-can : goal.put_entity-requires-clause-can

@@ -1,5 +1,5 @@
 use Rattle.std.proofs.Common.{refl}
-use Rattle.lh_lower.proofs.Taking.{unit-within, unit-begun, copies-same, begun-there, can-add, kept-lowers}
+use Rattle.lh_lower.proofs.LoweredItems.{unit-within, unit-begun, copies-same, begun-there, can-add, kept-lowers}
 use Rattle.lh_lower.proofs.lowering.Lowering.take_unit.Goals as goal
 
 pub is_process-requires : goal.is_process-requires

@@ -1,7 +1,7 @@
 use Rattle.std.proofs.Common.{◌≡◌, ◌+◌, ◌-◌, ◌≤◌, length, drop, ap, ◌∙◌, rules, arith}
 use Rattle.std.specs.List.{insert}
 use Rattle.lh_queue.specs.BucketLine.{Buckets}
-use Rattle.lh_queue.proofs.Lining.{insert-behind, insert-before}
+use Rattle.lh_queue.proofs.BucketLines.{insert-behind, insert-before}
 use Rattle.lh_queue.proofs.line.BucketLine.insert.Goals as goal
 
 pub returns-clause-items : goal.returns-clause-items

@@ -1,6 +1,6 @@
 use Rattle.std.proofs.Common.{drop, ap, ◌∙◌}
 use Rattle.lh_queue.specs.BucketLine.{Buckets}
-use Rattle.lh_queue.proofs.Lining.{drop-again}
+use Rattle.lh_queue.proofs.BucketLines.{drop-again}
 use Rattle.lh_queue.proofs.line.BucketLine.remove_first.Goals as goal
 
 pub returns-then-self-len-clause-items : goal.returns-then-self-len-clause-items

@@ -1,6 +1,6 @@
 use Rattle.std.proofs.Common.{set, ap, ◌∙◌}
 use Rattle.lh_queue.specs.BucketLine.{Buckets}
-use Rattle.lh_queue.proofs.Lining.{set-behind}
+use Rattle.lh_queue.proofs.BucketLines.{set-behind}
 use Rattle.lh_queue.proofs.line.BucketLine.set.Goals as goal
 
 pub returns-clause-items : goal.returns-clause-items

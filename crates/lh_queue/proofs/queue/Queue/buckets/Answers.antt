@@ -1,6 +1,6 @@
 use Rattle.std.proofs.Common.{◌∙◌}
 use Rattle.lh_queue.proofs.Storage.{stored}
-use Rattle.lh_queue.proofs.Leading.{are_buckets}
+use Rattle.lh_queue.proofs.BucketLeads.{are_buckets}
 use Rattle.lh_queue.proofs.queue.Queue.buckets.Goals as goal
 
 pub returns-clause-list : goal.returns-clause-list

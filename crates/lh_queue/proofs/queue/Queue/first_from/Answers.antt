@@ -4,7 +4,7 @@ use Rattle.lh_queue.specs.declared.queue.Bucket.{Bucket}
 use Rattle.lh_queue.specs.Buckets.{TimesRise, buckets_of}
 use Rattle.lh_queue.specs.Places.{earlier}
 use Rattle.lh_queue.proofs.Storage.{stored}
-use Rattle.lh_queue.proofs.Placing.{parted, earlier_at, buckets_rise}
+use Rattle.lh_queue.proofs.WishPlaces.{parted, earlier_at, buckets_rise}
 use Rattle.lh_queue.proofs.queue.Queue.first_from.Goals as goal
 
 pub returns-clause-number : goal.returns-clause-number

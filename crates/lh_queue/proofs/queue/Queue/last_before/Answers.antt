@@ -1,5 +1,5 @@
 use Rattle.std.proofs.Common.{sym, arith}
-use Rattle.lh_queue.proofs.Placing.{further, there, goes_after}
+use Rattle.lh_queue.proofs.WishPlaces.{further, there, goes_after}
 use Rattle.lh_queue.proofs.queue.Queue.last_before.Goals as goal
 
 pub next_before-requires : goal.next_before-requires

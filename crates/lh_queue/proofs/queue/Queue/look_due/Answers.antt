@@ -5,9 +5,9 @@ use Rattle.lh_queue.specs.Holds.{entries}
 use Rattle.lh_queue.specs.Places.{rest_from}
 use Rattle.lh_queue.specs.Buckets.{next_in}
 use Rattle.lh_queue.proofs.Storage.{stored}
-use Rattle.lh_queue.proofs.Holding.{bits_held}
-use Rattle.lh_bits.proofs.Writing.{length-written}
-use Rattle.lh_queue.proofs.Taking.{rest_first, rest_none, within_at, looked, looked_end, looked_none}
+use Rattle.lh_queue.proofs.BitsHeld.{bits_held}
+use Rattle.lh_bits.proofs.WrittenBits.{length-written}
+use Rattle.lh_queue.proofs.TakenWishes.{rest_first, rest_none, within_at, looked, looked_end, looked_none}
 use Rattle.lh_queue.proofs.queue.Queue.look_due.Goals as goal
 
 pub returns-in_default-wish-clause-bits : goal.returns-in_default-wish-clause-bits

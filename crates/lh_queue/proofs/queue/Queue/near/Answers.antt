@@ -1,5 +1,5 @@
 use Rattle.std.proofs.Common.{◌∙◌, sym}
-use Rattle.lh_queue.proofs.Placing.{near_behind}
+use Rattle.lh_queue.proofs.WishPlaces.{near_behind}
 use Rattle.lh_queue.proofs.queue.Queue.near.Goals as goal
 
 pub returns-then-is_near : goal.returns-then-is_near

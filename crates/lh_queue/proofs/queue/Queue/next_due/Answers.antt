@@ -1,5 +1,5 @@
 use Rattle.lh_queue.proofs.Storage.{stored}
-use Rattle.lh_queue.proofs.Holding.{soonest_first, soonest_no, least_first}
+use Rattle.lh_queue.proofs.BitsHeld.{soonest_first, soonest_no, least_first}
 use Rattle.lh_queue.proofs.queue.Queue.next_due.Goals as goal
 
 pub returns-in-Some-clause-least : goal.returns-in-Some-clause-least

@@ -1,5 +1,5 @@
 use Rattle.std.proofs.Common.{sym, ◌∙◌}
-use Rattle.lh_queue.proofs.Placing.{goes_alone, goes_first, is_behind, starts_at_first}
+use Rattle.lh_queue.proofs.WishPlaces.{goes_alone, goes_first, is_behind, starts_at_first}
 use Rattle.lh_queue.proofs.queue.Queue.place.Goals as goal
 
 pub near-near-requires-clause-starts : goal.near-near-requires-clause-starts

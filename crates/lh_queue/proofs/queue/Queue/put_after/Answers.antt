@@ -4,7 +4,7 @@ use Rattle.lh_queue.specs.Queued.{Waiting}
 use Rattle.lh_queue.specs.declared.queue.Linked.{Linked}
 use Rattle.lh_queue.specs.Stored.{spare_by}
 use Rattle.lh_queue.proofs.Storage.{stored, seen}
-use Rattle.lh_queue.proofs.Putting.{near_there, put_after, spare_put, count_set}
+use Rattle.lh_queue.proofs.PutPlaces.{near_there, put_after, spare_put, count_set}
 use Rattle.lh_queue.proofs.queue.Queue.put_after.Goals as goal
 
 pub index-requires : goal.index-requires

@@ -3,7 +3,7 @@ use Rattle.slab.specs.Slab.{slab_len}
 use Rattle.lh_queue.specs.Queued.{Waiting}
 use Rattle.lh_queue.specs.Stored.{spare_by}
 use Rattle.lh_queue.proofs.Storage.{stored, seen}
-use Rattle.lh_queue.proofs.Putting.{place_within, put_alone, spare_put}
+use Rattle.lh_queue.proofs.PutPlaces.{place_within, put_alone, spare_put}
 use Rattle.lh_queue.proofs.queue.Queue.put_alone.Goals as goal
 
 pub insert-requires-clause-within : goal.insert-requires-clause-within

@@ -4,7 +4,7 @@ use Rattle.std.proofs.lemmas.Option.{get_or_from_slice_get}
 use Rattle.lh_queue.specs.Queued.{Waiting}
 use Rattle.lh_queue.specs.Stored.{spare_by}
 use Rattle.lh_queue.proofs.Storage.{stored, seen}
-use Rattle.lh_queue.proofs.Putting.{bucket_there, put_first, spare_put}
+use Rattle.lh_queue.proofs.PutPlaces.{bucket_there, put_first, spare_put}
 use Rattle.lh_queue.proofs.queue.Queue.put_first.Goals as goal
 
 pub get-bucket-requires : goal.get-bucket-requires

@@ -4,9 +4,9 @@ use Rattle.lh_types.specs.History.{values_by}
 use Rattle.lh_queue.specs.Holds.{entries}
 use Rattle.lh_queue.proofs.Storage.{stored}
 use Rattle.lh_queue.proofs.Among.{holds_on}
-use Rattle.lh_queue.proofs.Holding.{bits_held}
-use Rattle.lh_bits.proofs.Writing.{length-written}
-use Rattle.lh_queue.proofs.Taking.{order_step, due_step, within_step, left_step, bits_step, left_end, bits_end}
+use Rattle.lh_queue.proofs.BitsHeld.{bits_held}
+use Rattle.lh_bits.proofs.WrittenBits.{length-written}
+use Rattle.lh_queue.proofs.TakenWishes.{order_step, due_step, within_step, left_step, bits_step, left_end, bits_end}
 use Rattle.lh_queue.proofs.queue.Queue.take_due.Goals as goal
 
 pub loop-at-init : goal.loop-at-init

@@ -8,7 +8,7 @@ use Rattle.lh_read.specs.declared.faults.LineFault.{LineFault}
 use Rattle.lh_read.specs.Steps.{step}
 use Rattle.lh_read.specs.Building.{Steps}
 use Rattle.lh_read.specs.InOrder.{state_of}
-use Rattle.lh_read.proofs.Stepping.{empty-taken}
+use Rattle.lh_read.proofs.StepAnswers.{empty-taken}
 use Rattle.lh_read.proofs.reader.Reader.take_any.Goals as goal
 
 -- what an arm answers

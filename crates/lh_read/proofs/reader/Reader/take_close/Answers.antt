@@ -2,7 +2,7 @@ use Rattle.std.proofs.Common.{Ok, sym, ap, subst, ◌∙◌}
 use Rattle.lh_read.specs.declared.places.LinePlace.TheVariants.{Outside}
 use Rattle.lh_read.specs.Mentions.{EachNamed}
 use Rattle.lh_read.specs.InOrder.{state_at}
-use Rattle.lh_read.proofs.Adding.{close-misplaced, close-taken}
+use Rattle.lh_read.proofs.AddedItems.{close-misplaced, close-taken}
 use Rattle.lh_read.proofs.reader.Reader.take_close.Goals as goal
 
 pub returns-then-not-may_close-clause-step : goal.returns-then-not-may_close-clause-step

@@ -1,7 +1,7 @@
 use Rattle.std.proofs.Common.{Ok, sym, ap, subst, ◌∙◌}
 use Rattle.lh_read_phrases.specs.SyntaxOf.{inst_of}
 use Rattle.lh_read.specs.InOrder.{state_at, InPlace}
-use Rattle.lh_read.proofs.Adding.{line-asked, inst-outside, inst-taken, inst-refused, inst-placed, inst-named}
+use Rattle.lh_read.proofs.AddedItems.{line-asked, inst-outside, inst-taken, inst-refused, inst-placed, inst-named}
 use Rattle.lh_read.proofs.reader.Reader.take_inst.Goals as goal
 
 pub returns-in_default-clause-step : goal.returns-in_default-clause-step

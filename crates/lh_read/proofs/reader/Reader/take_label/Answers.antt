@@ -1,5 +1,5 @@
 use Rattle.std.proofs.Common.{sym, ◌∙◌}
-use Rattle.lh_read.proofs.Adding.{label-outside, label-taken, label-refused, label-placed, label-named}
+use Rattle.lh_read.proofs.AddedItems.{label-outside, label-taken, label-refused, label-placed, label-named}
 use Rattle.lh_read.proofs.reader.Reader.take_label.Goals as goal
 
 pub returns-in_default-clause-step : goal.returns-in_default-clause-step

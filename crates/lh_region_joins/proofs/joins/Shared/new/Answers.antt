@@ -2,7 +2,7 @@ use Rattle.std.proofs.Common.{take, get_or, sym, subst, List}
 use Rattle.std.proofs.lemmas.List.{take_more}
 use Rattle.lh_region_joins.specs.declared.edge.Edge.{Edge}
 use Rattle.lh_region_joins.specs.Joins.{IsShared}
-use Rattle.lh_region_joins.proofs.Joining.{no_edge, Shared-next}
+use Rattle.lh_region_joins.proofs.EdgeJoins.{no_edge, Shared-next}
 use Rattle.lh_region_joins.proofs.joins.Shared.new.Goals as goal
 
 pub loop-edge-preserved : goal.loop-edge-preserved

@@ -2,7 +2,7 @@ use Rattle.std.proofs.Common.{List, take, get_or, ◌+◌, sym, ◌∙◌, subst
 use Rattle.std.proofs.lemmas.List.{take_more}
 use Rattle.lh_term.specs.Arena.{AreIn}
 use Rattle.lh_term.specs.declared.term.TermId.{TermId}
-use Rattle.lh_region_joins.proofs.Joining.{no_id, OthersSoFar, OthersSoFar-skip, OthersSoFar-push, listed-in}
+use Rattle.lh_region_joins.proofs.EdgeJoins.{no_id, OthersSoFar, OthersSoFar-skip, OthersSoFar-push, listed-in}
 use Rattle.lh_region_joins.proofs.joins.Shared.others.Goals as goal
 use Rattle.lh_region_joins.proofs.joins.Shared.others.Goals.{then-not-has+in_ok-push, else-not-has}
 

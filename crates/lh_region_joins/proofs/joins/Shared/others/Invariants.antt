@@ -1,5 +1,5 @@
 use Rattle.std.proofs.Common.{take}
-use Rattle.lh_region_joins.proofs.Joining.{OthersSoFar}
+use Rattle.lh_region_joins.proofs.EdgeJoins.{OthersSoFar}
 use Rattle.lh_region_joins.proofs.joins.Shared.others.Given as goal
 
 abbrev pub invariant-loop-conjunct : goal.invariant-loop-conjunct

@@ -2,8 +2,8 @@ use Rattle.std.proofs.Common.{List, [], get_or, sym, subst}
 use Rattle.std.proofs.lemmas.List.{take_more, take_all}
 use Rattle.lh_term.specs.declared.term.TermId.{TermId}
 use Rattle.lh_region_joins.specs.declared.edge.Edge.{Edge}
-use Rattle.lh_region_joins.proofs.Joining.{no_edge}
-use Rattle.lh_region_joins.proofs.Selecting.{EachSoFar, EachSoFar-none, EachSoFar-next, conditions-at}
+use Rattle.lh_region_joins.proofs.EdgeJoins.{no_edge}
+use Rattle.lh_region_joins.proofs.Selectors.{EachSoFar, EachSoFar-none, EachSoFar-next, conditions-at}
 use Rattle.lh_region_joins.proofs.joins.Shared.others_of_each.Goals as goal
 
 pub loop-edge-init : goal.loop-edge-init

@@ -1,5 +1,5 @@
 use Rattle.std.proofs.Common.{take}
-use Rattle.lh_region_joins.proofs.Selecting.{EachSoFar}
+use Rattle.lh_region_joins.proofs.Selectors.{EachSoFar}
 use Rattle.lh_region_joins.proofs.joins.Shared.others_of_each.Given as goal
 
 abbrev pub invariant-loop-edge : goal.invariant-loop-edge

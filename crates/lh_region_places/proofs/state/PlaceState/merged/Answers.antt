@@ -4,7 +4,7 @@ use Rattle.lh_term.specs.Arena.{trees, tree_at, trees_at, StandsForTree}
 use Rattle.lh_term.specs.declared.term.TermId.{TermId}
 use Rattle.lh_region_joins.specs.Joins.{chosen_by}
 use Rattle.lh_region_places.specs.Asked.{IsJoined, IsSelected}
-use Rattle.lh_region_places.proofs.Telling.{same-joined, can-merge-by, merged-by, join-first, head-tail, selected-grown, ok-any}
+use Rattle.lh_region_places.proofs.ToldValues.{same-joined, can-merge-by, merged-by, join-first, head-tail, selected-grown, ok-any}
 use Rattle.lh_region_places.proofs.state.PlaceState.merged.Goals as goal
 
 abbrev no_id : TermId

@@ -1,5 +1,5 @@
 use Rattle.std.proofs.Common.{refl}
-use Rattle.lh_region_places.proofs.Telling.{select-made}
+use Rattle.lh_region_places.proofs.ToldValues.{select-made}
 use Rattle.lh_region_places.proofs.state.PlaceState.select.Goals as goal
 
 pub returns-in_ok-made-clause-place : goal.returns-in_ok-made-clause-place

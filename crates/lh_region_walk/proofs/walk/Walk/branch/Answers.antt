@@ -2,7 +2,7 @@ use Rattle.std.proofs.Common.{refl}
 use Rattle.std.proofs.lemmas.Result.{err_from_is_err_and, IfErr-weaker, on_ok_weaker}
 use Rattle.lh_region_walk.specs.declared.walk.Walk.{Walk}
 use Rattle.lh_region_walk.specs.Leaving.{LeadsThere, LeadsNot, Branches, BranchesNot}
-use Rattle.lh_region_walk.proofs.Departing.{low-condition, high-condition, low-not, high-not, branched}
+use Rattle.lh_region_walk.proofs.PlaceLeaves.{low-condition, high-condition, low-not, high-not, branched}
 use Rattle.lh_region_walk.proofs.walk.Walk.branch.Goals as goal
 
 pub lead_on-requires-clause-cond : goal.lead_on-requires-clause-cond

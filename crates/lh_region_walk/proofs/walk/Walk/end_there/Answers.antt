@@ -3,7 +3,7 @@ use Rattle.lh_region_joins.specs.declared.edge.Edge.{Edge}
 use Rattle.lh_region_walk.specs.declared.walk.Walk.{Walk}
 use Rattle.lh_region.specs.Effects.{IsEnded}
 use Rattle.lh_region_walk.specs.Leaving.{edge_from}
-use Rattle.lh_region_walk.proofs.Departing.{ended-there}
+use Rattle.lh_region_walk.proofs.PlaceLeaves.{ended-there}
 use Rattle.lh_region_walk.proofs.walk.Walk.end_there.Goals as goal
 
 pub returns-clause-ended : goal.returns-clause-ended

@@ -5,7 +5,7 @@ use Rattle.lh_unit.proofs.Lists.{nat_eq-other}
 use Rattle.lh_region_def.specs.Rows as text
 use Rattle.lh_region_walk.specs.declared.walk.Walk.{Walk}
 use Rattle.lh_region_walk.specs.Leaving.{EndsThere, LeadsThere}
-use Rattle.lh_region_walk.proofs.Departing.{leads-head, led-edge, led-edge-not}
+use Rattle.lh_region_walk.proofs.PlaceLeaves.{leads-head, led-edge, led-edge-not}
 use Rattle.lh_region_walk.proofs.walk.Walk.lead_on.Goals as goal
 use Rattle.lh_region_walk.proofs.walk.Walk.lead_on.Goals.{else-region-via-then-region+else-to-region, else-region-via-else-region}
 

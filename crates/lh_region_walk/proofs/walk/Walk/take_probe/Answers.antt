@@ -8,7 +8,7 @@ use Rattle.lh_region.specs.Effects.{probed}
 use Rattle.lh_region.specs.Gives.{GivesTerm}
 use Rattle.lh_region_walk.specs.declared.walk.Walk.{Walk}
 use Rattle.lh_region_walk.specs.Walked.{TakesLine}
-use Rattle.lh_region_places.proofs.Placing.{with-same}
+use Rattle.lh_region_places.proofs.PlaceLists.{with-same}
 use Rattle.lh_region_joins.proofs.Conditions.{grows-none}
 use Rattle.lh_region_walk.proofs.GivingWhere.{gives-that}
 use Rattle.lh_region_walk.proofs.TakingLines.{probed-part, prb-next, prb-none}

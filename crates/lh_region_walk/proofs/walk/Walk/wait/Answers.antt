@@ -3,7 +3,7 @@ use Rattle.std.proofs.lemmas.Result.{on_ok_weaker}
 use Rattle.lh_unit.specs.declared.inst.ValueId.{ValueId}
 use Rattle.lh_region_def.specs.Rows as text
 use Rattle.lh_region_walk.specs.Leaving.{EndsThere, PartsOf, Waits}
-use Rattle.lh_region_walk.proofs.Departing.{waited}
+use Rattle.lh_region_walk.proofs.PlaceLeaves.{waited}
 use Rattle.lh_region_walk.proofs.walk.Walk.wait.Goals as goal
 
 pub returns-clause-ended : goal.returns-clause-ended

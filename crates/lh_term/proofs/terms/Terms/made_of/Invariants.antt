@@ -2,7 +2,7 @@ use Rattle.std.specs.Ordering.{nat_cmp}
 use Rattle.std.specs.BTreeSet as sorted
 use Rattle.lh_term.specs.Reach.{operands_of}
 use Rattle.lh_term.proofs.Greatest.{top}
-use Rattle.lh_term.proofs.Reaching.{ReachedSoFar}
+use Rattle.lh_term.proofs.TermWalks.{ReachedSoFar}
 use Rattle.lh_term.proofs.terms.Terms.made_of.Given as goal
 
 abbrev pub invariant-loop-i : goal.invariant-loop-i

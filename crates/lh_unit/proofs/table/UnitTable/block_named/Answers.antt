@@ -2,7 +2,7 @@ use Rattle.std.proofs.Common.{rules, arith, ◌≡◌, ◌<◌, ◌-◌, ◌^◌
 use Rattle.lh_unit.specs.TableOf.{table_of}
 use Rattle.lh_unit_names.specs.Distinct.{has_name}
 use Rattle.lh_unit.specs.Table.{Table}
-use Rattle.lh_unit.proofs.Entering.{new-absent, old-kept, there, few-entered, label-made, label-found, no-label}
+use Rattle.lh_unit.proofs.NameEntries.{new-absent, old-kept, there, few-entered, label-made, label-found, no-label}
 use Rattle.lh_unit.proofs.Tables.{IsTable-by, IsTable-new_label, Definitions-same}
 use Rattle.lh_unit_names.proofs.NameLists.{inserted}
 use Rattle.lh_unit.proofs.table.UnitTable.block_named.Goals as goal

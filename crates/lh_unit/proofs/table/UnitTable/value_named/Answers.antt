@@ -4,7 +4,7 @@ use Rattle.lh_unit_names.specs.Distinct.{has_name}
 use Rattle.lh_unit.specs.declared.inst.ValueDef.TheVariants as value_def
 use Rattle.lh_unit.specs.Table.{Table, Definitions}
 use Rattle.lh_unit.specs.TableCalls.{NamesValue}
-use Rattle.lh_unit.proofs.Entering.{new-absent, old-kept, few-entered, value-entered, no-value}
+use Rattle.lh_unit.proofs.NameEntries.{new-absent, old-kept, few-entered, value-entered, no-value}
 use Rattle.lh_unit.proofs.Tables.{IsTable-by, IsTable-new_value, Definitions-same, Definitions-new_value}
 use Rattle.lh_unit_names.proofs.NameLists.{inserted}
 use Rattle.lh_unit.proofs.table.UnitTable.value_named.Goals as goal

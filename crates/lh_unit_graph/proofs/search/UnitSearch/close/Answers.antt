@@ -1,5 +1,5 @@
 use Rattle.std.proofs.Common.{◌<◌, sym, subst, refl}
-use Rattle.lh_unit_graph.proofs.Stepping.{Closing-first, Closing-next, last-placed}
+use Rattle.lh_unit_graph.proofs.SearchSteps.{Closing-first, Closing-next, last-placed}
 use Rattle.lh_unit_graph.proofs.search.UnitSearch.close.Goals as goal
 
 pub loop-frame-init : goal.loop-frame-init

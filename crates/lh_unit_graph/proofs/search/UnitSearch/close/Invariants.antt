@@ -1,5 +1,5 @@
 use Rattle.std.proofs.Common.{vec_len}
-use Rattle.lh_unit_graph.proofs.Stepping.{Closing}
+use Rattle.lh_unit_graph.proofs.SearchSteps.{Closing}
 use Rattle.lh_unit_graph.proofs.search.UnitSearch.close.Given as goal
 
 abbrev pub invariant-loop-frame : goal.invariant-loop-frame

@@ -1,6 +1,6 @@
 use Rattle.std.proofs.Common.{◌≡◌, replicate, ap, ◌∙◌, arith}
 use Rattle.lh_unit_graph.specs.declared.search.Mark.TheVariants as mark
-use Rattle.lh_unit_graph.proofs.Stepping.{Settled-new}
+use Rattle.lh_unit_graph.proofs.SearchSteps.{Settled-new}
 use Rattle.lh_unit_graph.proofs.search.UnitSearch.new.Goals as goal
 
 pub returns : goal.returns

@@ -1,5 +1,5 @@
 use Rattle.std.proofs.Common.{refl}
-use Rattle.lh_unit_graph.proofs.Stepping.{Searching-first, Searching-next, Searching-stop, Covered-stop, InPlace-stop, left-falls}
+use Rattle.lh_unit_graph.proofs.SearchSteps.{Searching-first, Searching-next, Searching-stop, Covered-stop, InPlace-stop, left-falls}
 use Rattle.lh_unit_graph.proofs.search.UnitSearch.search.Goals as goal
 
 pub loop-frame-init : goal.loop-frame-init

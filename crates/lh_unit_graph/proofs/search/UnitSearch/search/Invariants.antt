@@ -1,5 +1,5 @@
-use Rattle.lh_unit_graph.proofs.Searching.{Searching}
-use Rattle.lh_unit_graph.proofs.Stepping.{left}
+use Rattle.lh_unit_graph.proofs.SearchState.{Searching}
+use Rattle.lh_unit_graph.proofs.SearchSteps.{left}
 use Rattle.lh_unit_graph.proofs.search.UnitSearch.search.Given as goal
 
 abbrev pub invariant-loop-frame : goal.invariant-loop-frame

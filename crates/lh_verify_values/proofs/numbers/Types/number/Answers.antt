@@ -1,6 +1,6 @@
 use Rattle.std.proofs.Common.{Some, ap, sym, ◌∙◌}
 use Rattle.lh_types.specs.Same.{same-is}
-use Rattle.lh_verify_values.proofs.Numbering.{grows-insert}
+use Rattle.lh_verify_values.proofs.TypeNumbers.{grows-insert}
 use Rattle.lh_verify_values.proofs.numbers.Types.number.Goals as goal
 
 pub returns-clause-made : goal.returns-clause-made

@@ -1,4 +1,4 @@
-use Rattle.lh_verify_values.proofs.Numbering.{same-number}
+use Rattle.lh_verify_values.proofs.TypeNumbers.{same-number}
 use Rattle.lh_verify_values.proofs.numbers.Types.same.Goals as goal
 
 pub returns : goal.returns

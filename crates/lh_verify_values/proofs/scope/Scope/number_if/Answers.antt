@@ -1,7 +1,7 @@
 use Rattle.std.proofs.Common.{◌≡◌, false, ap, sym, ◌∙◌}
 use Rattle.std.specs.Option.{option_map_or}
 use Rattle.lh_types.specs.Types.{same_type}
-use Rattle.lh_verify_values.proofs.Numbering.{number-at, number-off}
+use Rattle.lh_verify_values.proofs.TypeNumbers.{number-at, number-off}
 use Rattle.lh_verify_values.proofs.scope.Scope.number_if.Goals as goal
 
 pub returns-in-Some-clause-has : goal.returns-in-Some-clause-has

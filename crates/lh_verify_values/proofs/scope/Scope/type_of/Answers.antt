@@ -1,5 +1,5 @@
 use Rattle.std.proofs.Common.{sym, ◌∙◌}
-use Rattle.lh_verify_values.proofs.Numbering.{number-at, number-off}
+use Rattle.lh_verify_values.proofs.TypeNumbers.{number-at, number-off}
 use Rattle.lh_verify_values.proofs.scope.Scope.type_of.Goals as goal
 
 pub returns-in-Some : goal.returns-in-Some

@@ -2,7 +2,7 @@ use Rattle.std.proofs.Common.{ℕ, ◌<◌, length, map, sym, subst, arith}
 use Rattle.std.specs.Prelude.{All}
 use Rattle.lh_types.specs.ValueOf.{datum_of}
 use Rattle.lh_wave.specs.Changed.{present_values}
-use Rattle.lh_wave.proofs.Recording.{IsSameAt}
+use Rattle.lh_wave.proofs.ValueLines.{IsSameAt}
 use Rattle.lh_wave.proofs.ChangedLemmas.{DoneBut, DoneBut-next, unchanged_but, same_here, differs_here, none_differs}
 use Rattle.lh_wave.proofs.changed.Changed.differs.Goals as goal
 

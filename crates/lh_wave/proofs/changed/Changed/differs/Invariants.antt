@@ -2,7 +2,7 @@ use Rattle.std.proofs.Common.{ℕ, ◌<◌, length, map}
 use Rattle.std.specs.Prelude.{All}
 use Rattle.lh_types.specs.ValueOf.{datum_of}
 use Rattle.lh_wave.specs.Changed.{present_values}
-use Rattle.lh_wave.proofs.Recording.{IsSameAt}
+use Rattle.lh_wave.proofs.ValueLines.{IsSameAt}
 use Rattle.lh_wave.proofs.ChangedLemmas.{DoneBut}
 use Rattle.lh_wave.proofs.changed.Changed.differs.Given as goal
 

@@ -2,7 +2,7 @@ use Rattle.std.proofs.Common.{◌≡◌, length, map, ap, ◌∙◌, arith}
 use Rattle.lh_types.specs.ValueOf.{datum_of}
 use Rattle.lh_wave.specs.WaveText.{dump_text, lasts_from}
 use Rattle.lh_wave.proofs.ChangedLemmas.{none_present}
-use Rattle.lh_wave.proofs.Recording.{shown_values}
+use Rattle.lh_wave.proofs.ValueLines.{shown_values}
 use Rattle.lh_wave.proofs.waveform.Waveform.begin.Goals as goal
 
 pub returns-clause-values : goal.returns-clause-values

@@ -1,5 +1,5 @@
 use Rattle.std.proofs.Common.{◌≤◌, length, arith}
-use Rattle.lh_wave.proofs.Keeping.{set_none, set_on}
+use Rattle.lh_wave.proofs.PendingValues.{set_none, set_on}
 use Rattle.lh_wave.proofs.waveform.Waveform.change_value.Goals as goal
 
 pub returns-then-k-count-clause-values : goal.returns-then-k-count-clause-values

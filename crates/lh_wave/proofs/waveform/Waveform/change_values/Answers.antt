@@ -1,5 +1,5 @@
 use Rattle.std.proofs.Common.{◌∙◌}
-use Rattle.lh_wave.proofs.Recording.{Changing-next, Changing-end}
+use Rattle.lh_wave.proofs.ValueLines.{Changing-next, Changing-end}
 use Rattle.lh_wave.proofs.waveform.Waveform.change_values.Goals as goal
 
 pub loop-c-preserved : goal.loop-c-preserved

@@ -1,6 +1,6 @@
 use Rattle.std.proofs.Common.{◌≡◌}
 use Rattle.lh_wave.specs.Recorded.{IsKept, values_now}
-use Rattle.lh_wave.proofs.Recording.{Changing}
+use Rattle.lh_wave.proofs.ValueLines.{Changing}
 use Rattle.lh_wave.proofs.waveform.Waveform.change_values.Given as goal
 
 abbrev pub invariant-loop-c : goal.invariant-loop-c

@@ -1,6 +1,6 @@
 use Rattle.std.proofs.Common.{refl, ap}
-use Rattle.lh_wave.proofs.Recording.{values_on}
-use Rattle.lh_wave.proofs.Keeping.{same_time_left, later_time_left}
+use Rattle.lh_wave.proofs.ValueLines.{values_on}
+use Rattle.lh_wave.proofs.PendingValues.{same_time_left, later_time_left}
 use Rattle.lh_wave.proofs.waveform.Waveform.take.Goals as goal
 
 pub returns-then-f-self-clause-values : goal.returns-then-f-self-clause-values

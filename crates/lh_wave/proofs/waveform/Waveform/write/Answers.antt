@@ -5,8 +5,8 @@ use Rattle.lh_types.specs.Values.{Datum}
 use Rattle.lh_wave.specs.WaveText.{any_differs, dump_at}
 use Rattle.lh_wave.specs.Changed.{present_values}
 use Rattle.lh_wave.specs.Recorded.{moment_now}
-use Rattle.lh_wave.proofs.Recording.{left_first, left_changed}
-use Rattle.lh_wave.proofs.Keeping.{same_moment, same_moment_on}
+use Rattle.lh_wave.proofs.ValueLines.{left_first, left_changed}
+use Rattle.lh_wave.proofs.PendingValues.{same_moment, same_moment_on}
 use Rattle.lh_wave.proofs.waveform.Waveform.write.Goals as goal
 
 pub returns-then-not-self-clause-same : goal.returns-then-not-self-clause-same
