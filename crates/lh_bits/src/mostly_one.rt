@@ -92,7 +92,7 @@ impl<T> MostlyOne<T> {
 }
 
 impl<T: Drop> MostlyOne<T> {
-    /// Adds an item at the end; for want of memory the list stays as it was.
+    /// Adds an item at the end; when memory runs out the list stays as it was.
     pub fn push(&mut self, item: T) -> Result<(), NoMemory>
         ensures ok { OnOk result (self.new ≡ self.old ++ item ∷ []) }
         ensures err { OnErr result (self.new ≡ self.old) }
@@ -105,7 +105,7 @@ impl<T: Drop> MostlyOne<T> {
     }
 }
 
-/// The items with one more at the end; for want of memory the same as before.
+/// The items with one more at the end; when memory runs out the same as before.
 fn with_one_more<T: Drop>(
     alloc: Global,
     items: Items<T>,
@@ -124,7 +124,7 @@ fn with_one_more<T: Drop>(
     }
 }
 
-/// Two items; for want of memory the first.
+/// Two items; when memory runs out the first.
 fn two<T: Drop>(alloc: Global, first: T, second: T) -> (Items<T>, Result<(), NoMemory>)
     ensures ok { IfOk result.1 (λ _. items_in result.0 ≡ first ∷ second ∷ []) }
     ensures err { IfErr result.1 (λ _. items_in result.0 ≡ first ∷ []) }

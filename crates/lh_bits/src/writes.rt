@@ -61,7 +61,7 @@ impl BitWrites {
         self.runs.as_slice()
     }
 
-    /// Adds a write at the end; for want of memory the list stays as it was.
+    /// Adds a write at the end; when memory runs out the list stays as it was.
     pub fn push(&mut self, write: (u32, bool)) -> Result<(), NoMemory>
         ensures ok { OnOk result (self.new ≡ self.old ++ write ∷ []) }
         ensures err { OnErr result (self.new ≡ self.old) }
@@ -71,7 +71,7 @@ impl BitWrites {
         self.push_run(bit, bits)
     }
 
-    /// Adds writes of bits in a row at the end, from bit `lo` on; for want of memory the list stays as it was.
+    /// Adds writes of bits in a row at the end, from bit `lo` on; when memory runs out the list stays as it was.
     pub fn push_run(&mut self, lo: u32, bits: Bits) -> Result<(), NoMemory>
         requires { lo + length bits ≤ 2 ^ 32 }
         ensures ok { OnOk result (self.new ≡ self.old ++ numbered lo bits) }

@@ -18,7 +18,7 @@ abbrev pub RefusedFor : Option Refusal → Elaborated → Type 0
 RefusedFor None e = Unit {0}
 RefusedFor (Some r) e = e ≡ refused r
 
--- The answer is the design of the definition, or its first refusal; of want of memory nothing is said.
+-- The answer is the design of the definition, or its first refusal; of running out of memory nothing is said.
 abbrev pub Elaborates : Arena → (top : ℕ) → Result Design ElabFault → Type 0
 Elaborates a top (Ok d) = design.elab (contents a) (unit_name_at a top) ≡ built (design_text a d)
 Elaborates a top (Err e) = RefusedFor (refusal_text a e) (design.elab (contents a) (unit_name_at a top))

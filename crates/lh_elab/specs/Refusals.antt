@@ -27,7 +27,7 @@ limited m b =
     else (if nat_lt 16777216 (min (b + m.bits) max_counted) then Err fault.TooManyBits
     else Ok (min (b + m.bits) max_counted)))
 
--- a refusal as the definition has it, with the unit's name; none for want of memory
+-- a refusal as the definition has it, with the unit's name; none when memory runs out
 abbrev pub refusal_text : Arena → ElabFault → Option Refusal
 refusal_text a fault.TopIsFunction = Some top_is_function
 refusal_text a (fault.InstCycle v) = Some (inst_cycle (unit_name_at a v.0))

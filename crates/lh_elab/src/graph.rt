@@ -13,7 +13,7 @@ use std::alloc::Global;
 /// What is counted of a unit. Only an entity has signals, and only in an entity are instances.
 #[derive(Drop)]
 pub struct HierarchyNode {
-    /// The bits of its own signals; the number stands still at one more than are allowed.
+    /// The bits of its own signals; the number saturates at one more than are allowed.
     pub bits: u32,
     /// The units that its `inst` instructions name, in text order.
     pub targets: ListOf<UnitId>,

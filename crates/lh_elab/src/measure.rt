@@ -12,7 +12,7 @@ pub const MAX_NESTING: u32 = 64;
 /// How many instances there may be.
 pub const MAX_INSTANCES: u32 = 65_536;
 
-/// What is counted of an instance and all in it, or of instances beside each other. Each number stands still at one more
+/// What is counted of an instance and all in it, or of instances beside each other. Each number saturates at one more
 /// than is allowed.
 #[derive(Clone, Copy, Debug)]
 pub struct HierarchyMeasure {
@@ -62,7 +62,7 @@ impl Measured for HierarchyMeasure {
     }
 }
 
-/// A sum, which stands still at its end.
+/// A sum, which saturates at its end.
 fn up_to(a: u32, b: u32, end: u32) -> u32
     ensures { result ≡ min (a + b) end }
 {

@@ -36,7 +36,7 @@ pub struct Probe {
 
 /// The parts of the signals that each entity of a design senses, by the instances' numbers; none of a process.
 ///
-/// Each unit of the module is read once; the time is that, and what is given. `NoMemory` is for want of memory.
+/// Each unit of the module is read once; the time is that, and what is given. `NoMemory` is when memory runs out.
 pub fn probes_of(alloc: Global, m: &Module, d: &Design) -> Result<Vec<RangeList>, NoMemory>
     requires design { IsDesignOf m.now d.now }
     ensures probes { IfOk result (λ ps. AreProbes m.now d.now.instances.items ps.items) }

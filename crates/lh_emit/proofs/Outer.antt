@@ -100,7 +100,7 @@ module _ (ns ms : List TermNode) (o : Origin) (x : Emitter) (p : Part) (t : Term
         by s e (inl out) = let z : true ≡ false = ap choices_fit (sym st.tree) ∙ out in absurd cc
         by s e (inr far) = subst (λ z. max_lines < length (need s z e).lines) st.tree far
 
--- nothing is said for want of memory
+-- nothing is said when memory runs out
 pub now-none : (ns : List TermNode) (o : Origin) (x : Emitter) (p : Part) (r : Result ValueId EmitFault) → IsErrAnd r (λ f. f ≡ fault.OutOfMemory) → IfErr r (NeedsNowNot ns o x p)
 now-none ns o x p (Ok v) h = tt
 now-none ns o x p (Err f) h = subst (NeedsNowNot ns o x p) (sym h) tt

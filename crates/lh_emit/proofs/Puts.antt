@@ -1,4 +1,4 @@
--- An instruction that gives no value, in an entity underway.
+-- An instruction that gives no value, in an entity under construction.
 use Rattle.std.proofs.Common.{◌≡◌, ℕ, List, sym, subst}
 use Rattle.std.specs.Prelude.{Result, Ok, Err}
 use Rattle.lh_unit.specs.Naming.{inst_text}

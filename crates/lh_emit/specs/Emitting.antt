@@ -1,4 +1,4 @@
--- An entity underway by ids beside the entity of the definition; and what need of a term or of a part adds to it.
+-- An entity under construction by ids beside the entity of the definition; and what need of a term or of a part adds to it.
 use Rattle.std.specs.Prelude.{◌≡◌, ◌⊎◌, ℕ, ◌<◌, List, length, Bool, true, false, Option, Some, None, Result, Ok, Err}
 use Rattle.std.specs.Option.{option_map}
 use Rattle.lh_unit_names.specs.declared.name.UnitName.{UnitName}
@@ -35,7 +35,7 @@ pub record IsEmitted (ns : List TermNode) (s : Source) (x : Emitter) (e : Emitte
 
 -- ---- need of a term
 
--- some entity underway, for which a term is needed
+-- some entity under construction, for which a term is needed
 pub record CanNeed (ns : List TermNode) (o : Origin) (x : Emitter) (t : TermId) : Type 0 where
   pub name : UnitName
   pub naming : Naming

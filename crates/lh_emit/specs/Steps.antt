@@ -1,4 +1,4 @@
--- The steps to a part, from a value of an entity underway.
+-- The steps to a part, from a value of an entity under construction.
 use Rattle.std.specs.Prelude.{◌≡◌, ℕ, ◌<◌, List, [], ◌∷◌, length}
 use Rattle.lh_types.specs.Types.{signal_type, IsData}
 use Rattle.lh_unit.specs.Contents.{pure_text}

@@ -1,4 +1,4 @@
--- An entity underway, with what is still to be done; and what the steps of the work do.
+-- An entity under construction, with what is still to be done; and what the steps of the work do.
 use Rattle.std.specs.Prelude.{Result, Ok, Err, Option, None, slice_index_or, ◌≡◌, ◌⊎◌, ℕ, ◌<◌, List, [], ◌∷◌, ◌++◌, length, map, Bool, true, false}
 use Rattle.lh_unit.specs.Naming.{value_text, inst_text}
 use Rattle.lh_unit.specs.Within.{Each, InstWithin}
@@ -30,7 +30,7 @@ use Rattle.lh_emit.specs.declared.tasks.Task.TheVariants.{Need, Make}
 
 -- ---- parts
 
--- some entity underway, for which a part is needed
+-- some entity under construction, for which a part is needed
 pub record CanTakePart (ns : List TermNode) (o : Origin) (x : Emitter) (p : Part) : Type 0 where
   pub source : Source
   pub emitted : Emitted
@@ -94,7 +94,7 @@ pub record IsTask (ns : List TermNode) (s : Source) (x : Task) : Type 0 where
 abbrev pub FitsTask : List TermNode → Task → Type 0
 FitsTask ns x = choices_fit (tree_at (trees ns) (term_of x)) ≡ true
 
--- an entity underway, and what is still to be done, in the order of its turn
+-- an entity under construction, and what is still to be done, in the order of its turn
 pub record IsUnderway (ns : List TermNode) (s : Source) (x : Emitter) (left : List Task) (e : Emitted) : Type 0 where
   pub is : IsEmitted ns s x e
   pub ready : AreReady s (steps_at ns left) e
@@ -131,7 +131,7 @@ GoesOr ns o x left ms y rest (Err f) = GoesNot ns o x left f
 
 -- ---- one term
 
--- some entity underway, in which all has a name that a term is made of
+-- some entity under construction, in which all has a name that a term is made of
 pub record IsReady (ns : List TermNode) (s : Source) (x : Emitter) (t : TermId) (e : Emitted) : Type 0 where
   pub is : IsEmitted ns s x e
   pub is_in : IsIn ns t
@@ -186,7 +186,7 @@ pub record HasTerm (ns : List TermNode) (s : Source) (t : TermId) (e : Emitted) 
   pub within : v.0 < length y.lines.names
   pub fits : choices_fit (tree_at (trees ns) t) ≡ true
 
--- some entity underway, for which a term is needed
+-- some entity under construction, for which a term is needed
 pub record CanTakeTerm (ns : List TermNode) (o : Origin) (x : Emitter) (t : TermId) : Type 0 where
   pub source : Source
   pub emitted : Emitted

@@ -1,4 +1,4 @@
-//! An entity underway: each part and each term is given once, at its first need.
+//! An entity under construction: each part and each term is given once, at its first need.
 ghost use Rattle.std.specs.Prelude.{◌≡◌, ◌<◌, List, [], ◌∷◌, true, false, length, Some, IfOk, OnOk};
 ghost use Rattle.std.specs.Result.{IfErr};
 ghost use Rattle.lh_types.specs.Types.{IsLimited};
@@ -40,7 +40,7 @@ use lh_unit::inst::{Arg, Inst, OperandList, TypedList, ValueId};
 use lh_unit_names::name::Name;
 use std::alloc::Global;
 
-/// An entity underway.
+/// An entity under construction.
 #[derive(Drop)]
 pub struct Emitter {
     pub lines: Lines,

@@ -1,4 +1,4 @@
--- The instructions of an entity underway, by ids of values; each id has a name.
+-- The instructions of an entity under construction, by ids of values; each id has a name.
 use Rattle.std.specs.Prelude.{◌≡◌, ℕ, ◌+◌, ◌*◌, ◌^◌, ◌<◌, ◌≤◌, List, [], ◌∷◌, ◌++◌, length, map, slice_index_or, Option, Some, None, Result, Ok, Err}
 use Rattle.std.specs.List.{flat_map}
 use Rattle.lh_unit.specs.Contents.{InstText, LineText, ArgText}

@@ -1,4 +1,4 @@
-//! The instructions of an entity underway, with the names of their values.
+//! The instructions of an entity under construction, with the names of their values.
 ghost use Rattle.std.specs.Prelude.{◌≡◌, ◌<◌, [], length, IfOk, OnOk};
 ghost use Rattle.lh_unit.specs.Within.{InstWithin};
 ghost use Rattle.lh_emit_body.specs.Lines.{most_lines, values_alone, HasRoom, BeginsWith, AddsArg, NamesNext, with_line, GivesValue, GivesOne, PutsOne};

@@ -1,4 +1,4 @@
--- An entity underway: its instructions so far, and what has a name.
+-- An entity under construction: its instructions so far, and what has a name.
 use Rattle.std.specs.Prelude.{ℕ, ◌+◌, List, [], ◌∷◌, ◌++◌, ◌&&◌, nat_eq, if◌then◌else◌, unwrap_or, Option, Some, None, slice_get}
 use Rattle.std.specs.Option.{option_and_then}
 use Rattle.lh_types.specs.Types.{TypeTree, signal_type, same_type}

@@ -25,7 +25,7 @@ use Rattle.lh_emit_body.specs.declared.lines.EmitFault.TheVariants as fault
 
 -- ---- tests
 
--- want of memory
+-- running out of memory
 pub err-memory : {A : Type 0} (r : Result A EmitFault) (P : EmitFault → Type 0) → IsErrAnd r (λ e. e ≡ fault.OutOfMemory) → P fault.OutOfMemory → IfErr r P
 err-memory r P e h = err-cause r fault.OutOfMemory P e h
 

@@ -55,7 +55,7 @@ TestsTermNot ns o x t fault.EntityTooLarge =
 
 -- ---- drives
 
--- some entity underway, to which a drive is put
+-- some entity under construction, to which a drive is put
 pub record CanPutDrive (ns : List TermNode) (o : Origin) (x : Emitter) (row : DriveRow) : Type 0 where
   pub name : UnitName
   pub naming : Naming
@@ -126,7 +126,7 @@ PutsProbesNot ns o x ps fault.EntityTooLarge =
 
 -- ---- triggers of registers
 
--- some entity underway, for which a trigger of a row of registers is needed
+-- some entity under construction, for which a trigger of a row of registers is needed
 pub record CanTrigger (ns : List TermNode) (o : Origin) (x : Emitter) (row : EdgeRow) (g : Trigger) : Type 0 where
   pub name : UnitName
   pub naming : Naming

@@ -42,7 +42,7 @@ pub record ReadsAs (a : Arena) (t : Flat) (text : FlatText) : Type 0 where
   pub values : (v w : ℕ) → v < t.values → w < t.values → naming.value_name v ≡ naming.value_name w → v ≡ w
   pub labels : (j k : ℕ) → j < length t.blocks → k < length t.blocks → naming.label_name j ≡ naming.label_name k → j ≡ k
 
--- a refusal as the definition has it, with the function's name; none for want of memory
+-- a refusal as the definition has it, with the function's name; none when memory runs out
 abbrev pub refusal_text : Arena → FlatFault → Option FlatRefusal
 refusal_text a (fault.RecursiveCall f) = Some (recursive_call (unit_name_at a f.0))
 refusal_text a fault.CallTooDeep = Some call_too_deep

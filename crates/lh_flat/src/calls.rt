@@ -10,7 +10,7 @@ use lh_unit::module::Module;
 use lh_unit::view::UnitView;
 use std::alloc::Global;
 
-/// What is counted of a unit. Each number stands still at its type's end.
+/// What is counted of a unit. Each number saturates at its type's end.
 #[derive(Drop)]
 pub struct CallNode {
     /// How many instructions it has.
@@ -21,7 +21,7 @@ pub struct CallNode {
     pub callees: ListOf<UnitId>,
 }
 
-/// The sum of two counts; it stands still at its type's end.
+/// The sum of two counts; it saturates at its type's end.
 pub fn counted(count: u32, more: u32) -> u32
     ensures { result ≡ counted count more }
 {

@@ -324,7 +324,7 @@ kept_runaway old new t p b l q n kept e k held s =
     } in
     subst IsKept (sym e) f
 
--- for want of memory all is kept as it was
+-- when memory runs out all is kept as it was
 pub kept_same : (old new : SimState) → IsKept old → new ≡ record old { looked = new.looked; queue = new.queue; noted = new.noted } → new.looked ≡ old.bits → new.queue.held ≡ old.queue.held →
     IsSameNoted old.noted new.noted → IsKept new
 kept_same old new kept e l eq s =

@@ -5,7 +5,7 @@ use Rattle.lh_unit.specs.Tokens.{first_bad}
 use Rattle.lh_lex.specs.declared.LexFault.{LexFault}
 use Rattle.lh_lex.specs.declared.LexFault.TheVariants.{BadByte, OutOfMemory}
 
--- a bad byte is named by its place, and want of memory says nothing of the line
+-- a bad byte is named by its place, and running out of memory says nothing of the line
 abbrev pub NamesFault : LexFault → List ℕ → Type 0
 NamesFault (BadByte n) bs = first_bad bs ≡ Some n
 NamesFault OutOfMemory bs = Unit {0}

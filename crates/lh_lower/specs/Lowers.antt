@@ -16,7 +16,7 @@ pub record IsLowered (a b : Arena) (rows : List ReportRow) : Type 0 where
   pub report : map (row_text a) rows ≡ report (contents a)
   pub within : Each (λ (r : ReportRow). r.unit.0 < unit_count a) rows
 
--- A module underway: the items so far are lowered, and each process among them has its row.
+-- A module under construction: the items so far are lowered, and each process among them has its row.
 pub record IsLowering (a : Arena) (l : Lowering) (seen : List Item) : Type 0 where
   pub sound : IsArena a
   pub from : l.from.now ≡ a

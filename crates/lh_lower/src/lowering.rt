@@ -26,7 +26,7 @@ pub struct Lowered {
     pub report: ReportList,
 }
 
-/// A lowered module underway.
+/// A lowered module under construction.
 #[derive(Drop)]
 struct Lowering<'m> {
     alloc: Global,
@@ -38,7 +38,7 @@ struct Lowering<'m> {
 
 /// The module with each process that has a shape as an entity, in its place; and what became of each process, in file order.
 ///
-/// The lowered module has, for every top and every number of frames, the trace of the module. Want of memory is the only fault.
+/// The lowered module has, for every top and every number of frames, the trace of the module. Running out of memory is the only fault.
 pub fn lower(alloc: Global, verified: &Verified) -> Result<Lowered, NoMemory>
     ensures lowered { IfOk result (λ answer. IsLowered verified.now answer.«module» answer.report) }
     ensures same_trace { IfOk result (λ answer. SameTrace (contents verified.now) (contents answer.«module»)) }

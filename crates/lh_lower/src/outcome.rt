@@ -34,7 +34,7 @@ pub enum ProcessOutcome {
 
 /// What becomes of a process of a well-formed module: the entity of its shape, or the first reason why it stays.
 ///
-/// The flattener is one of this module. Want of memory is the only fault; it leaves the flattener as good as it was.
+/// The flattener is one of this module. Running out of memory is the only fault; it leaves the flattener as good as it was.
 pub fn outcome_of(
     alloc: Global,
     from: &Module,

@@ -17,7 +17,7 @@ use std::alloc::Global;
 
 /// The shape of a process with this flat text: the first reason why it stays, if there is one.
 ///
-/// The flat text is formed, as that of each process of a well-formed module is. For want of memory the terms made before keep their ids.
+/// The flat text is formed, as that of each process of a well-formed module is. When memory runs out the terms made before keep their ids.
 pub fn shape_of_flat(alloc: Global, flat: &Flat, terms: &mut Terms) -> Result<Shape, NoMemory>
     requires { HasForm flat.now }
     ensures is { IfOk result (λ shape. (f : Naming) → Names flat.now f → IsShape terms.new shape (shape_of_text (flat_text f flat.now))) }

@@ -1,4 +1,4 @@
--- A module underway that copies another one, with one item more.
+-- A module under construction that copies another one, with one item more.
 use Rattle.std.proofs.Common.{◌≡◌, ◌≢◌, ℕ, ◌<◌, zero, suc, true, false, ◌||◌, List, [], ◌∷◌, ◌++◌, length, get_or, IsSome, Result, Ok, Err, IfOk, refl, ap, sym, ◌∙◌, arith}
 use Rattle.std.proofs.lemmas.Bool.{or_parts}
 use Rattle.lh_types.specs.declared.memory.NoMemory.{NoMemory}

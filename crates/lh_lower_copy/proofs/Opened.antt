@@ -1,4 +1,4 @@
--- The open unit of a module underway, changed step by step.
+-- The open unit of a module under construction, changed step by step.
 use Rattle.std.proofs.Common.{◌≡◌, ℕ, true, false, List, [], ◌∷◌, ◌++◌, Some, Err, refl, ap, sym, ◌∙◌, arith}
 use Rattle.lh_unit.specs.Contents.{ItemText, UnitText, LineText, ArgText, unit_text, declare_text, change_last, last_unit, line_count, defines_unit, defines_value, defines_label}
 use Rattle.lh_unit.specs.Arena.{Arena, IsOpen, HasFewMore, none_more, contents, unit_text_at, unit_name_at}

@@ -1,4 +1,4 @@
--- The open unit of a module underway, and what is added to it.
+-- The open unit of a module under construction, and what is added to it.
 use Rattle.std.specs.Prelude.{◌≡◌, ℕ, List, [], ◌∷◌, ◌++◌, Option, Some, None}
 use Rattle.lh_types.specs.Types.{TypeTree}
 use Rattle.lh_unit.specs.Contents.{UnitText, BlockText, LineText, ArgText, unit_text, change_last, with_arg, with_result, with_block, with_line}

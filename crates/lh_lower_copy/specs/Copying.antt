@@ -1,4 +1,4 @@
--- A module underway that copies another one, item by item.
+-- A module under construction that copies another one, item by item.
 use Rattle.std.specs.Prelude.{◌≡◌, ◌≢◌, ℕ, ◌<◌, ◌≤◌, false, List, [], ◌∷◌, ◌++◌}
 use Rattle.lh_unit.specs.Contents.{ItemText, UnitText, unit_text, new_unit, line_count, defines_unit}
 use Rattle.lh_unit.specs.Reads.{args_repeat}
@@ -6,7 +6,7 @@ use Rattle.lh_unit.specs.Arena.{Arena, KeepsEntries, contents, unit_count, value
 use Rattle.lh_unit.specs.Hierarchy.{lines_of}
 use Rattle.lh_text_laws.specs.Printable.{results_repeat, labels_repeat}
 
--- A module underway that says these items, with the units of another under the same ids; those that are not yet defined have no entries.
+-- A module under construction that says these items, with the units of another under the same ids; those that are not yet defined have no entries.
 pub record IsCopying (a b : Arena) (items : List ItemText) : Type 0 where
   pub units : unit_count b ≡ unit_count a
   pub names : (u : ℕ) → u < unit_count a → unit_name_at b u ≡ unit_name_at a u

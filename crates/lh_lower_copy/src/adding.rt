@@ -1,4 +1,4 @@
-//! What is added to a module underway where nothing but memory can be wanting.
+//! What is added to a module under construction where nothing but memory can be wanting.
 ghost use Rattle.std.specs.Prelude.{◌≡◌, ◌<◌, false, length, IfOk};
 ghost use Rattle.lh_unit.specs.Contents.{new_unit, with_arg, with_block, with_line, defines_unit, defines_value, defines_label};
 ghost use Rattle.lh_unit.specs.Within.{MaybeWithin};

@@ -1,4 +1,4 @@
-//! A module underway that has the units of another one under the same ids.
+//! A module under construction that has the units of another one under the same ids.
 ghost use Rattle.std.specs.Prelude.{◌≡◌, List, [], IsSome, IfOk};
 ghost use Rattle.lh_unit.specs.Contents.{LineText, declare_text};
 ghost use Rattle.lh_unit.specs.Arena.{kind_at, unit_text_at};
@@ -16,7 +16,7 @@ use lh_unit::inst::{Declare, UnitId};
 use lh_unit::module::Module;
 use std::alloc::Global;
 
-/// A module underway that has the units of another one under the same ids.
+/// A module under construction that has the units of another one under the same ids.
 ///
 /// After `NoMemory` it may have a part of a unit, and nothing is said of it.
 #[derive(Drop)]

@@ -21,7 +21,7 @@ use std::alloc::Global;
 /// The canonical text of a module: its items in file order, one line each, as the language reference spells them.
 ///
 /// Integers are unsigned, times stand in the largest unit in which they are whole, and a type that may be left out
-/// stands where the module has it. The only error is want of memory.
+/// stands where the module has it. The only error is running out of memory.
 pub fn print(alloc: Global, m: &Module) -> Result<Vec<u8>, NoMemory>
     ensures { IfOk result (λ v. v.items ≡ canon (contents m.now)) }
 {

@@ -25,7 +25,7 @@ pub fn read_spelled(alloc: Global, text: &[u8]) -> Result<Module, TextFault>
     read(alloc, text)
 }
 
-/// Prints a module that is spelled and reads the text: the module again, or want of memory.
+/// Prints a module that is spelled and reads the text: the module again, or out of memory.
 pub fn print_and_read(alloc: Global, m: &Module) -> Result<Module, TextFault>
     requires spelled { IsSpelled (contents m.now) }
     requires short { length (canon (contents m.now)) ≤ 67108864 }

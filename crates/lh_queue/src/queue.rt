@@ -83,7 +83,7 @@ impl Queue {
 
     /// Makes room, so that `n` more wishes can be put without memory.
     ///
-    /// The answer is `NoMemory` only for want of memory, and never where there is room for them already. Whatever it answers, the wishes, their keys
+    /// The answer is `NoMemory` only when memory runs out, and never where there is room for them already. Whatever it answers, the wishes, their keys
     /// and the buckets stay.
     pub fn reserve(&mut self, n: usize) -> Result<(), NoMemory>
         ensures ok { OnOk result (n ≤ self.new.spare) }

@@ -48,7 +48,7 @@ Heads (Err fault.DuplicateName) old new n k args r = (defines_unit n (contents o
 Heads (Err fault.OutOfMemory) old new n k args r = Unit {0}
 Heads (Err _) old new n k args r = ⊥
 
--- the new state, or the fault; of want of memory nothing is said
+-- the new state, or the fault; of running out of memory nothing is said
 abbrev pub Steps : Result (Unit {0}) LineFault → Result ReadState BadKind → ReadState → Type 0
 Steps (Ok _) step new = step ≡ Ok new
 Steps (Err fault.Syntax) step new = step ≡ Err syntax
@@ -56,7 +56,7 @@ Steps (Err fault.UnitTooLarge) step new = step ≡ Err unit_too_large
 Steps (Err fault.DuplicateName) step new = step ≡ Err duplicate_name
 Steps (Err fault.OutOfMemory) step new = Unit {0}
 
--- the line is taken, or is faulty; of want of memory nothing is said
+-- the line is taken, or is faulty; of running out of memory nothing is said
 abbrev pub TakesOrIsBad : Result (Unit {0}) LineFault → ReadState → List ℕ → ReadState → Type 0
 TakesOrIsBad (Ok _) s line new = Takes s line new
 TakesOrIsBad (Err fault.Syntax) s line new = IsBad s line syntax

@@ -8,20 +8,20 @@ use Rattle.lh_read.specs.declared.faults.LineFault.TheVariants as line
 use Rattle.lh_read.specs.declared.TextFault.{TextFault}
 use Rattle.lh_read.specs.declared.TextFault.TheVariants.{Syntax, UnitTooLarge, DuplicateName, OutOfMemory}
 
--- the module with these contents, or want of memory
+-- the module with these contents, or out of memory
 abbrev pub ModuleOrNoMemory : Result Arena TextFault → List ItemText → Type 0
 ModuleOrNoMemory (Ok m) items = contents m ≡ items
 ModuleOrNoMemory (Err OutOfMemory) items = Unit {0}
 ModuleOrNoMemory (Err _) items = ⊥
 
--- the fault names the first faulty line of the text; want of memory names none
+-- the fault names the first faulty line of the text; running out of memory names none
 abbrev pub Names : TextFault → List ℕ → Type 0
 Names (Syntax n) text = FirstBad text n syntax
 Names (UnitTooLarge n) text = FirstBad text n unit_too_large
 Names (DuplicateName n) text = FirstBad text n duplicate_name
 Names OutOfMemory text = Unit {0}
 
--- the text reads as the module says, or its first faulty line is named; of want of memory nothing is said
+-- the text reads as the module says, or its first faulty line is named; of running out of memory nothing is said
 abbrev pub ModuleOrFault : Result Arena TextFault → List ℕ → Type 0
 ModuleOrFault (Ok m) text = Reads text (contents m)
 ModuleOrFault (Err e) text = Names e text

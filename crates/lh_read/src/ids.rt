@@ -1,6 +1,6 @@
 //! Ids in place of names: each name of a line has an entry in the module, which is made where there is none.
 //!
-//! Each call answers `NoMemory` for want of memory, or where each of the 4,294,967,295 ids of that kind has a name, as in
+//! Each call answers `NoMemory` when memory runs out, or where each of the 4,294,967,295 ids of that kind has a name, as in
 //! no text of 64 MiB; of the module nothing is said then.
 ghost use Rattle.std.specs.Prelude.{◌≡◌, ◌<◌, map, IfOk};
 ghost use Rattle.lh_unit.specs.Arena.{unit_count};

@@ -64,7 +64,7 @@ pub record AreRegions (ns : List TermNode) (r : Regions) (x : texts.Regions) : T
   pub first : AreRows ns r.first x.first
   pub second : MaybeRows ns r.second x.second
 
--- the reason that a fault tells; none for want of memory
+-- the reason that a fault tells; none when memory runs out
 abbrev pub refusal_of : RegionFault → Option RegionRefusal
 refusal_of fault.HeadPhi = Some head_phi
 refusal_of fault.TooManyTurns = Some too_many_turns

@@ -13,7 +13,7 @@ use lh_region_joins::Edge;
 pub const MAX_TURNS: u32 = 256;
 
 /// One more edge from a place of a turn, to a block. A branch to the same or an earlier block is a turn. `TooManyTurns` comes exactly
-/// where that would be one more than 256, and no other fault but want of memory.
+/// where that would be one more than 256, and no other fault but running out of memory.
 pub fn lead(ahead: &mut Ahead, turns: u32, to: u32, edge: Edge) -> Result<(), RegionFault>
     requires here { to < length ahead.old.here.items }
     requires next { to < length ahead.old.next.items }

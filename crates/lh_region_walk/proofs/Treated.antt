@@ -379,7 +379,7 @@ too-large ns r w at d read l f name before h b x xs c o =
     treated-large ns f name r w at before h b x xs c o
     (subst (λ (i : ℕ). max_insts < i) (λ i. o.midst.so_far.insts i + length (sym (block-read r.flat.now.blocks at.block b d o.stands.block read) i).insts) l)
 
--- of want of memory nothing is said
+-- of running out of memory nothing is said
 pub no-memory : (ns : List TermNode) (r : Region) (w : Walk) (at : WalkPoint) → TreatsNot ns r w at fault.OutOfMemory
 no-memory ns r w at f name before h b x xs c o = tt
 

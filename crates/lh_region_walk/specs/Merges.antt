@@ -197,7 +197,7 @@ EndsLines ns r w at ls ms q =
     → IsBetween ns f name r w at before h insts b done (map (flat_line_text f) ls) m →
     (s : Story) × IsCourse ms f r q at.turns (at.block + 1) s (course_at insts (takes_lines f r h ls m))
 
--- A fault of them has its cause: want of memory, or an edge that leads to too many turns.
+-- A fault of them has its cause: running out of memory, or an edge that leads to too many turns.
 abbrev pub EndsLinesFor : List TermNode → Region → Walk → WalkPoint → List FlatInst → RegionFault → Type 0
 EndsLinesFor ns r w at ls e =
     (e ≡ fault.OutOfMemory) ⊎

@@ -164,7 +164,7 @@ EndsLine ns r w at l ms q =
     → IsBetween ns f name r w at before h insts b done (flat_line_text f l ∷ rest) m →
     (s : Story) × IsCourse ms f r q at.turns (at.block + 1) s (course_at insts (takes_line f r h l m))
 
--- A fault of a terminator has its cause: want of memory, or an edge that leads to too many turns.
+-- A fault of a terminator has its cause: running out of memory, or an edge that leads to too many turns.
 abbrev pub EndsFor : List TermNode → Region → Walk → WalkPoint → FlatInst → RegionFault → Type 0
 EndsFor ns r w at l e =
     (e ≡ fault.OutOfMemory) ⊎
@@ -175,7 +175,7 @@ EndsFor ns r w at l e =
 
 -- ---- a place
 
--- the definition stops for this reason; of want of memory nothing is said
+-- the definition stops for this reason; of running out of memory nothing is said
 abbrev pub StopsFor : Coursed → Option RegionRefusal → Type 0
 StopsFor x None = Unit {0}
 StopsFor x (Some r) = x ≡ stops r

@@ -1,4 +1,4 @@
-//! A walk through the places of a region, while it is underway.
+//! A walk through the places of a region, while it is under construction.
 
 use lh_flat::Flat;
 use lh_flat_parts::PartTable;
@@ -20,7 +20,7 @@ pub struct Region<'f> {
     pub ends_at_head: bool,
 }
 
-/// A walk underway.
+/// A walk under construction.
 #[derive(Drop)]
 pub struct Walk {
     /// The places that were treated, in their order; the last one is being treated.

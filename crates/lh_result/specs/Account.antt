@@ -53,7 +53,7 @@ Puts (Ok _) u text = Gained u text
 Puts (Err _) u text = BreaksOff u text
 
 -- Which status may be answered for the status of the result, and how much was then written of the texts for the output and the log.
--- Of the three statuses that a source, a sink or memory brings about each says its cause, but want of memory has none.
+-- Of the three statuses that a source, a sink or memory brings about each says its cause, but running out of memory has none.
 abbrev pub IsStatusFor : Status → (status : Status) → (out_text log_text : List ℕ) → (out log : Use) → (out_part log_part : List ℕ) → Type 0
 IsStatusFor ReadFault status out_text log_text out log out_part log_part = (out_part ≡ []) × (log_part ≡ [])
 IsStatusFor WriteFault status out_text log_text out log out_part log_part =

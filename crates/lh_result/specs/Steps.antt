@@ -64,7 +64,7 @@ IsCalled words ms (Some (OnFile c)) = Calls words ms (meant c)
 IsCalled words ms (Some (Selftest links)) = WordsAskForSelfTest words links
 IsCalled words ms None = IsMisuse words ms
 
--- the status of a file with a fault names its first one; want of memory says nothing
+-- the status of a file with a fault names its first one; running out of memory says nothing
 abbrev pub IsFaultStatus : Status → List ItemText → Type 0
 IsFaultStatus (Refused (Invalid unit inst number)) file = HasFirstFault file unit inst number
 IsFaultStatus OutOfMemory file = Unit {0}
@@ -76,7 +76,7 @@ pub record IsLoaded (bytes : List ℕ) (file : List ItemText) : Type 0 where
   pub reads : Reads bytes file
   pub faultless : IsFaultless file
 
--- the bytes are loaded, or why not; a read fault and want of memory say nothing of them
+-- the bytes are loaded, or why not; a read fault and running out of memory say nothing of them
 abbrev pub Loads : List ℕ → Result Arena Status → Type 0
 Loads bytes (Ok m) = IsLoaded bytes (contents m)
 Loads bytes (Err SourceTooLong) = source_limit < length bytes
@@ -130,7 +130,7 @@ pub record ShowsRun (vcd : Bool) (d : Design) (shown : ShownRun) (asked : List M
   pub sinks : Leaves ended (status_by shown.end (any_failed shown)) (text_of vcd d shown) (all_reports shown) out log
   pub members : AreLeftBy ended (now ≡ shown.left) (HaveSeen (pictures None shown.frames) asked now)
 
--- the status says why a top is not simulated; want of memory says nothing
+-- the status says why a top is not simulated; running out of memory says nothing
 abbrev pub IsTopStatus : Status → List ItemText → UnitName → Type 0
 IsTopStatus (Top why) file top = (r : Refusal) × (elab file top ≡ refused r) × (why ≡ fault_of r)
 IsTopStatus OutOfMemory file top = Unit {0}

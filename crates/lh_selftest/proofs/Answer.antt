@@ -19,7 +19,7 @@ use Rattle.lh_selftest_design.specs.declared.summary.Units.{Units}
 use Rattle.lh_selftest.specs.SelfTest.{HasDesign, IsChain, IsTextOf, IsSelfTest, units_of}
 use Rattle.lh_selftest.specs.Courses.{course_on}
 
--- a text that reads was not read for want of memory alone
+-- a text that reads was not read when memory runs out alone
 pub reads-starved : (f : TextFault) (file : List ItemText) → ModuleOrNoMemory (Err f) file → f ≡ OutOfMemory
 reads-starved (Syntax n) file g = absurd g
 reads-starved (UnitTooLarge n) file g = absurd g

@@ -52,7 +52,7 @@ enum Added {
 
 /// The shape of a process by the rows of its regions: the first reason why it stays, if there is one.
 ///
-/// For want of memory the terms made before keep their ids.
+/// When memory runs out the terms made before keep their ids.
 pub fn shape_of_regions(
     alloc: Global,
     terms: &mut Terms,

@@ -377,7 +377,7 @@ rename_next made xs x left to y r e =
 pub rename_last : (made : ℕ → Option TermId) (xs to : List TermId) → RenamedSoFar made xs [] to → MadeFor made xs to
 rename_last made xs to r = let P : List TermId → Type 0 = λ ys. MadeFor made ys to in subst P (sym (append-nil r.done) ∙ r.split) r.names
 
--- an answer of want of memory or a term, taken over
+-- an answer of running out of memory or a term, taken over
 pub if_ok_stands : {E : Type 0} (q : Result TermId E) (new : List TermNode) (x z : Tree) → ((y : TermId) → StandsForTree new y x → StandsForTree new y z) → IfOk q (λ y. StandsForTree new y x)
     → IfOk q (λ y. StandsForTree new y z)
 if_ok_stands (Ok y) new x z f h = f y h

@@ -18,7 +18,7 @@ use lh_types::val::Val;
 impl Terms {
     /// The constant of a value of a data type, or of a time.
     ///
-    /// For want of memory, here and in the calls below, the terms made before keep their ids.
+    /// When memory runs out, here and in the calls below, the terms made before keep their ids.
     pub fn konst(&mut self, v: Val) -> Result<TermId, NoMemory>
         requires { FitsTerm (datum_of v) }
         ensures made { IfOk result (λ t. StandsForTree self.new t (constant (datum_of v))) }

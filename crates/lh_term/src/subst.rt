@@ -20,7 +20,7 @@ impl Terms {
     /// The term with terms in the places of parts' values, made anew by the equations. The first of each pair is a part's value
     /// before or now and first in no other pair, and the two are of one type.
     ///
-    /// It looks at the terms alone that the term is made of, and makes each once. For want of memory the terms made before keep
+    /// It looks at the terms alone that the term is made of, and makes each once. When memory runs out the terms made before keep
     /// their ids.
     pub fn subst(&mut self, t: TermId, by: &Swap) -> Result<TermId, NoMemory>
         requires is_in { IsIn self.old t }

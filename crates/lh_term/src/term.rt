@@ -51,7 +51,7 @@ impl TermList {
         Ok(TermList { items })
     }
 
-    /// Adds a term at the end; for want of memory the list stays as it was.
+    /// Adds a term at the end; when memory runs out the list stays as it was.
     pub fn push(&mut self, t: TermId) -> Result<(), NoMemory>
         ensures ok { OnOk result (self.new ≡ self.old ++ t ∷ []) }
         ensures err { OnErr result (self.new ≡ self.old) }

@@ -94,7 +94,7 @@ impl Text {
         }
     }
 
-    /// The bytes of the whole text, which stay its own; `NoMemory` where memory wanted at some part of it.
+    /// The bytes of the whole text, which stay its own; `NoMemory` where memory ran out at some part of it.
     pub fn as_bytes(&self) -> Result<&[u8], NoMemory>
         ensures whole { IfOk result (λ _. self.now.is_whole ≡ true) }
         ensures bytes { IfOk result (λ b. b.now ≡ self.now.items) }
@@ -122,7 +122,7 @@ impl Text {
         self.is_whole = false;
     }
 
-    /// The bytes of the whole text; `NoMemory` where memory wanted at some part of it.
+    /// The bytes of the whole text; `NoMemory` where memory ran out at some part of it.
     pub fn finish(self) -> Result<Vec<u8>, NoMemory>
         ensures whole { IfOk result (λ _. self.is_whole ≡ true) }
         ensures bytes { IfOk result (λ v. v.items ≡ self.items) }

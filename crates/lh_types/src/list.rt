@@ -89,7 +89,7 @@ impl<T: Copy> ListOf<T> {
 }
 
 impl<T: Drop> ListOf<T> {
-    /// Adds an item at the end; for want of memory the list stays as it was.
+    /// Adds an item at the end; when memory runs out the list stays as it was.
     pub fn push(&mut self, item: T) -> Result<(), NoMemory>
         ensures ok { OnOk result (self.new ≡ self.old ++ item ∷ []) }
         ensures err { OnErr result (self.new ≡ self.old) }

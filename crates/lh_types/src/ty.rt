@@ -201,7 +201,7 @@ impl TyList {
         Err(self)
     }
 
-    /// Adds a type at the end; for want of memory the list stays as it was.
+    /// Adds a type at the end; when memory runs out the list stays as it was.
     pub fn push(&mut self, x: Ty) -> Result<(), NoMemory>
         ensures ok { OnOk result (self.new ≡ self.old ++ x ∷ []) }
         ensures err { OnErr result (self.new ≡ self.old) }

@@ -102,7 +102,7 @@ impl ValList {
         self.list.shrink_to_fit();
     }
 
-    /// Adds a value at the end; for want of memory the list stays as it was.
+    /// Adds a value at the end; when memory runs out the list stays as it was.
     pub fn push(&mut self, x: Val) -> Result<(), NoMemory>
         ensures ok { OnOk result (self.new ≡ self.old ++ datum_of x ∷ []) }
         ensures err { OnErr result (self.new ≡ self.old) }

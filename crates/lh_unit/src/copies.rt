@@ -1,4 +1,4 @@
-//! Equal copies of instructions and declarations. Each answers `NoMemory` only for want of memory. What has the most forms is copied
+//! Equal copies of instructions and declarations. Each answers `NoMemory` only when memory runs out. What has the most forms is copied
 //! last, since its destructor would stand at each early return behind it.
 ghost use Rattle.std.specs.Prelude.{◌≡◌, IfOk};
 

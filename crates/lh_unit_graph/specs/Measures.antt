@@ -57,7 +57,7 @@ module _ {N M : Type 0} (c : Measuring N M) where
   IsMeasure g u m = ∥ ((k : ℕ) × (measure_in k g u ≡ Some m)) ∥₁
 
   -- The measure of a unit, where none that it reaches reaches itself; else the target of the first edge, depth first, that leads to an
-  -- open unit. Of want of memory nothing is said.
+  -- open unit. Of running out of memory nothing is said.
   abbrev pub Measures : List N → (top : ℕ) → Result M DescentFault → Type 0
   Measures g top (Ok m) = ((k : ℕ) → cycle_in k g [] top ≡ None) × IsMeasure g top m
   Measures g top (Err (fault.Cycle v)) = (us : List ℕ) → HasBusy g us → cycle_in (length us) g [] top ≡ Some v.0

@@ -50,7 +50,7 @@ impl NameTable {
         }
     }
 
-    /// The number of a name, and whether it is new: a new one comes behind all others. For want of memory the table stays as it was.
+    /// The number of a name, and whether it is new: a new one comes behind all others. When memory runs out the table stays as it was.
     #[inline(always)]
     pub fn enter(&mut self, name: Name) -> Result<(usize, bool), NoMemory>
         ensures added { IfOk result (λ r. r.1 ≡ not (has_name self.old name)) }

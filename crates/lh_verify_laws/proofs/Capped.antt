@@ -1,4 +1,4 @@
--- Sums and depths that stand still at an end.
+-- Sums and depths that saturate at an end.
 use Rattle.std.proofs.Common.{◌≡◌, ℕ, suc, ◌+◌, ◌≤◌, min, max, true, false, ◌||◌, nat_lt, arith}
 use Rattle.std.proofs.lemmas.Grind.{common_steps}
 

@@ -113,7 +113,7 @@ impl UseList {
     }
 }
 
-/// The operands of an instruction, in the order of the spelling; an error only for want of memory.
+/// The operands of an instruction, in the order of the spelling; an error only when memory runs out.
 pub fn uses(alloc: Global, inst: &Inst) -> Result<UseList, NoMemory>
     ensures { IfOk result (λ list. list ≡ uses_of inst.now) }
 {

@@ -21,7 +21,7 @@ use lh_unit::module::Module;
 use std::alloc::Global;
 
 /// What is known of the values of a unit with this many instructions, by the ids of values, where a type that has no number yet gets one; an
-/// error only for want of memory. Of the arguments and of the instructions that give one value, the first tells, and an argument before any
+/// error only when memory runs out. Of the arguments and of the instructions that give one value, the first tells, and an argument before any
 /// instruction.
 pub fn facts(
     alloc: Global,
@@ -75,7 +75,7 @@ fn no_facts(alloc: Global, values: u32) -> Result<Vec<Fact>, NoMemory>
     Ok(vec![in alloc; blank; values as usize]?)
 }
 
-/// This many marks of which none is set; an error only for want of memory.
+/// This many marks of which none is set; an error only when memory runs out.
 pub fn no_marks(alloc: Global, values: u32) -> Result<Vec<bool>, NoMemory>
     ensures { IfOk result (λ marks. marks.items ≡ replicate values false) }
 {

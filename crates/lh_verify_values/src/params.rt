@@ -12,7 +12,7 @@ use std::alloc::Global;
 /// Numbers of types.
 pub type NumberList = ListOf<u32>;
 
-/// By the ids of units, the numbers of the types of their parameters, where a type that has no number yet gets one; an error only for want of memory.
+/// By the ids of units, the numbers of the types of their parameters, where a type that has no number yet gets one; an error only when memory runs out.
 pub fn params(alloc: Global, m: &Module, types: &mut Types) -> Result<Vec<NumberList>, NoMemory>
     ensures numbers { IfOk result (λ params. NumbersParams types.new m.now params.items) }
     ensures grows { OnOk result (Grows types.old types.new) }

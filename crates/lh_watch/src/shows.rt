@@ -15,7 +15,7 @@ use lh_types::memory::NoMemory;
 /// member is taken out and dropped.
 ///
 /// The answer is the place, in the list as it then stands, of the first member that says stop. For
-/// want of memory at a member, those before it have seen the frame and those behind it have not; of
+/// running out of memory at a member, those before it have seen the frame and those behind it have not; of
 /// the reports nothing is said then.
 pub fn show<W: Watcher>(
     ws: &mut Vec<W>,

@@ -27,7 +27,7 @@ pub trait Watcher: Drop {
     fn title(&self) -> &str
         ensures { result.now ≡ (member self.now).rule.title };
 
-    /// Takes a frame. For want of memory it is as it was.
+    /// Takes a frame. When memory runs out it is as it was.
     fn frame(
         &mut self,
         at: Instant,

@@ -18,7 +18,7 @@ pub record AppendsPrefix (was_written written : Option (List ℕ)) (text : List 
   pub count : ℕ
   pub told : Appends was_written written (take count text)
 
--- what was written of a text where it broke off: a proper prefix after a write that failed, a prefix after want of memory
+-- what was written of a text where it broke off: a proper prefix after a write that failed, a prefix after running out of memory
 abbrev pub BreaksOff : WaveFault → (was_written written : Option (List ℕ)) → (text : List ℕ) → Type 0
 BreaksOff WriteFault was_written written text = AppendsProperPrefix was_written written text
 BreaksOff OutOfMemory was_written written text = AppendsPrefix was_written written text
