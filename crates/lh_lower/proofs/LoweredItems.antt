@@ -154,7 +154,7 @@ module _ (l m : Lowering) (u : UnitId) (o : IsArena l.from.now) where
       }
 
   -- a process gets a row
-  module _ (v : Verdict) (x : text.ProcessOutcome) (is : outcome_in (contents b) t ≡ x) (told : text.verdict_of x ≡ v) (process : kind_at b u.0 ≡ Some unit_kind.Proc) (from : m.from.now ≡ b)
+  module _ (v : Verdict) (x : text.Outcome) (is : outcome_in (contents b) t ≡ x) (told : text.verdict_of x ≡ v) (process : kind_at b u.0 ≡ Some unit_kind.Proc) (from : m.from.now ≡ b)
       (fl : m.flattener.m.now ≡ b) (co : m.copying.from.now ≡ b)
       (c : CopiesUnit l.copying.from.now l.copying.to m.copying.to u.0 (text.in_place t x)) where
     process-lowers : (r : Result (Unit {0}) NoMemory) → OnOk r (m.report ≡ l.report ++ record { unit = u; verdict = v } ∷ []) → OnOk r (LowersItem l (item.Unit u) m)

@@ -39,7 +39,7 @@ pub record IsEntityBody (u : UnitText) (body : Body) (lines : List LineText) : T
   pub new_results : results_repeat u.args [] lines ≡ false
 
 -- the outcome of a process is that one
-abbrev pub IsOutcome : UnitText → text.ProcessOutcome → ProcessOutcome → Type 0
+abbrev pub IsOutcome : UnitText → text.Outcome → ProcessOutcome → Type 0
 IsOutcome u x (outcome.Entity k body) = (lines : List LineText) × (x ≡ text.becomes k (entity_with u lines)) × IsEntityBody u body lines
 IsOutcome u x (outcome.Left r) = x ≡ text.stays r
 

@@ -17,7 +17,7 @@ pub struct BucketLine {
 
 impl Model for BucketLine {
     ghost use Rattle.std.specs.Prelude.{◌-◌, ◌≤◌, drop, length, vec_capacity};
-    ghost use Rattle.lh_queue.specs.BucketLine.{Buckets};
+    ghost use Rattle.lh_queue.specs.Line.{Buckets};
 
     ghost Value = { Buckets };
 

@@ -24,7 +24,7 @@ use Rattle.lh_verify_values.specs.declared.scope.Fact.{Fact}
 use Rattle.lh_verify_values.specs.declared.scope.Scope.{Scope}
 
 -- the four kinds
-abbrev pub kind_as : ValueKind → kinds.ValueKind
+abbrev pub kind_as : ValueKind → kinds.Kind
 kind_as Datum = kinds.a_datum
 kind_as Time = kinds.a_time
 kind_as Signal = kinds.a_signal

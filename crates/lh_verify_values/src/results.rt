@@ -2,7 +2,7 @@
 ghost use Rattle.std.specs.Prelude.{◌≡◌, Option, Some, None, Ok, map, option_map, IfOk, if◌then◌else◌};
 ghost use Rattle.std.specs.Option.{option_copied, option_and_then};
 ghost use Rattle.lh_types.specs.Types.{TypeTree, int_type, row_of};
-ghost use Rattle.lh_types.specs.ValueKind.{type_of_kind};
+ghost use Rattle.lh_types.specs.Kind.{type_of_kind};
 ghost use Rattle.lh_types.specs.ValueOf.{datum_of};
 ghost use Rattle.lh_types.specs.Faults.{MakesType};
 ghost use Rattle.lh_unit.specs.Naming.{Naming, operand_text, inst_text};

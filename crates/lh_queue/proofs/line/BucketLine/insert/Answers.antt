@@ -1,6 +1,6 @@
 use Rattle.std.proofs.Common.{◌≡◌, ◌+◌, ◌-◌, ◌≤◌, length, drop, ap, ◌∙◌, rules, arith}
 use Rattle.std.specs.List.{insert}
-use Rattle.lh_queue.specs.BucketLine.{Buckets}
+use Rattle.lh_queue.specs.Line.{Buckets}
 use Rattle.lh_queue.proofs.BucketLines.{insert-behind, insert-before}
 use Rattle.lh_queue.proofs.line.BucketLine.insert.Goals as goal
 

@@ -1,5 +1,5 @@
 use Rattle.std.proofs.Common.{drop, ap, ◌∙◌}
-use Rattle.lh_queue.specs.BucketLine.{Buckets}
+use Rattle.lh_queue.specs.Line.{Buckets}
 use Rattle.lh_queue.proofs.BucketLines.{drop-again}
 use Rattle.lh_queue.proofs.line.BucketLine.remove_first.Goals as goal
 

@@ -1,5 +1,5 @@
 use Rattle.std.proofs.Common.{set, ap, ◌∙◌}
-use Rattle.lh_queue.specs.BucketLine.{Buckets}
+use Rattle.lh_queue.specs.Line.{Buckets}
 use Rattle.lh_queue.proofs.BucketLines.{set-behind}
 use Rattle.lh_queue.proofs.line.BucketLine.set.Goals as goal
 
