@@ -26,8 +26,9 @@ use Rattle.lh_region.specs.Forms.{Names, HasForm}
 use Rattle.lh_region_walk.proofs.HavingSteps.{has-steps}
 use Rattle.lh_shape.specs.Answers.{IsShape}
 use Rattle.lh_shape.specs.Reasons.{flat_reason}
-use Rattle.lh_shape.specs.Shapes.{shape_of_text}
+use Rattle.lh_shape.specs.Shapes.{shape_of_text, shape_by_text, shape_in}
 use Rattle.lh_shape.specs.declared.kinds.Shape.{Shape}
+use Rattle.lh_shape.specs.declared.kinds.Shape.TheVariants as shape_kind
 use Rattle.lh_emit_source.specs.Firsts.{AreFirsts}
 use Rattle.lh_emit_source.specs.Origins.{IsOrigin}
 use Rattle.lh_emit_source.specs.declared.origin.Origin.{Origin}
@@ -54,6 +55,9 @@ module _ (a : Arena) (u : ℕ) where
   pub left-as : (y : FlatRefusal) → flat_of (contents a) x ≡ refused y → IsOutcomeAt a u (outcome.Left (flat_reason y))
   left-as y e = ap (text.outcome_of_text x) e
 
+  pub shape-left : (ns : List TermNode) (y : FlatRefusal) → flat_of (contents a) x ≡ refused y → IsShape ns (shape_kind.Left (flat_reason y)) (shape_in (contents a) x)
+  shape-left ns y e = subst (λ (z : Flattened). IsShape ns (shape_kind.Left (flat_reason y)) (shape_by_text z)) (sym e) refl
+
   module _ (o : IsArena a) (formed : IsWellFormed (contents a)) (named : UnitsAreNamed a) (law : FlatTextsAreFormed) (within : u < unit_count a) (process : kind_at a u ≡ Some unit_kind.Proc)
       (t : Flat) (below : IdsBelow t) (fl : Flattens a u (Ok t)) where
     read : ReadsAs a t fl.0
@@ -76,6 +80,12 @@ module _ (a : Arena) (u : ℕ) where
 
     once : args_repeat [] x.args ≡ false
     once = ap (args_repeat []) same-args ∙ (formed-by x.name).new_args
+
+    pub form-at : HasForm t
+    form-at = record { below = below; naming = read.naming; names = names }
+
+    pub shape-at : (ns : List TermNode) (s : Shape) → ((f : Naming) → Names t f → IsShape ns s (shape_of_text (flat_text f t))) → IsShape ns s (shape_in (contents a) x)
+    shape-at ns s h = subst (λ (z : Flattened). IsShape ns s (shape_by_text z)) (sym (fl.1 ∙ ap flattened (sym read.says))) (h read.naming names)
 
     pub has-args : (ns : List (List ℕ)) → ns ≡ map (λ (b : ArgText). b.name) x.args → HasArgs ns t
     has-args ns e = record { below = below; naming = read.naming; is = names; named = e ∙ ap (map (λ (b : ArgText). b.name)) same-args; few = few }

@@ -8,6 +8,6 @@ pub mod text;
 
 pub use crate::lowering::{Lowered, lower};
 pub use crate::outcome::{ProcessOutcome, outcome_of};
-pub use crate::process::shape_of_flat;
+pub use crate::process::{shape, shape_of_flat};
 pub use crate::text::text_of;
 pub use lh_lower_def::{Kind, ReportList, ReportRow, Verdict};
