@@ -20,10 +20,10 @@ use lh_types::ty::TyKind;
 use std::alloc::Global;
 
 /// How many atoms the edge part of a condition may have.
-pub(crate) const MAX_ATOMS: usize = 12;
+pub const MAX_ATOMS: usize = 12;
 
 /// Whether a term is of one bit.
-pub(crate) fn is_one_bit(terms: &Terms, x: TermId) -> bool
+pub fn is_one_bit(terms: &Terms, x: TermId) -> bool
     requires { IsIn terms.now x }
     ensures { result ≡ spec.is_one_bit (tree_at (trees terms.now) x) }
 {
@@ -33,8 +33,8 @@ pub(crate) fn is_one_bit(terms: &Terms, x: TermId) -> bool
     }
 }
 
-/// Whether each term is.
-pub(crate) fn are_one_bit(terms: &Terms, xs: &[TermId]) -> bool
+/// Whether each of these terms is of one bit.
+pub fn are_one_bit(terms: &Terms, xs: &[TermId]) -> bool
     requires { AreIn terms.now xs.now }
     ensures { result ≡ spec.are_one_bit (tree_row (trees_at terms.now xs.now)) }
 {
@@ -49,7 +49,7 @@ pub(crate) fn are_one_bit(terms: &Terms, xs: &[TermId]) -> bool
 }
 
 /// Whether an operation is a connective where its operands are of one bit.
-pub(crate) fn connects(op: &Op) -> bool
+pub fn connects(op: &Op) -> bool
     ensures { result ≡ spec.connects op.now }
 {
     match op {
@@ -59,7 +59,7 @@ pub(crate) fn connects(op: &Op) -> bool
 }
 
 /// Whether a term is no connective of bits.
-pub(crate) fn is_atom(terms: &Terms, x: TermId) -> bool
+pub fn is_atom(terms: &Terms, x: TermId) -> bool
     requires { IsIn terms.now x }
     ensures { result ≡ reach.is_atom (tree_at (trees terms.now) x) }
 {

@@ -1,10 +1,10 @@
 //! Edge-shown conditions: at which rises and falls of which parts a condition over values before and now holds.
 #![tactic(auto)]
 
-mod atoms;
+pub mod atoms;
 pub mod laws;
 pub mod pasts;
-mod reach;
+pub mod reach;
 mod shown;
 mod table;
 pub mod triggers;

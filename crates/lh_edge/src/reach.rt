@@ -19,11 +19,7 @@ use std::collections::BTreeSet;
 /// The terms that some terms are joined of, themselves included. Later ones come first, so operands stand behind the terms that use them.
 ///
 /// It looks at these terms alone.
-pub(crate) fn joined_of(
-    alloc: Global,
-    terms: &Terms,
-    xs: &[TermId],
-) -> Result<Vec<TermId>, NoMemory>
+pub fn joined_of(alloc: Global, terms: &Terms, xs: &[TermId]) -> Result<Vec<TermId>, NoMemory>
     requires { AreIn terms.now xs.now }
     ensures { IfOk result (λ ids. AreReached (joined_by (trees terms.now)) terms.now xs.now ids.items) }
 {

@@ -1,3 +1,5 @@
 pub mod Splice
 pub mod RunLemmas
 pub mod GroupSteps
+pub mod Over
+pub mod OverlaySteps

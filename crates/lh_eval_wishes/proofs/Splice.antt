@@ -49,7 +49,7 @@ from_self : (k : DueBit) (w : Wish) → IsBelow k w → AllFrom k w
 from_self k w x = from_risen k k w (ap is_lt (due_bit_self k)) x
 
 -- entries in order are those below a key and those from it on
-parted : (k : DueBit) (w : Wish) → IsInOrder w → below k w ++ above k w ≡ w
+pub parted : (k : DueBit) (w : Wish) → IsInOrder w → below k w ++ above k w ≡ w
 parted k [] h = refl
 parted k (e ∷ es) h = at (is_below k e) refl (parted k es h.1)
   where

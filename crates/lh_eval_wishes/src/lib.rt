@@ -3,6 +3,8 @@
 
 mod cuts;
 mod grouping;
+mod layers;
+mod overlay;
 mod run;
 mod runs;
 pub mod wishes;

@@ -1,5 +1,5 @@
 //! Bits in a row that are wished for one instant.
-ghost use Rattle.std.specs.Prelude.{ℕ, ◌+◌, ◌≤◌, ◌^◌, length};
+ghost use Rattle.std.specs.Prelude.{ℕ, ◌+◌, ◌<◌, ◌^◌, length};
 
 use crate::cuts::{first_bits, other_bits};
 use lh_bits::bits::Bits;
@@ -13,7 +13,7 @@ pub(crate) struct WishRun {
     pub due: Instant,
     pub lo: u32,
     pub bits: Bits,
-    ghost fits: { lo + length bits ≤ 2 ^ 32 },
+    ghost fits: { lo + length bits < 2 ^ 32 },
 }
 
 impl WishRun {

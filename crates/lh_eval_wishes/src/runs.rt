@@ -55,7 +55,7 @@ fn alone(alloc: Global, run: WishRun) -> Result<Vec<WishRun>, NoMemory>
 }
 
 /// Adds a run at the end, unless it is empty.
-fn put_filled(runs: &mut Vec<WishRun>, run: WishRun) -> Result<(), NoMemory>
+pub(crate) fn put_filled(runs: &mut Vec<WishRun>, run: WishRun) -> Result<(), NoMemory>
     ensures wish { OnOk result (runs_wish runs.new.items ≡ runs_wish runs.old.items ++ run_wish run) }
     ensures filled { EachFilled runs.old.items → OnOk result (EachFilled runs.new.items) }
 {

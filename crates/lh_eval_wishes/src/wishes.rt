@@ -4,6 +4,7 @@ ghost use Rattle.lh_types.specs.Wish.{no_wish, with_bits, writes_wish};
 ghost use Rattle.lh_eval_wishes.specs.Grouped.{IsGrouped};
 
 use crate::grouping::grouped;
+use crate::layers::{Layer, flattened, put_layer};
 use crate::run::WishRun;
 use crate::runs::with_more;
 use lh_bits::bits::Bits;
@@ -18,6 +19,8 @@ use std::mem;
 /// A map from instants and signal bits to bits: what is wished so far.
 #[derive(Drop)]
 pub struct Wishes {
+    // What was wished before the runs. A run that belongs far in front would be dear to insert, so it begins a list anew.
+    layers: Vec<Layer>,
     // In order of the instants, then of the bits; no two of them overlap, and none is empty.
     runs: Items<WishRun>,
     alloc: Global,
@@ -33,8 +36,9 @@ impl Model for Wishes {
 
     ghost use Rattle.lh_bits.specs.MostlyOne.{items_in};
     ghost use Rattle.lh_eval_wishes.specs.Runs.{runs_wish, AreRuns};
+    ghost use Rattle.lh_eval_wishes.specs.Over.{over, stacked};
 
-    ghost view = { λ w. runs_wish (items_in w.runs) };
+    ghost view = { λ w. over (stacked w.layers.items) (runs_wish (items_in w.runs)) };
 
     ghost invariant = { λ w. AreRuns (items_in w.runs) };
 }
@@ -45,6 +49,7 @@ impl Wishes {
         ensures { result ≡ no_wish }
     {
         Wishes {
+            layers: Vec::new(alloc),
             runs: Items::Empty,
             alloc,
         }
@@ -58,9 +63,34 @@ impl Wishes {
         if bits.len() == 0 {
             return Ok(());
         }
+        self.make_way(due, lo)?;
         let runs = mem::replace(&mut self.runs, Items::Empty);
         self.runs = with_more(self.alloc, runs, WishRun { due, lo, bits })?;
         Ok(())
+    }
+
+    /// Sets the runs aside where one from this bit on belongs far in front.
+    fn make_way(&mut self, due: Instant, lo: u32) -> Result<(), NoMemory>
+        ensures { OnOk result (self.new ≡ self.old) }
+    {
+        if is_deep(&self.runs, due, lo) {
+            self.set_aside()
+        } else {
+            Ok(())
+        }
+    }
+
+    /// The runs become a layer, where they are a list.
+    fn set_aside(&mut self) -> Result<(), NoMemory>
+        ensures { OnOk result (self.new ≡ self.old) }
+    {
+        match mem::replace(&mut self.runs, Items::Empty) {
+            Items::Many(runs) => put_layer(self.alloc, &mut self.layers, Layer::new(runs)),
+            few => {
+                self.runs = few;
+                Ok(())
+            }
+        }
     }
 
     /// The wishes as lists of writes, without a copy of the bits: the due instants strictly rise, none of the lists is empty, and
@@ -69,6 +99,18 @@ impl Wishes {
         ensures wish { IfOk result (λ w. writes_wish w ≡ self) }
         ensures grouped { IfOk result IsGrouped }
     {
-        grouped(self.alloc, self.runs)
+        let runs = flattened(self.alloc, self.layers, self.runs)?;
+        grouped(self.alloc, runs)
+    }
+}
+
+/// How many runs a new one is inserted before at most.
+const NEAR: usize = 32;
+
+/// Whether a run from this bit on belongs before more than a few others.
+fn is_deep(runs: &Items<WishRun>, due: Instant, lo: u32) -> bool {
+    match runs {
+        Items::Many(runs) if runs.len() >= NEAR => !runs[runs.len() - NEAR].is_below(due, lo),
+        _ => false,
     }
 }

@@ -2,8 +2,9 @@
 #![tactic(auto)]
 
 ghost use Rattle.std.specs.Prelude.{◌≡◌, IfOk};
-ghost use Rattle.lh_unit.specs.Arena.{contents};
-ghost use Rattle.lh_unit.specs.Canon.{canon};
+ghost use Rattle.lh_unit.specs.Arena.{contents, unit_text_at};
+ghost use Rattle.lh_unit.specs.Canon.{canon, item_lines, text_of};
+ghost use Rattle.lh_unit.specs.Contents.{unit_text};
 
 mod arguments;
 mod insts;
@@ -17,6 +18,7 @@ mod words;
 use lh_text_buffer::Text;
 use lh_types::memory::NoMemory;
 use lh_unit::module::Module;
+use lh_unit::view::UnitView;
 use std::alloc::Global;
 /// The canonical text of a module: its items in file order, one line each, as the language reference spells them.
 ///
@@ -27,5 +29,14 @@ pub fn print(alloc: Global, m: &Module) -> Result<Vec<u8>, NoMemory>
 {
     let mut out = Text::new(alloc);
     units::put_items(&mut out, m);
+    out.finish()
+}
+
+/// The canonical text of a unit: its lines in a module's. Running out of memory is the only error.
+pub fn print_unit(alloc: Global, unit: UnitView<'_>) -> Result<Vec<u8>, NoMemory>
+    ensures { IfOk result (λ v. v.items ≡ text_of (item_lines (unit_text (unit_text_at unit.entry.module.now unit.entry.unit.0)))) }
+{
+    let mut out = Text::new(alloc);
+    units::put_unit(&mut out, unit);
     out.finish()
 }

@@ -121,7 +121,7 @@ fn put_header(out: &mut Text, view: UnitView<'_>)
 }
 
 /// Writes the lines of a unit.
-fn put_unit(out: &mut Text, view: UnitView<'_>)
+pub fn put_unit(out: &mut Text, view: UnitView<'_>)
     ensures { Writes out.old out.new (text_of (item_lines (unit_text (unit_text_at view.entry.module.now view.entry.unit.0)))) }
 {
     put_header(out, view);

@@ -102,7 +102,7 @@ abbrev pub reasons : Regions → List (Bool × Reason)
 reasons r = row_reasons r ++ trigger_reasons (parts_waited r.first.ends) (second_drives r)
 
 -- the first that holds
-abbrev pub first_holding : List (Bool × Reason) → Option Reason
+abbrev pub first_holding : {A : Type 0} → List (Bool × A) → Option A
 first_holding [] = None
 first_holding (x ∷ more) = if x.0 then Some x.1 else first_holding more
 

@@ -4,7 +4,7 @@
 mod ends;
 mod kinds;
 pub mod laws;
-mod merge;
+pub mod merge;
 mod pasts;
 mod reason;
 mod reasons;

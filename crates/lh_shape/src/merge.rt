@@ -18,11 +18,7 @@ use lh_types::memory::NoMemory;
 use std::alloc::Global;
 
 /// The drives, of which those are merged, from the left, that follow each other and drive one part after one delay.
-pub(crate) fn merged(
-    alloc: Global,
-    terms: &mut Terms,
-    drives: &[DriveRow],
-) -> Result<DriveList, NoMemory>
+pub fn merged(alloc: Global, terms: &mut Terms, drives: &[DriveRow]) -> Result<DriveList, NoMemory>
     requires { DrivesFit terms.old drives.now }
     ensures are { IfOk result (λ merged. AreDrives terms.new merged (spec.merged_drives (drives_at terms.old drives.now))) }
     ensures kept { Grows terms.old terms.new }
