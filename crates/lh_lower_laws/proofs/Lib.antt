@@ -10,3 +10,4 @@ pub mod WrittenConstants
 pub mod Flats
 pub mod ShapeDelays
 pub mod WrittenDelays
+pub mod OneReplaced

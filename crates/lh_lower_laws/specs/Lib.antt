@@ -1,2 +1,3 @@
 pub mod Delays
 pub mod Same
+pub mod One

@@ -1,5 +1,6 @@
 //! Laws of the lowered module of a well-formed module, each the contract of a function that does nothing.
 ghost use Rattle.lh_lower_laws.specs.Delays.{DelaysAreWritable};
+ghost use Rattle.lh_lower_laws.specs.One.{OneReplacedSameTrace};
 ghost use Rattle.lh_lower_laws.specs.Same.{LargeIsEnough, LoweredIsFaultless, LoweredIsPrintable, LoweredIsSpelled, LoweredIsWellFormed, LoweredSameTrace, LoweredSameTraceWithin};
 
 use lh_emit_def::laws::{comb_law, edge_law, once_law, printing_law};
@@ -16,6 +17,16 @@ pub fn same_trace_law()
     ensures same { LoweredSameTrace }
     ensures within { LoweredSameTraceWithin }
     ensures large { LargeIsEnough }
+{
+    lowered_stands();
+    max_is_enough();
+    replaced_law();
+}
+
+/// Whatever one process of a well-formed module is replaced by the entity of its shape, the module has the same trace, for every top unit and
+/// every number of frames.
+pub fn one_replaced_law()
+    ensures { OneReplacedSameTrace }
 {
     lowered_stands();
     max_is_enough();
