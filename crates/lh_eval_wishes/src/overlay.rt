@@ -34,11 +34,7 @@ pub(crate) fn overlaid(
 }
 
 /// Adds a run behind those that are out, and before it what of the rest is below it; what of the rest it covers goes.
-fn lay(
-    out: &mut Vec<WishRun>,
-    rest: &mut VecDeque<WishRun>,
-    run: WishRun,
-) -> Result<(), NoMemory>
+fn lay(out: &mut Vec<WishRun>, rest: &mut VecDeque<WishRun>, run: WishRun) -> Result<(), NoMemory>
     requires ordered { IsInOrder (runs_wish out.old.items ++ runs_wish rest.old.items) }
     requires behind { IsInOrder (runs_wish out.old.items ++ run_wish run) }
     requires out_filled { EachFilled out.old.items }

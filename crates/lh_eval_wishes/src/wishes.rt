@@ -36,7 +36,6 @@ impl Model for Wishes {
 
     ghost use Rattle.lh_bits.specs.MostlyOne.{items_in};
     ghost use Rattle.lh_eval_wishes.specs.Runs.{runs_wish, AreRuns};
-
     ghost use Rattle.lh_eval_wishes.specs.Over.{over, stacked};
 
     ghost view = { λ w. over (stacked w.layers.items) (runs_wish (items_in w.runs)) };
