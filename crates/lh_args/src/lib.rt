@@ -1,4 +1,4 @@
-//! The words of the command line.
+//! What the words of a command line ask for: a command with its options, or nothing.
 #![tactic(auto)]
 
 mod choice;

@@ -1,4 +1,4 @@
-//! The entity that is emitted for a process, under construction: each part and each term is given once, at its first need.
+//! An entity under construction: each part and each term of it is given once, at its first need.
 #![tactic(auto)]
 
 pub mod emitter;

@@ -1,5 +1,5 @@
 -- One wish over another.
-use Rattle.std.proofs.Common.{◌≡◌, ℕ, ◌+◌, List, [], ◌∷◌, ◌++◌, Bool, true, false, refl, ap, sym, ◌∙◌, subst, append_assoc}
+use Rattle.std.proofs.Common.{◌≡◌, ℕ, ◌+◌, List, [], ◌∷◌, ◌++◌, Bool, refl, ap, sym, ◌∙◌, subst, append_assoc}
 use Rattle.std.proofs.lemmas.List.{append-nil}
 use Rattle.std.specs.declared.cmp.Ordering.{Ordering}
 use Rattle.std.specs.declared.cmp.Ordering.TheVariants.{Less, Equal, Greater}
@@ -9,7 +9,7 @@ use Rattle.lh_time.specs.declared.Instant.{Instant}
 use Rattle.lh_types.specs.Wish.{DueBit, Wish, due_bit, due_bit_cmp, with_bit, with_bits, IsBelow, IsInOrder}
 use Rattle.lh_eval_wishes.specs.Over.{over, stacked_on, stacked}
 use Rattle.lh_eval_wishes.specs.Runs.{row_wish}
-use Rattle.lh_history_laws.proofs.DueBits.{due_bit_total, due_bit_self, due_bit_one, below_trans, turned, in_order-insert, in_order-bit}
+use Rattle.lh_history_laws.proofs.DueBits.{due_bit_total, due_bit_self, due_bit_one, below_trans, in_order-insert, in_order-bit}
 
 abbrev put : Wish → DueBit → Bool → Wish
 put w k b = insert_entry due_bit_cmp w k b

@@ -1,5 +1,5 @@
 -- What the code does as it puts runs over others.
-use Rattle.std.proofs.Common.{◌≡◌, ℕ, ◌+◌, ◌<◌, ◌≤◌, List, [], ◌∷◌, ◌++◌, length, Bool, true, false, not, if◌then◌else◌, refl, ap, sym, ◌∙◌, subst, append_assoc, arith}
+use Rattle.std.proofs.Common.{◌≡◌, ℕ, ◌+◌, ◌≤◌, List, [], ◌∷◌, ◌++◌, length, Bool, true, false, not, if◌then◌else◌, refl, ap, sym, ◌∙◌, subst, append_assoc}
 use Rattle.std.proofs.lemmas.List.{append-nil}
 use Rattle.std.proofs.lemmas.List.Elements.{filter-append}
 use Rattle.std.specs.declared.cmp.Ordering.{Ordering}
@@ -11,9 +11,9 @@ use Rattle.lh_eval_wishes.specs.declared.run.WishRun.{WishRun}
 use Rattle.lh_eval_wishes.specs.Grouped.{is_filled}
 use Rattle.lh_eval_wishes.specs.Over.{over}
 use Rattle.lh_eval_wishes.specs.Runs.{row_wish, run_wish, runs_wish, is_below, below, above, AllBelow, AllFrom, EachFilled, AreRuns}
-use Rattle.lh_history_laws.proofs.DueBits.{due_bit_total, below_trans, in_order-bits}
+use Rattle.lh_history_laws.proofs.DueBits.{below_trans, in_order-bits}
 use Rattle.lh_eval_wishes.proofs.Splice.{below-all, above-none, below-none, above-all, raised-all, lowered-all, from_risen, parted, spliced}
-use Rattle.lh_eval_wishes.proofs.RunLemmas.{runs-append, runs-push, filled-push, all-right, ordered-right, all_from}
+use Rattle.lh_eval_wishes.proofs.RunLemmas.{runs-append, runs-push, all-right, ordered-right, all_from}
 use Rattle.lh_eval_wishes.proofs.Over.{over-append, over-row, over-over, over-ordered}
 
 -- ---- entries in order

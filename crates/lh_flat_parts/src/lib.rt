@@ -1,4 +1,4 @@
-//! The parts of its arguments that the values of a process name.
+//! Which part of an argument each value of a flat text names.
 #![tactic(auto)]
 
 pub mod resolve;

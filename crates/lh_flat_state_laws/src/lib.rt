@@ -1,4 +1,5 @@
-//! The laws of flat texts of a well-formed module. Each is the contract of a function that does nothing, so that other crates can
+//! Laws of flat texts from one activation to the next: a process of a well-formed module and its flat text do the
+//! same, for any number of bits. Each is the contract of a function that does nothing, so that other crates can
 //! cite it.
 #![tactic(auto)]
 

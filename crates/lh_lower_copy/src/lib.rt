@@ -1,4 +1,4 @@
-//! Lowering of a module: a module like another one, in which entities stand in the place of some processes.
+//! A copy of a module in which entities stand in the place of some processes.
 #![tactic(auto)]
 
 mod adding;

@@ -1,4 +1,4 @@
-//! The lowering of a module: which entities stand in the places of its processes, and what is reported. Lowering is a definition so far.
+//! The definition of lowering: which entities stand in the place of a module's processes, and what is reported.
 #![tactic(auto)]
 
 pub mod laws;

@@ -1,4 +1,5 @@
-//! The lowered module of a well-formed module has the same trace, can be printed and read again, and is well formed.
+//! Laws of lowering: the lowered module of a well-formed module has the same trace, can be printed and read again,
+//! and is well formed.
 #![tactic(auto)]
 
 pub mod laws;

@@ -1,4 +1,5 @@
-//! Printing and reading again, by the calls.
+//! Printing and reading again, by the calls: what is read is spelled, and what is printed of a spelled module reads
+//! as its contents.
 #![tactic(auto)]
 
 ghost use Rattle.std.specs.Prelude.{◌≡◌, ◌≤◌, List, length, IfOk, IfErr};

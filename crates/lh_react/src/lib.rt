@@ -1,4 +1,4 @@
-//! One pass of an entity.
+//! One pass of an entity: what it remembers of its triggers, and what it wishes.
 #![tactic(auto)]
 
 mod entity;

@@ -1,4 +1,4 @@
-//! From the tokens of a line to what it says.
+//! Reads one line: the item that its tokens spell, or that they spell none.
 #![tactic(auto)]
 
 ghost use Rattle.std.specs.Prelude.{◌≡◌, IfOk, Some, None, Err};

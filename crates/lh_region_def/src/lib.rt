@@ -1,4 +1,5 @@
-//! What a process does between its waits, as rows of terms: places, edges, merged values, and the regions of a process.
+//! The definition of what a process does between its waits, as rows of terms: places, edges, merged values, and the
+//! regions of a process.
 #![tactic(auto)]
 
 pub mod laws;

@@ -1,4 +1,4 @@
-//! The regions of a process are found by a walk: from where it starts, place by place, to where it waits or ends.
+//! The walk that finds the regions of a process: from where it starts, place by place, to where it waits or ends.
 #![tactic(auto)]
 
 pub mod leaving;

@@ -1,5 +1,5 @@
-//! What a run comes to: the definition of its result by the words, the bytes and the watchers, the status with its line, what the words call
-//! for, the loading of a file, and the writing of two texts.
+//! The result of a run: its definition by the words, the bytes and the watchers, and the line of each status. Beside
+//! them stand what the words call for, the loading of a file, and the writing of two texts.
 #![tactic(auto)]
 
 pub mod called;

@@ -1,5 +1,5 @@
-//! What is spelled: laws of the canonical text of a module and of the text that it reads as. Each is the contract of a function
-//! that does nothing, so that other crates can cite it.
+//! Laws of texts: what any text reads as has a canonical text, and that text reads as it again. Each is the contract
+//! of a function that does nothing, so that other crates can cite it.
 #![tactic(auto)]
 
 ghost use Rattle.lh_text_laws.specs.Laws.{EveryReadingIsSpelled, CanonHasItsLines, CanonHasItsTokens, PrintableIsSpelled, SpelledIsPrintable, SpelledApart, SpelledTogether};

@@ -1,4 +1,5 @@
-//! Laws on what a file means. Each is the contract of a function that does nothing, so that other crates can cite it.
+//! Laws of what a file means: activations, values, frames and traces. Each is the contract of a function that does
+//! nothing, so that other crates can cite it.
 #![tactic(auto)]
 
 ghost use Rattle.lh_trace_laws.specs.Activations.{ActivationComputes, RunawayComputes, OneActivation};

@@ -1,4 +1,5 @@
-//! The answers of the crates that are tried to texts, by the words by which a text is run. The caller provides what runs the program.
+//! What the crates on trial answer to a text, by the words by which it is run. The caller provides what runs the
+//! program.
 #![tactic(auto)]
 
 pub mod answer;

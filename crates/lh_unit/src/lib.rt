@@ -1,4 +1,5 @@
-//! Units and instructions: instructions by ids, tokens, and what a file means.
+//! Modules, units and instructions by ids, and the definitions of what a text reads as, how it is printed, and what
+//! it means.
 #![tactic(auto)]
 
 pub mod constant;

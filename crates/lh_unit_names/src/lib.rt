@@ -1,4 +1,4 @@
-//! Names: those of units, and tables of those of values and labels.
+//! Names of units, values and labels, and the tables that give those of a unit their numbers.
 #![tactic(auto)]
 
 pub mod name;

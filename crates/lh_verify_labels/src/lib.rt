@@ -1,4 +1,4 @@
-//! Marks of a unit: which of its labels have a block, and which of its values come from a `prb`.
+//! Which labels of a unit have a block, and which of its values come from a `prb`.
 #![tactic(auto)]
 
 pub mod labels;

@@ -1,4 +1,4 @@
-//! The texts of a run: its trace, and its waveform as a value change dump.
+//! A run that is shown to watchers, and its text: the trace, or the waveform as a value change dump.
 #![tactic(auto)]
 
 mod changed;

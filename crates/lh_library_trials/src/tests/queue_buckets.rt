@@ -166,13 +166,29 @@ fn has(queue: &Queue, first: Instant, second: Option<Instant>) -> bool {
     dues(queue) == Some((Some(first), second, Some(instant(7, 0))))
 }
 
+/// The key of the first wish of the first bucket, and that of the one behind it.
+fn keys(queue: &Queue) -> Option<(usize, Option<usize>)> {
+    let (five, _) = firsts(queue)?;
+    Some((five.first, next(queue, five.first)))
+}
+
+/// Whether the wish that was second before stands first now, alone, under the key that it had.
+fn has_moved_up(before: Option<(usize, Option<usize>)>, queue: &Queue) -> bool {
+    match (before, keys(queue)) {
+        (Some((_, Some(second))), Some((first, None))) => first == second,
+        _ => false,
+    }
+}
+
 #[test]
 fn buckets_and_keys(rt: HostRuntime) -> Result<(), Fail> {
     let mut queue = three(rt.alloc())?;
     let mut now = Bits::zeros(rt.alloc(), 8)?;
     assert!(rt; has(&queue, instant(5, 0), Some(instant(5, 1))));
+    let before = keys(&queue);
     take(&mut queue, instant(5, 0), &mut now);
     assert!(rt; has(&queue, instant(5, 1), None));
+    assert!(rt; has_moved_up(before, &queue));
     Ok(())
 }
 

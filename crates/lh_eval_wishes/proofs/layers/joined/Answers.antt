@@ -1,4 +1,4 @@
-use Rattle.std.proofs.Common.{◌≡◌, [], ap, sym, ◌∙◌, arith}
+use Rattle.std.proofs.Common.{◌≡◌, [], arith}
 use Rattle.std.proofs.lemmas.Grind.{common_steps}
 use Rattle.lh_eval_wishes.proofs.Over.{joined-layers, over-top}
 use Rattle.lh_eval_wishes.proofs.layers.joined.Goals as goal

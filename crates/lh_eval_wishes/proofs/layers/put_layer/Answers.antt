@@ -1,5 +1,3 @@
-use Rattle.std.proofs.Common.{◌≡◌, [], ap, sym, ◌∙◌, arith}
-use Rattle.std.proofs.lemmas.Grind.{common_steps}
 use Rattle.lh_eval_wishes.proofs.Over.{joined-layers}
 use Rattle.lh_eval_wishes.proofs.layers.put_layer.Goals as goal
 

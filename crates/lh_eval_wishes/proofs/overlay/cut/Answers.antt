@@ -1,6 +1,5 @@
-use Rattle.std.proofs.Common.{◌≡◌, length, true, rules}
+use Rattle.std.proofs.Common.{◌≡◌, length, rules}
 use Rattle.lh_types.specs.Wish.{due_bit}
-use Rattle.lh_eval_wishes.specs.Grouped.{is_filled}
 use Rattle.lh_eval_wishes.specs.Runs.{runs_wish}
 use Rattle.lh_eval_wishes.proofs.RunLemmas.{is_filled-by}
 use Rattle.lh_eval_wishes.proofs.OverlaySteps.{later-runs, high-from, high-runs, high-above, high-below}

@@ -1,9 +1,9 @@
-use Rattle.std.proofs.Common.{◌≡◌, List, ◌∷◌, ◌++◌, [], ap, sym, ◌∙◌, subst, append_assoc, arith}
+use Rattle.std.proofs.Common.{◌≡◌, List, ◌++◌, [], ap, sym, ◌∙◌, subst, arith}
 use Rattle.std.proofs.lemmas.Grind.{common_steps}
 use Rattle.lh_types.specs.Wish.{IsInOrder}
 use Rattle.lh_eval_wishes.specs.declared.run.WishRun.{WishRun}
 use Rattle.lh_eval_wishes.specs.Over.{over}
-use Rattle.lh_eval_wishes.specs.Runs.{run_wish, runs_wish, EachFilled}
+use Rattle.lh_eval_wishes.specs.Runs.{runs_wish, EachFilled}
 use Rattle.lh_eval_wishes.proofs.RunLemmas.{filled-append}
 use Rattle.lh_eval_wishes.proofs.OverlaySteps.{next-ordered, over-more, order-kept, overlaid-wish}
 use Rattle.lh_eval_wishes.proofs.overlay.overlaid.Goals as goal

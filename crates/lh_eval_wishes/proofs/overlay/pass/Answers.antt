@@ -1,4 +1,4 @@
-use Rattle.std.proofs.Common.{◌≡◌, ◌++◌, [], false, refl, ap, sym, ◌∙◌, rules}
+use Rattle.std.proofs.Common.{◌++◌, ap, sym, ◌∙◌, rules}
 use Rattle.std.proofs.lemmas.List.{append-nil}
 use Rattle.lh_types.specs.Wish.{due_bit}
 use Rattle.lh_eval_wishes.specs.Runs.{runs_wish, AllFrom}

@@ -1,4 +1,3 @@
-use Rattle.std.proofs.Common.{rules}
 use Rattle.lh_types.specs.Wish.{due_bit}
 use Rattle.lh_eval_wishes.proofs.RunLemmas.{filled-push}
 use Rattle.lh_eval_wishes.proofs.OverlaySteps.{later-runs, all-from, below-moved, above-moved}

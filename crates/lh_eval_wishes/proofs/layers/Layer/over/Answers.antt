@@ -1,7 +1,4 @@
 use Rattle.std.proofs.Common.{sym}
-use Rattle.lh_types.specs.Wish.{Wish}
-use Rattle.lh_eval_wishes.specs.Over.{over}
-use Rattle.lh_eval_wishes.specs.Runs.{runs_wish}
 use Rattle.lh_eval_wishes.proofs.OverlaySteps.{over-runs, over-joined}
 use Rattle.lh_eval_wishes.proofs.layers.Layer.over.Goals as goal
 
