@@ -8,7 +8,7 @@ pub loop-k-init : goal.loop-k-init
 loop-k-init c = record {
   whole = c.signals-signal-items.ensures;
   path = c.in_ok-path.ensures.text ∙ ap (path_at (shown_in (design_text c.args.m.now c.args.d.now))) (sym c.in_ok-path.ensures.at);
-  text = λ _. signals_start _ _ _ c.new-to.ensures.empty;
+  text = λ _. signals_start c.args.m.now c.args.d.now _ c.new-to.ensures.empty;
 }
 
 pub loop-k-preserved : goal.loop-k-preserved
