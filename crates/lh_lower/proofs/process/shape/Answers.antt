@@ -24,17 +24,17 @@ returns-in-Ok-clause-is c =
 pub returns-in-Err-RecursiveCall-clause-is : goal.returns-in-Err-RecursiveCall-clause-is
 returns-in-Err-RecursiveCall-clause-is c =
     let a = c.args.m.now in let r = c.in-Err-RecursiveCall in
-    shape-left a c.args.unit.0 _ (flat.recursive_call (unit_name_at a r.field-0-0.0))
+    shape-left a c.args.unit.0 c.args.terms.now (flat.recursive_call (unit_name_at a r.field-0-0.0))
     (refused-in a c.in_ok-flattener.flattener.m.now c.args.unit.0 r.field-0 (fault.RecursiveCall r.field-0-0) c.in_ok-flattener.ensures r.field-0-is r.ensures.flat)
 
 pub returns-in-Err-CallTooDeep-clause-is : goal.returns-in-Err-CallTooDeep-clause-is
 returns-in-Err-CallTooDeep-clause-is c =
     let r = c.in-Err-CallTooDeep in
-    shape-left c.args.m.now c.args.unit.0 _ flat.call_too_deep
+    shape-left c.args.m.now c.args.unit.0 c.args.terms.now flat.call_too_deep
     (refused-in c.args.m.now c.in_ok-flattener.flattener.m.now c.args.unit.0 r.field-0 fault.CallTooDeep c.in_ok-flattener.ensures r.field-0-is r.ensures.flat)
 
 pub returns-in-Err-FlatTooLarge-clause-is : goal.returns-in-Err-FlatTooLarge-clause-is
 returns-in-Err-FlatTooLarge-clause-is c =
     let r = c.in-Err-FlatTooLarge in
-    shape-left c.args.m.now c.args.unit.0 _ flat.flat_too_large
+    shape-left c.args.m.now c.args.unit.0 c.args.terms.now flat.flat_too_large
     (refused-in c.args.m.now c.in_ok-flattener.flattener.m.now c.args.unit.0 r.field-0 fault.FlatTooLarge c.in_ok-flattener.ensures r.field-0-is r.ensures.flat)
