@@ -36,7 +36,7 @@ use Rattle.lh_region_def.proofs.LineEffects
 
 module _ (u : UnitText) (g : Region) (r : RegionOf u g) (i : ℕ) (b : FlatBlockText) (bat : BlockAt g.blocks i b) (h : Here) (hl : h.label ≡ b.label) (hc : IsCondition h.cond) where
   abbrev Took : List LineText → LineText → Midst → Midst → Type 0
-  Took = Taking.Took u g r i b bat h hl hc
+  Took = LineEffects.Took u g r i b bat h hl hc
 
   -- ---- edges and ends are added, and no more
   pub record Leads (m m' : Midst) : Type 0 where
@@ -112,7 +112,7 @@ module _ (u : UnitText) (g : Region) (r : RegionOf u g) (i : ℕ) (b : FlatBlock
     Labels j = Each (λ n. (c : BlockText) × (block_of n u.blocks ≡ Some c)) (labels_named j)
 
     leads-took : (m1 : Midst) → is_terminator l.inst ≡ true → ((t : TypeTree) → result_type l.inst ≡ Some t → ⊥) → Leads m m1 → Took before l m m1
-    leads-took m1 last none d = Taking.same-took u g r i b bat h hl hc before l after s m typed there m1 d.known (λ t w q. none t q) d.edges
+    leads-took m1 last none d = LineEffects.same-took u g r i b bat h hl hc before l after s m typed there m1 d.known (λ t w q. none t q) d.edges
         (subst (More (DriveRight h) m.rows.drives) (sym d.drives) (no-more (DriveRight h) m.rows.drives)) d.ends
         (subst (More (λ (t : Tree). Unit {0}) m.rows.asserts) (sym d.asserts) (no-more (λ (t : Tree). Unit {0}) m.rows.asserts))
 
@@ -124,11 +124,11 @@ module _ (u : UnitText) (g : Region) (r : RegionOf u g) (i : ℕ) (b : FlatBlock
     br-took to e x =
         let last : is_terminator l.inst ≡ true = ap is_terminator e in
         leads-took (leads g h h.cond to m) last (λ t q. none-some t (sym (ap result_type e) ∙ q))
-        (LeadsRight last h.cond hc (Taking.under-self h.cond) m refl to (ap (λ j. list_any (λ m. same_name m to) (leads_to j)) e ∙ first-name to []) x.0)
+        (LeadsRight last h.cond hc (LineEffects.under-self h.cond) m refl to (ap (λ j. list_any (λ m. same_name m to) (leads_to j)) e ∙ first-name to []) x.0)
 
     -- the condition of a branch
     pub branch-known : (c first second : List ℕ) → RowIs u (branch_text c first second) → Operands (branch_text c first second) → (t : Tree) × (value_known m.known c ≡ Some t) × IsCondition t
-    branch-known c first second row k = Taking.bit-known u g r i b bat h hl hc before l after s m typed there c row k.0
+    branch-known c first second row k = LineEffects.bit-known u g r i b bat h hl hc before l after s m typed there c row k.0
 
     branch-took : (c first second : List ℕ) → l.inst ≡ branch_text c first second → RowIs u (branch_text c first second) → Operands (branch_text c first second) → Labels (branch_text c first second)
         → Took before l m (takes g h (branch_text c first second) l.result m)
@@ -138,9 +138,9 @@ module _ (u : UnitText) (g : Region) (r : RegionOf u g) (i : ℕ) (b : FlatBlock
         let n = not-condition t.0 t.2 in
         let q0 : Tree = both h.cond (make_operation Not (t.0 ∷ [])) in
         let m1 : Midst = leads g h q0 first m in
-        let a = LeadsRight last q0 (and-condition h.cond (make_operation Not (t.0 ∷ [])) hc n) (Taking.under-both h.cond (make_operation Not (t.0 ∷ [])) hc n) m refl first
+        let a = LeadsRight last q0 (and-condition h.cond (make_operation Not (t.0 ∷ [])) hc n) (LineEffects.under-both h.cond (make_operation Not (t.0 ∷ [])) hc n) m refl first
         (ap (λ j. list_any (λ m. same_name m first) (leads_to j)) e ∙ first-name first (second ∷ [])) x.0 in
-        let b = LeadsRight last (both h.cond t.0) (and-condition h.cond t.0 hc t.2) (Taking.under-both h.cond t.0 hc t.2) m1 a.known second
+        let b = LeadsRight last (both h.cond t.0) (and-condition h.cond t.0 hc t.2) (LineEffects.under-both h.cond t.0 hc t.2) m1 a.known second
         (ap (λ j. list_any (λ m. same_name m second) (leads_to j)) e ∙ second-name first second) x.1.0 in
         subst (λ o. Took before l m (branches g h o first second m)) (sym t.1)
         (leads-took (leads g h (both h.cond t.0) second m1) last (λ t q. none-some t (sym (ap result_type e) ∙ q)) (leads-both m m1 (leads g h (both h.cond t.0) second m1) a b))
@@ -153,7 +153,7 @@ module _ (u : UnitText) (g : Region) (r : RegionOf u g) (i : ℕ) (b : FlatBlock
           known = refl;
           edges = no-more (EdgeRight u g h) m.edges;
           drives = refl;
-          ends = one-more (EndRight u g h) m.rows.ends _ (record { cond = hc; under = Taking.under-self h.cond; from = refl; known = typed; way = tt });
+          ends = one-more (EndRight u g h) m.rows.ends _ (record { cond = hc; under = LineEffects.under-self h.cond; from = refl; known = typed; way = tt });
           asserts = refl;
         })
 
@@ -174,7 +174,7 @@ module _ (u : UnitText) (g : Region) (r : RegionOf u g) (i : ℕ) (b : FlatBlock
               known = refl;
               edges = no-more (EdgeRight u g h) m.edges;
               drives = refl;
-              ends = one-more (EndRight u g h) m.rows.ends _ (record { cond = hc; under = Taking.under-self h.cond; from = refl; known = typed; way = j });
+              ends = one-more (EndRight u g h) m.rows.ends _ (record { cond = hc; under = LineEffects.under-self h.cond; from = refl; known = typed; way = j });
               asserts = refl;
             })
 
@@ -184,15 +184,15 @@ module _ (u : UnitText) (g : Region) (r : RegionOf u g) (i : ℕ) (b : FlatBlock
       where
         by : (j : InstText) → l.inst ≡ j → RowIs u j → HasPart u j → IsWrittenRight j → IsWithoutCalls u j → Operands j → Labels j → PhiGiven m.known j l.result
             → Took before l m (takes g h j l.result m)
-        by (const_text d) e row part w c k x p = Taking.const-took u g r i b bat h hl hc before l after s m typed there d e w
-        by (pure_text o os) e row part w c k x p = Taking.pure-took u g r i b bat h hl hc before l after s m typed there o os e row part w k
-        by (var_text a) e row part w c k x p = Taking.var-took u g r i b bat h hl hc before l after s m typed there a e row k
-        by (ld_text a) e row part w c k x p = Taking.ld-took u g r i b bat h hl hc before l after s m typed there a e row k
-        by (st_text to value) e row part w c k x p = Taking.st-took u g r i b bat h hl hc before l after s m typed there to value e row k
-        by (prb_text a) e row part w c k x p = Taking.prb-took u g r i b bat h hl hc before l after s m typed there a e row k
-        by (drv_text to value after' cond) e row part w c k x p = Taking.drv-took u g r i b bat h hl hc before l after s m typed there to value after' cond e row k
-        by (call_text f ty os) e row part w c k x p = Taking.call-took u g r i b bat h hl hc before l after s m typed there f ty os e c
-        by (phi_text ty es) e row part w c k x p = Taking.phi-took u g r i b bat h hl hc before l after s m typed there ty es e p
+        by (const_text d) e row part w c k x p = LineEffects.const-took u g r i b bat h hl hc before l after s m typed there d e w
+        by (pure_text o os) e row part w c k x p = LineEffects.pure-took u g r i b bat h hl hc before l after s m typed there o os e row part w k
+        by (var_text a) e row part w c k x p = LineEffects.var-took u g r i b bat h hl hc before l after s m typed there a e row k
+        by (ld_text a) e row part w c k x p = LineEffects.ld-took u g r i b bat h hl hc before l after s m typed there a e row k
+        by (st_text to value) e row part w c k x p = LineEffects.st-took u g r i b bat h hl hc before l after s m typed there to value e row k
+        by (prb_text a) e row part w c k x p = LineEffects.prb-took u g r i b bat h hl hc before l after s m typed there a e row k
+        by (drv_text to value after' cond) e row part w c k x p = LineEffects.drv-took u g r i b bat h hl hc before l after s m typed there to value after' cond e row k
+        by (call_text f ty os) e row part w c k x p = LineEffects.call-took u g r i b bat h hl hc before l after s m typed there f ty os e c
+        by (phi_text ty es) e row part w c k x p = LineEffects.phi-took u g r i b bat h hl hc before l after s m typed there ty es e p
         by (br_text to) e row part w c k x p = br-took to e x
         by (branch_text c first second) e row part w d k x p = branch-took c first second e row k x
         by (wait_text to after' on) e row part w c k x p = wait-took to after' on e x

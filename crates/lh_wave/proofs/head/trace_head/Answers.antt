@@ -5,14 +5,14 @@ use Rattle.lh_wave.proofs.HeadLines.{signals_start, signals_next, signals_end}
 use Rattle.lh_wave.proofs.head.trace_head.Goals as goal
 
 pub loop-k-init : goal.loop-k-init
-loop-k-init g c = record {
+loop-k-init c = record {
   whole = c.signals-signal-items.ensures;
   path = c.in_ok-path.ensures.text ∙ ap (path_at (shown_in (design_text c.args.m.now c.args.d.now))) (sym c.in_ok-path.ensures.at);
   text = λ _. signals_start _ _ _ c.new-to.ensures.empty;
 }
 
 pub loop-k-preserved : goal.loop-k-preserved
-loop-k-preserved g c = record {
+loop-k-preserved c = record {
   whole = c.loop-k.invariant.whole;
   path = c.in_ok-go_to.ensures.text ∙ ap (path_at (shown_in (design_text c.args.m.now c.args.d.now))) (sym c.in_ok-go_to.ensures.at);
   text = λ w. let put = c.put_signal.ensures w in

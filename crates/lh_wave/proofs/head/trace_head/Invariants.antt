@@ -6,7 +6,7 @@ use Rattle.lh_wave.proofs.HeadLines.{SignalsWriting}
 use Rattle.lh_wave.proofs.head.trace_head.Given as goal
 
 abbrev pub invariant-loop-k : goal.invariant-loop-k
-invariant-loop-k g l = record {
+invariant-loop-k l = record {
   whole : l.signal-items ≡ l.fn.d.signals.items;
   path : l.path.text.items ≡ path_at (shown_in (design_text l.fn.m l.fn.d)) l.path.instance;
   text : l.to.is_whole ≡ true → SignalsWriting l.fn.m l.fn.d l.to.items l.k;
