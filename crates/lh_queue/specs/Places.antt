@@ -65,7 +65,7 @@ pub record GoesAfter (held : List QueuedWish) (w : Wish) (k : ℕ) : Type 0 wher
 abbrev pub IsPlace : List QueuedWish → Wish → Insertion → Type 0
 IsPlace held w (Alone k) = GoesAlone held w k
 IsPlace held w (First k) = GoesFirst held w k
-IsPlace held w (After k near) = GoesAfter held w near
+IsPlace held w (After walk) = GoesAfter held w walk.to
 
 -- the wish of a key is in the bucket of a wish, and comes before it
 pub record IsBehind (held : List QueuedWish) (w : Wish) (k : ℕ) : Type 0 where

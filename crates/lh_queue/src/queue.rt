@@ -6,7 +6,7 @@ ghost use Rattle.lh_queue.specs.Holds.{entries, HoldsFor, AreBitsAt, HoldsOn, Ho
 ghost use Rattle.lh_queue.specs.Buckets.{buckets_of, next_in, AreBuckets};
 ghost use Rattle.lh_queue.specs.Places.{IsPlace, GoesAlone, GoesFirst, GoesAfter, IsBehind, IsPut, earlier, first_key, first_wish, starts_at, first_of, comes_before, next_before, is_near};
 
-use crate::hints::Hints;
+use crate::hints::{Hints, LONG};
 use crate::line::BucketLine;
 use crate::wish::Wish;
 use lh_bits::bits::Bits;
@@ -32,13 +32,21 @@ struct Linked {
     next: Option<usize>,
 }
 
-/// Where a wish goes: alone into a new bucket of this number, first into the bucket of this number, or in the bucket of the
-/// first number behind the wish of the key that stands second.
+/// Where a wish goes: alone into a new bucket of this number, first into the bucket of this number, or behind the wish to which a
+/// walk led.
 #[derive(Clone, Copy)]
 enum Insertion {
     Alone(usize),
     First(usize),
-    After(usize, usize),
+    After(Walk),
+}
+
+/// A walk along the chain of a bucket, from the wish of one key to that of another one.
+#[derive(Clone, Copy)]
+struct Walk {
+    from: usize,
+    to: usize,
+    steps: usize,
 }
 
 /// The wishes that are still due.
@@ -94,7 +102,7 @@ impl Queue {
         let _ = self.links.capacity();
         self.links.reserve(n)?;
         self.buckets.reserve(n)?;
-        self.hints.make_room(n);
+        self.hints.make_room(self.links.len().saturating_add(n));
         Ok(())
     }
 
@@ -113,7 +121,7 @@ impl Queue {
         match self.place(&w) {
             Insertion::Alone(k) => self.put_alone(k, w),
             Insertion::First(k) => self.put_first(k, w),
-            Insertion::After(k, near) => self.put_after(k, near, w),
+            Insertion::After(walk) => self.put_after(walk, w),
         }
     }
 
@@ -152,6 +160,7 @@ impl Queue {
             wish.set(now);
             drop(wish);
         }
+        self.hints.forget(at);
     }
 
     /// Sets the bits that taking out the wishes due at an instant would set, on the same conditions, and leaves the queue as it
@@ -244,10 +253,7 @@ impl Queue {
         let linked = self.links.remove(bucket.first);
         match linked.next {
             Some(first) => self.buckets.set(0, Bucket { first, ..bucket }),
-            None => {
-                self.buckets.remove_first();
-                self.hints.remove_first();
-            }
+            None => self.buckets.remove_first(),
         }
         linked.wish
     }
@@ -262,8 +268,8 @@ impl Queue {
             None => Insertion::Alone(k),
             Some(first) => {
                 if self.comes_before(first, w) {
-                    let near = self.near(k, first, w);
-                    Insertion::After(k, self.last_before(near, w))
+                    let near = self.near(first, w);
+                    Insertion::After(self.last_before(near, w))
                 } else {
                     Insertion::First(k)
                 }
@@ -335,32 +341,34 @@ impl Queue {
         }
     }
 
-    /// The wish that is known of the bucket of this number, where it comes before a wish, and else the bucket's first.
-    fn near(&self, k: usize, first: usize, w: &Wish) -> usize
+    /// The wish that is known, where it comes before a wish in its bucket, and else the bucket's first.
+    fn near(&self, first: usize, w: &Wish) -> usize
         requires order { AreInOrder self.now.held }
         requires keys { KeysDiffer self.now.held }
         requires starts { IsBehind self.now.held w.now first }
         ensures { IsBehind self.now.held w.now result }
     {
-        match self.hints.get(k, w.due) {
+        match self.hints.get(w.due) {
             Some(key) => { if self.is_near(key, w) { key } else { first } }
             None => first,
         }
     }
 
-    /// From a wish of the same bucket that comes before a wish, the last such.
-    fn last_before(&self, first: usize, w: &Wish) -> usize
+    /// The walk from a wish of the same bucket that comes before a wish to the last such.
+    fn last_before(&self, from: usize, w: &Wish) -> Walk
         requires apart { NoneCompetes w.now self.now.held }
         requires order { AreInOrder self.now.held }
         requires keys { KeysDiffer self.now.held }
-        requires starts { IsBehind self.now.held w.now first }
-        ensures { GoesAfter self.now.held w.now result }
+        requires starts { IsBehind self.now.held w.now from }
+        ensures { GoesAfter self.now.held w.now result.to }
     {
-        let mut key = first;
-        while let Some(next) = self.next_before(key, w) {
-            key = next;
+        let mut to = from;
+        let mut steps = 0usize;
+        while let Some(next) = self.next_before(to, w) {
+            to = next;
+            steps = steps.saturating_add(1);
         }
-        key
+        Walk { from, to, steps }
     }
 
     /// Puts a wish alone into a new bucket of this number.
@@ -376,7 +384,6 @@ impl Queue {
             next: None,
         });
         self.buckets.insert(k, Bucket { fs, first });
-        self.hints.insert(k, first);
     }
 
     /// Puts a wish first into the bucket of this number.
@@ -392,17 +399,33 @@ impl Queue {
         self.buckets.set(k, Bucket { first, ..bucket });
     }
 
-    /// Puts a wish into the bucket of this number behind the wish of this key.
-    fn put_after(&mut self, k: usize, near: usize, w: Wish)
+    /// Puts a wish behind the one to which a walk led.
+    fn put_after(&mut self, walk: Walk, w: Wish)
         requires room { 0 < self.old.spare }
-        requires place { GoesAfter self.old.held w near }
+        requires place { GoesAfter self.old.held w walk.to }
         requires once { NamesOnce w.bits }
         ensures { IsPut self.old self.new w }
     {
         let due = w.due;
+        let near = walk.to;
+        part(&self.links, &mut self.hints, walk);
         let next = self.links[near].next;
         let key = self.links.insert_reserved(Linked { wish: w, next });
         self.links[near].next = Some(key);
-        self.hints.note(k, key, due);
+        self.hints.note(due, key);
+    }
+}
+
+/// Makes stops along a walk, where it is long, so that no further one is.
+fn part(links: &Slab<Linked>, hints: &mut Hints, walk: Walk) {
+    if walk.steps < LONG {
+        return;
+    }
+    let mut key = walk.from;
+    for step in 0..walk.steps {
+        let Some(linked) = links.get(key) else { return };
+        hints.pass(step, linked.wish.due, key);
+        let Some(next) = linked.next else { return };
+        key = next;
     }
 }

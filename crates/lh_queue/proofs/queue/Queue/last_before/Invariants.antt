@@ -3,7 +3,7 @@ use Rattle.lh_queue.specs.Places.{IsBehind, behind}
 use Rattle.lh_queue.proofs.queue.Queue.last_before.Given as goal
 
 abbrev pub invariant-loop-next : goal.invariant-loop-next
-invariant-loop-next l = IsBehind l.self.held l.w l.key
+invariant-loop-next l = IsBehind l.self.held l.w l.to
 
 abbrev pub decreases-loop-next : goal.decreases-loop-next
-decreases-loop-next l = length (behind l.self.held l.key)
+decreases-loop-next l = length (behind l.self.held l.to)

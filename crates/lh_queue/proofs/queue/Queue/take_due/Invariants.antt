@@ -4,8 +4,8 @@ use Rattle.lh_queue.specs.Queued.{AreInOrder, NoneDueBefore, EachWithin, due_lat
 use Rattle.lh_queue.specs.Holds.{entries}
 use Rattle.lh_queue.proofs.queue.Queue.take_due.Given as goal
 
-abbrev pub invariant-loop-at : goal.invariant-loop-at
-invariant-loop-at l = record {
+abbrev pub invariant-loop-self : goal.invariant-loop-self
+invariant-loop-self l = record {
   order : AreInOrder l.self.held;
   due : NoneDueBefore l.at l.self.held;
   within : EachWithin (length l.now) l.self.held;
@@ -14,5 +14,5 @@ invariant-loop-at l = record {
   bits : values_by (entries l.self.held) l.at 0 l.now ≡ values_by (entries l.fn.self.held) l.at 0 l.fn.now;
 }
 
-abbrev pub decreases-loop-at : goal.decreases-loop-at
-decreases-loop-at l = length l.self.held
+abbrev pub decreases-loop-self : goal.decreases-loop-self
+decreases-loop-self l = length l.self.held
