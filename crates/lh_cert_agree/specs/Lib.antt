@@ -1,0 +1,4 @@
+pub mod Agreeing
+pub mod Laws
+pub mod Gates
+pub mod Worked

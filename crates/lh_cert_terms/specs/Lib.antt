@@ -1,0 +1,3 @@
+pub mod Rebuilding
+pub mod Laws
+pub mod Made
