@@ -31,12 +31,12 @@ mux_chooses (tuple_value vs) f t h = absurd h
 -- ---- the two elements of an array
 
 -- an array has these two elements: they are typed, of one type, and what it means is the array of what they mean
-record IsPair (x f t : Tree) : Type 0 where
-  first : IsTyped f
-  second : IsTyped t
-  alike : type_of f ≡ type_of t
-  type : type_of x ≡ array_type 2 (type_of f)
-  elements : (past now : Valuation) → mean past now x ≡ array_value (data_row (mean past now f ∷ mean past now t ∷ []))
+pub record IsPair (x f t : Tree) : Type 0 where
+  pub first : IsTyped f
+  pub second : IsTyped t
+  pub alike : type_of f ≡ type_of t
+  pub type : type_of x ≡ array_type 2 (type_of f)
+  pub elements : (past now : Valuation) → mean past now x ≡ array_value (data_row (mean past now f ∷ mean past now t ∷ []))
 
 constant_pair : (f t : Datum) → IsTyped (constant (array_value (more_values f (more_values t no_values)))) → IsPair (constant (array_value (more_values f (more_values t no_values)))) (constant f) (constant t)
 constant_pair f t h = by h.is_value
@@ -67,10 +67,10 @@ operation_pair f t h =
       elements = λ past now. refl;
     }
 
-record Found (x : Tree) (p : Tree × Tree) : Type 0 where
-  is : IsTyped x → IsPair x p.0 p.1
+pub record Found (x : Tree) (p : Tree × Tree) : Type 0 where
+  pub is : IsTyped x → IsPair x p.0 p.1
 
-pair_found : (x : Tree) (p : Tree × Tree) → pair_in x ≡ Some p → Found x p
+pub pair_found : (x : Tree) (p : Tree × Tree) → pair_in x ≡ Some p → Found x p
 pair_found (constant (array_value (more_values f (more_values t no_values)))) p e =
     let q : (constant f, constant t) ≡ p = cc in subst (λ (r : Tree × Tree). Found (constant (array_value (more_values f (more_values t no_values)))) r) q (record { is = constant_pair f t })
 pair_found (operation Array (more_trees f (more_trees t no_trees))) p e =
@@ -113,10 +113,10 @@ read_sound op ts h = operation_sound op ts h
 
 -- ---- a term read again
 
-record RowNow (xs : List Tree) (ts : TreeRow) : Type 0 where
-  typed : AreTyped (tree_row xs)
-  types : types_of (tree_row xs) ≡ types_of ts
-  row_means : (v : Valuation) → IsFitting v → means v v (tree_row xs) ≡ means v v ts
+pub record RowNow (xs : List Tree) (ts : TreeRow) : Type 0 where
+  pub typed : AreTyped (tree_row xs)
+  pub types : types_of (tree_row xs) ≡ types_of ts
+  pub row_means : (v : Valuation) → IsFitting v → means v v (tree_row xs) ≡ means v v ts
 
 mutual
   pub rebuilt_sound : (t : Tree) → IsTyped t → MeansNow (rebuilt t) t
@@ -143,7 +143,7 @@ mutual
         mean = λ v g. m.mean v v g g ∙ (λ i. chosen (kc.mean v g i) (kf.mean v g i) (kt.mean v g i));
       }
 
-  row_sound : (ts : TreeRow) → AreTyped ts → RowNow (rebuilt_row ts) ts
+  pub row_sound : (ts : TreeRow) → AreTyped ts → RowNow (rebuilt_row ts) ts
   row_sound no_trees h = record { typed = tt; types = refl; row_means = λ v f. refl }
   row_sound (more_trees t ts) h =
       let k = rebuilt_sound t h.0 in

@@ -1,3 +1,4 @@
 pub mod Rebuilding
 pub mod Laws
 pub mod Made
+pub mod Worked

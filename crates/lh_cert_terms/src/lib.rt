@@ -2,3 +2,8 @@
 #![tactic(auto)]
 
 pub mod laws;
+mod operation;
+mod remade;
+
+pub use crate::operation::read_operation;
+pub use crate::remade::{made_at, make_anew};

@@ -1,0 +1,5 @@
+pub mod Rows
+pub mod Reading
+pub mod Means
+pub mod Laws
+pub mod Worked

@@ -1,0 +1,13 @@
+//! Laws of the rows of entities, each the contract of a function that does nothing.
+ghost use Rattle.lh_cert_rows.specs.Laws.{RegistersDoRows};
+ghost use Rattle.lh_cert_rows.specs.Worked.{WorkedEntities};
+
+/// A register does what its row says: the first trigger that fires drives its value, and the values of all of them are seen.
+pub fn registers_do_rows()
+    ensures { RegistersDoRows }
+{}
+
+/// The parts that two small entities probe, and their rows.
+pub fn worked_entities()
+    ensures { WorkedEntities }
+{}
