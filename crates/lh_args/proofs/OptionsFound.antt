@@ -6,7 +6,7 @@ use Rattle.std.proofs.lemmas.List.{append-nil}
 use Rattle.std.proofs.lemmas.Grind.{flat_map-append}
 use Rattle.lh_args.specs.Forms.{Choice, top, steps, vcd, watch, spelled, names_in, numbers_in, vcds_in}
 use Rattle.lh_args.specs.declared.found.FoundOptions.{FoundOptions}
-use Rattle.lh_args.specs.Found.{IsFound, AtMostOnce, IsAllFound}
+use Rattle.lh_args.specs.Found.{OptionsAreFound, AtMostOnce, IsAllFound}
 use Rattle.lh_args.proofs.Options.{names_in-append, numbers_in-append, vcds_in-append, Same, spelled-unique, spelled-some, Behind, behind}
 
 abbrev pub texts : Option (Bor (List ℕ)) → List (List ℕ)
@@ -20,8 +20,8 @@ one_text : (o : Option (Bor (List ℕ))) → is_some o ≡ true → length (text
 one_text None h = cc
 one_text (Some w) h = refl
 
-pub found_top : (f : FoundOptions) (w : Bor (List ℕ)) (done : List Choice) → is_some f.top ≡ false → IsFound f done
-    → IsFound (record { top = Some w; steps = f.steps; vcd = f.vcd }) (done ++ top w.now ∷ [])
+pub found_top : (f : FoundOptions) (w : Bor (List ℕ)) (done : List Choice) → is_some f.top ≡ false → OptionsAreFound f done
+    → OptionsAreFound (record { top = Some w; steps = f.steps; vcd = f.vcd }) (done ++ top w.now ∷ [])
 found_top f w done none is =
     record {
       top = names_in-append done (top w.now ∷ []) ∙ ap (λ l. l ++ w.now ∷ []) (is.top ∙ no_text f.top none);
@@ -29,8 +29,8 @@ found_top f w done none is =
       vcd = vcds_in-append done (top w.now ∷ []) ∙ (let e : vcds_in done ≡ cond f.vcd 1 0 = is.vcd in omega arith);
     }
 
-pub found_steps : (f : FoundOptions) (w : Bor (List ℕ)) (done : List Choice) → is_some f.steps ≡ false → IsFound f done
-    → IsFound (record { top = f.top; steps = Some w; vcd = f.vcd }) (done ++ steps w.now ∷ [])
+pub found_steps : (f : FoundOptions) (w : Bor (List ℕ)) (done : List Choice) → is_some f.steps ≡ false → OptionsAreFound f done
+    → OptionsAreFound (record { top = f.top; steps = Some w; vcd = f.vcd }) (done ++ steps w.now ∷ [])
 found_steps f w done none is =
     record {
       top = names_in-append done (steps w.now ∷ []) ∙ append-nil (names_in done) ∙ is.top;
@@ -38,7 +38,7 @@ found_steps f w done none is =
       vcd = vcds_in-append done (steps w.now ∷ []) ∙ (let e : vcds_in done ≡ cond f.vcd 1 0 = is.vcd in omega arith);
     }
 
-pub found_vcd : (f : FoundOptions) (done : List Choice) → f.vcd ≡ false → IsFound f done → IsFound (record { top = f.top; steps = f.steps; vcd = true }) (done ++ vcd ∷ [])
+pub found_vcd : (f : FoundOptions) (done : List Choice) → f.vcd ≡ false → OptionsAreFound f done → OptionsAreFound (record { top = f.top; steps = f.steps; vcd = true }) (done ++ vcd ∷ [])
 found_vcd f done none is =
     record {
       top = names_in-append done (vcd ∷ []) ∙ append-nil (names_in done) ∙ is.top;
@@ -46,7 +46,7 @@ found_vcd f done none is =
       vcd = vcds_in-append done (vcd ∷ []) ∙ ap (λ n. n + 1) (is.vcd ∙ ap (λ b. cond b 1 0) none);
     }
 
-pub found_watch : (f : FoundOptions) (t : List ℕ) (done : List Choice) → IsFound f done → IsFound f (done ++ watch t ∷ [])
+pub found_watch : (f : FoundOptions) (t : List ℕ) (done : List Choice) → OptionsAreFound f done → OptionsAreFound f (done ++ watch t ∷ [])
 found_watch f t done is =
     record {
       top = names_in-append done (watch t ∷ []) ∙ append-nil (names_in done) ∙ is.top;
@@ -54,7 +54,7 @@ found_watch f t done is =
       vcd = vcds_in-append done (watch t ∷ []) ∙ (let e : vcds_in done ≡ cond f.vcd 1 0 = is.vcd in omega arith);
     }
 
-pub top_twice : (f : FoundOptions) (w : List ℕ) (done more : List Choice) → is_some f.top ≡ true → IsFound f done → AtMostOnce (done ++ top w ∷ more) → ⊥
+pub top_twice : (f : FoundOptions) (w : List ℕ) (done more : List Choice) → is_some f.top ≡ true → OptionsAreFound f done → AtMostOnce (done ++ top w ∷ more) → ⊥
 top_twice f w done more some is once =
     let e : length (names_in (done ++ top w ∷ more)) ≡ length (names_in done) + suc (length (names_in more)) = ap length (names_in-append done (top w ∷ more))
     ∙ length-append (names_in done) (w ∷ names_in more) in
@@ -62,7 +62,7 @@ top_twice f w done more some is once =
     let few : length (names_in (done ++ top w ∷ more)) ≤ 1 = once.tops in
     omega arith
 
-pub steps_twice : (f : FoundOptions) (w : List ℕ) (done more : List Choice) → is_some f.steps ≡ true → IsFound f done → AtMostOnce (done ++ steps w ∷ more) → ⊥
+pub steps_twice : (f : FoundOptions) (w : List ℕ) (done more : List Choice) → is_some f.steps ≡ true → OptionsAreFound f done → AtMostOnce (done ++ steps w ∷ more) → ⊥
 steps_twice f w done more some is once =
     let e : length (numbers_in (done ++ steps w ∷ more)) ≡ length (numbers_in done) + suc (length (numbers_in more)) = ap length (numbers_in-append done (steps w ∷ more))
     ∙ length-append (numbers_in done) (w ∷ numbers_in more) in
@@ -70,7 +70,7 @@ steps_twice f w done more some is once =
     let few : length (numbers_in (done ++ steps w ∷ more)) ≤ 1 = once.steps in
     omega arith
 
-pub vcd_twice : (f : FoundOptions) (done more : List Choice) → f.vcd ≡ true → IsFound f done → AtMostOnce (done ++ vcd ∷ more) → ⊥
+pub vcd_twice : (f : FoundOptions) (done more : List Choice) → f.vcd ≡ true → OptionsAreFound f done → AtMostOnce (done ++ vcd ∷ more) → ⊥
 vcd_twice f done more some is once =
     let e : vcds_in (done ++ vcd ∷ more) ≡ vcds_in done + suc (vcds_in more) = vcds_in-append done (vcd ∷ more) in
     let one : vcds_in done ≡ 1 = is.vcd ∙ ap (λ b. cond b 1 0) some in
@@ -81,13 +81,13 @@ vcd_twice f done more some is once =
 pub record Progress (words rest : List (List ℕ)) (f : FoundOptions) : Type 0 where
   pub done : List Choice
   pub whole : words ≡ flat_map spelled done ++ rest
-  pub found : IsFound f done
+  pub found : OptionsAreFound f done
 
 pub begin : (words : List (List ℕ)) → Progress words words (record { top = None; steps = None; vcd = false })
 begin words = record { done = []; whole = refl; found = record { top = refl; steps = refl; vcd = refl } }
 
 pub one_more : (words rest more : List (List ℕ)) (f g : FoundOptions) (c : Choice) → Progress words rest f → rest ≡ spelled c ++ more
-    → ((done : List Choice) → IsFound f done → IsFound g (done ++ c ∷ [])) → Progress words more g
+    → ((done : List Choice) → OptionsAreFound f done → OptionsAreFound g (done ++ c ∷ [])) → Progress words more g
 one_more words rest more f g c p read next =
     record {
       done = p.done ++ c ∷ [];
@@ -115,7 +115,7 @@ twice_at done all rest more c read none once (d ∷ os) split e =
     none os (subst AtMostOnce (split ∙ ap (λ x. done ++ x ∷ os) u.option) once)
 
 pub given_twice : (words rest more : List (List ℕ)) (f : FoundOptions) (c : Choice) → Progress words rest f → rest ≡ spelled c ++ more
-    → ((done more : List Choice) → IsFound f done → AtMostOnce (done ++ c ∷ more) → ⊥)
+    → ((done more : List Choice) → OptionsAreFound f done → AtMostOnce (done ++ c ∷ more) → ⊥)
     → (all : List Choice) → words ≡ flat_map spelled all → AtMostOnce all → ⊥
 given_twice words rest more f c p read none all written once =
     let b : Behind p.done all rest = behind p.done all rest (sym written ∙ p.whole) in

@@ -5,7 +5,7 @@ use Rattle.lh_args.specs.declared.found.FoundOptions.{FoundOptions}
 use Rattle.lh_args.specs.Forms.{Choice, spelled, names_in, numbers_in, vcds_in}
 
 -- what was found are these options but for `--watch`
-pub record IsFound (f : FoundOptions) (all : List Choice) : Type 0 where
+pub record OptionsAreFound (f : FoundOptions) (all : List Choice) : Type 0 where
   pub top : names_in all ≡ option_to_list (option_map (λ w. w.now) f.top)
   pub steps : numbers_in all ≡ option_to_list (option_map (λ w. w.now) f.steps)
   pub vcd : vcds_in all ≡ (if f.vcd then 1 else 0)
@@ -20,4 +20,4 @@ pub record AtMostOnce (all : List Choice) : Type 0 where
 pub record IsAllFound (words : List (List ℕ)) (f : FoundOptions) : Type 0 where
   pub all : List Choice
   pub written : words ≡ flat_map spelled all
-  pub found : IsFound f all
+  pub found : OptionsAreFound f all

@@ -20,7 +20,7 @@ const MOST_LINKS: u32 = 1_000;
 pub enum Command<'a> {
     /// Read a file, and do this with it.
     OnFile(FileCommand<'a>),
-    /// Lower and simulate a chain of so many links, from 1 to 1,000, and write how it went.
+    /// Lower and simulate a chain of this many links, from 1 to 1,000, and write how it went.
     Selftest(u32),
 }
 
@@ -40,7 +40,7 @@ pub enum FileCommand<'a> {
 pub struct Simulate<'a> {
     /// The unit at the top.
     pub top: Top<'a>,
-    /// At most so many frames, from 1 to 1,000,000.
+    /// At most this many frames, from 1 to 1,000,000.
     pub steps: u32,
     /// Whether a waveform is asked for, in place of the trace.
     pub vcd: bool,
@@ -48,7 +48,7 @@ pub struct Simulate<'a> {
     options: &'a [ByteList],
 }
 
-/// The name of the unit at the top: any bytes, since a name that no unit has is a name all the same.
+/// The name of the unit at the top: any bytes, since a name that no unit has is still a name.
 #[derive(Clone, Copy)]
 pub struct Top<'a> {
     /// `@` or `%`.

@@ -3,7 +3,7 @@ ghost use Rattle.std.specs.Prelude.{◌≡◌, ◌++◌, ◌∷◌, [], ℕ, Lis
 ghost use Rattle.std.specs.List.{flat_map};
 ghost use Rattle.lh_args.specs.Forms.{Choice, top, steps, vcd, spelled};
 ghost use Rattle.lh_args.specs.Meant.{choice_of};
-ghost use Rattle.lh_args.specs.Found.{IsFound, AtMostOnce, IsAllFound};
+ghost use Rattle.lh_args.specs.Found.{OptionsAreFound, AtMostOnce, IsAllFound};
 
 use crate::choice::{Setting, first_choice};
 use lh_types::list::ByteList;
@@ -39,8 +39,8 @@ pub fn found_in(options: &[ByteList]) -> Option<FoundOptions<'_>>
 impl<'a> FoundOptions<'a> {
     // These and one more option; none where it was found before and may be given once.
     fn with(self, setting: Setting<'a>) -> Option<FoundOptions<'a>>
-        ensures some { IfSome result (λ f. (done : List Choice) → IsFound self.entry done → IsFound f (done ++ choice_of setting.entry ∷ [])) }
-        ensures none { IfNone result ((done more : List Choice) → IsFound self.entry done → AtMostOnce (done ++ choice_of setting.entry ∷ more) → ⊥) }
+        ensures some { IfSome result (λ f. (done : List Choice) → OptionsAreFound self.entry done → OptionsAreFound f (done ++ choice_of setting.entry ∷ [])) }
+        ensures none { IfNone result ((done more : List Choice) → OptionsAreFound self.entry done → AtMostOnce (done ++ choice_of setting.entry ∷ more) → ⊥) }
     {
         match setting {
             Setting::Top(name) => self.with_top(name),
@@ -51,8 +51,8 @@ impl<'a> FoundOptions<'a> {
     }
 
     fn with_top(self, name: &'a [u8]) -> Option<FoundOptions<'a>>
-        ensures some { IfSome result (λ f. (done : List Choice) → IsFound self.entry done → IsFound f (done ++ top name.now ∷ [])) }
-        ensures none { IfNone result ((done more : List Choice) → IsFound self.entry done → AtMostOnce (done ++ top name.now ∷ more) → ⊥) }
+        ensures some { IfSome result (λ f. (done : List Choice) → OptionsAreFound self.entry done → OptionsAreFound f (done ++ top name.now ∷ [])) }
+        ensures none { IfNone result ((done more : List Choice) → OptionsAreFound self.entry done → AtMostOnce (done ++ top name.now ∷ more) → ⊥) }
     {
         if self.top.is_some() {
             return None;
@@ -64,8 +64,8 @@ impl<'a> FoundOptions<'a> {
     }
 
     fn with_steps(self, number: &'a [u8]) -> Option<FoundOptions<'a>>
-        ensures some { IfSome result (λ f. (done : List Choice) → IsFound self.entry done → IsFound f (done ++ steps number.now ∷ [])) }
-        ensures none { IfNone result ((done more : List Choice) → IsFound self.entry done → AtMostOnce (done ++ steps number.now ∷ more) → ⊥) }
+        ensures some { IfSome result (λ f. (done : List Choice) → OptionsAreFound self.entry done → OptionsAreFound f (done ++ steps number.now ∷ [])) }
+        ensures none { IfNone result ((done more : List Choice) → OptionsAreFound self.entry done → AtMostOnce (done ++ steps number.now ∷ more) → ⊥) }
     {
         if self.steps.is_some() {
             return None;
@@ -77,8 +77,8 @@ impl<'a> FoundOptions<'a> {
     }
 
     fn with_vcd(self) -> Option<FoundOptions<'a>>
-        ensures some { IfSome result (λ f. (done : List Choice) → IsFound self.entry done → IsFound f (done ++ vcd ∷ [])) }
-        ensures none { IfNone result ((done more : List Choice) → IsFound self.entry done → AtMostOnce (done ++ vcd ∷ more) → ⊥) }
+        ensures some { IfSome result (λ f. (done : List Choice) → OptionsAreFound self.entry done → OptionsAreFound f (done ++ vcd ∷ [])) }
+        ensures none { IfNone result ((done more : List Choice) → OptionsAreFound self.entry done → AtMostOnce (done ++ vcd ∷ more) → ⊥) }
     {
         if self.vcd {
             return None;

@@ -34,7 +34,7 @@ number_bits-bits_number (false ∷ bs) =
     let even : nat_eq (2 * bits_number bs % 2) 1 ≡ false = let o : 2 * bits_number bs % 2 ≡ 0 = omega arith in rw o refl in
     rw (even, half) (ap (λ xs. false ∷ xs) (number_bits-bits_number bs))
 
--- a number of so many bits fits
+-- a number of this many bits fits
 pub bits_number-lt : (bs : List Bool) → bits_number bs < 2 ^ length bs
 bits_number-lt [] = omega arith
 bits_number-lt (true ∷ bs) = omega (arith, bits_number-lt bs, pow-suc 2 (length bs))

@@ -1,4 +1,4 @@
--- What a list that mostly has one item is seen as.
+-- How contracts see a list that mostly has one item.
 use Rattle.std.specs.Prelude.{List, []}
 use Rattle.lh_bits.specs.declared.mostly_one.Items.{Items}
 use Rattle.lh_bits.specs.declared.mostly_one.Items.TheVariants.{Empty, One, Many}

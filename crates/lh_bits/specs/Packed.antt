@@ -1,4 +1,4 @@
--- How the words of so many bits stand.
+-- How a number of bits lies in words.
 use Rattle.std.specs.Prelude.{ℕ, ◌≡◌, ◌+◌, ◌/◌, ◌^◌, ◌<◌, ◌≤◌, List, length}
 use Rattle.lh_bits.specs.Flags.{word_bit}
 

@@ -12,7 +12,7 @@ abbrev pub bits_of : List BitRun → List (ℕ × Bool)
 bits_of [] = []
 bits_of (r ∷ more) = numbered r.lo r.bits ++ bits_of more
 
--- so many bits are written
+-- this many bits are written
 pub record AreCounted (n : ℕ) (runs : List BitRun) : Type 0 where
   pub counted : n ≡ length (bits_of runs)
 

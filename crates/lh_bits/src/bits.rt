@@ -32,7 +32,7 @@ impl Model for Bits {
 }
 
 impl Bits {
-    /// So many bits, all 0.
+    /// This many bits, all 0.
     pub fn zeros(alloc: Global, len: u32) -> Result<Bits, NoMemory>
         ensures { IfOk result (λ b. b ≡ replicate len false) }
     {
@@ -141,7 +141,7 @@ impl Bits {
         number_run(self.words.as_slice(), lo, width)
     }
 
-    /// Adds the lowest `width` bits of the number at the end, least significant first; for want of
+    /// Adds the lowest `width` bits of the number at the end, least significant first; without
     /// memory the list stays as it was.
     pub fn push_int(&mut self, width: u32, number: u128) -> Result<(), NoMemory>
         requires { length self.old + width < 2 ^ 32 }

@@ -115,7 +115,7 @@ pub(crate) fn put_number_run(words: &mut [u64], at: u32, width: u32, number: u12
     }
 }
 
-/// Adds words that are 0 up to so many; when memory runs out the words stay as they were.
+/// Adds words that are 0 up to this many; when memory runs out the words stay as they were.
 pub(crate) fn grow(words: &mut SmallVec<u64, 2>, wanted: usize) -> Result<(), NoMemory>
     requires { small_vec_len words.old ≤ wanted }
     ensures len { OnOk result (small_vec_len words.new ≡ wanted) }

@@ -21,7 +21,7 @@ use Rattle.lh_term.proofs.TermWalks.{pass_on, behind}
 use Rattle.lh_term.proofs.Swaps.{rest_of}
 use Rattle.lh_edge.specs.Atoms.{is_one_bit, is_connective}
 use Rattle.lh_edge.specs.Valuations.{connected, holds}
-use Rattle.lh_edge.specs.Reached.{joined_by, is_atom, Tells, TellsNext}
+use Rattle.lh_edge.specs.Reached.{joined_by, is_atom, TellsPassed, TellsNext}
 use Rattle.lh_edge.specs.Steps.{is_odd, numbered, values_at}
 use Rattle.lh_edge.proofs.Joined.{at_place}
 use Rattle.lh_edge.proofs.TermValues.{one_value, joined_value, chosen_value}
@@ -100,7 +100,7 @@ module _ (ns : List TermNode) (atoms : List Tree) (gates : List Gate) (places : 
         at (Some p) e k = ap (λ o. bit_in (gate_bits n gates) (place_or o)) e ∙ a.right i p e n
         at None e k = cc
 
-    pub tells : (n : ℕ) (xs : List TermId) → ArePlaced places xs → Tells ns (holds (numbered atoms n)) (placed_bit n gates places) xs
+    pub tells : (n : ℕ) (xs : List TermId) → ArePlaced places xs → TellsPassed ns (holds (numbered atoms n)) (placed_bit n gates places) xs
     tells n [] h = tt
     tells n (x ∷ xs) h = (told n x.0 h.0 ∙ ap (holds (numbered atoms n)) (at_place (trees ns) x x.0 refl), tells n xs h.1)
 

@@ -32,7 +32,7 @@ use Rattle.lh_unit.proofs.Lists.{Each-right, Each-from, Each-zip}
 
 -- what a question asks of a flow
 abbrev pub Found : List Block → Question → Type 0
-Found flow q = flows.Lacks flow q.ask
+Found flow q = flows.MayLack flow q.ask
 
 -- a place of the unit whose instruction is in place
 pub record Fine (a : Arena) (u : ℕ) (s : InstPlace) : Type 0 where

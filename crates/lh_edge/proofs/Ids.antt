@@ -23,7 +23,7 @@ use Rattle.lh_term.proofs.Conditions.{AllBits, conjuncts_are_bits, and_typed}
 use Rattle.lh_term.proofs.Swaps.{tree_grown, in_grown, grows_on, rest_of}
 use Rattle.lh_edge.specs.Atoms.{contains_past, some_past, edge_part}
 use Rattle.lh_edge.specs.Valuations.{connected}
-use Rattle.lh_edge.specs.Reached.{Tells, TellsNext}
+use Rattle.lh_edge.specs.Reached.{TellsPassed, TellsNext}
 use Rattle.lh_edge.specs.Steps.{TellPasts, values_at}
 use Rattle.lh_edge.proofs.Numbers.{here_or_before}
 
@@ -81,7 +81,7 @@ pub tell_start : (ns : List TermNode) (flags : List Bool) (f : ℕ → Bool) →
 tell_start ns flags f e = subst (λ (fs : List Bool). TellSoFar ns fs f 0) (sym e) (record { len = refl; tell = λ i l. absurd (omega arith); told = λ j l. absurd (omega arith) })
 
 tells_below : (ns : List TermNode) (f : ℕ → Bool) (i : ℕ) → ((j : ℕ) → j < i → f j ≡ contains_past (tree_at (trees ns) (record { 0 = j }))) → (xs : List TermId) → ids_below i xs ≡ true
-    → Tells ns contains_past f xs
+    → TellsPassed ns contains_past f xs
 tells_below ns f i h [] b = tt
 tells_below ns f i h (x ∷ xs) b = (h x.0 (ltb-true x.0 i (first_so (nat_lt x.0 i) (ids_below i xs) b)), tells_below ns f i h xs (second_so (nat_lt x.0 i) (ids_below i xs) b))
 
@@ -126,11 +126,11 @@ pub record Conjoining (old cur : List TermNode) (f : ℕ → Bool) (xs left : Li
   pub bit : IntTerm (tree_at (trees cur) all) 1
   pub left_in : AreIn old left
   pub bits : AllBits (trees_at old left)
-  pub tells : Tells old contains_past f left
+  pub tells : TellsPassed old contains_past f left
   pub same : conjunction_from (tree_at (trees cur) all) (filter contains_past (trees_at old left)) ≡ conjunction (filter contains_past (trees_at old xs))
 
 pub conjoin_start : (old cur : List TermNode) (f : ℕ → Bool) (xs : List TermId) (all : TermId) → Grows old cur → StandsForTree cur all (bit_of true) → AreIn old xs → AllBits (trees_at old xs)
-    → Tells old contains_past f xs → Conjoining old cur f xs xs all
+    → TellsPassed old contains_past f xs → Conjoining old cur f xs xs all
 conjoin_start old cur f xs all g s i b w = record {
   grows = g;
   all_in = s.is_in;

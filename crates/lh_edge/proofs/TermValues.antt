@@ -13,13 +13,13 @@ use Rattle.lh_term.specs.Make.{is_bit_value}
 use Rattle.lh_term.specs.Arena.{tree_at, trees, trees_at, terms_in, term_tree}
 use Rattle.lh_edge.specs.Atoms.{is_one_bit, is_connective}
 use Rattle.lh_edge.specs.Valuations.{connected, holds, bits_of}
-use Rattle.lh_edge.specs.Reached.{joined_by, is_atom, Tells, TellsNext}
+use Rattle.lh_edge.specs.Reached.{joined_by, is_atom, TellsPassed, TellsNext}
 use Rattle.lh_edge.specs.Steps.{values_at, numbered, table_from}
 use Rattle.lh_edge.proofs.Numbers.{table_push}
 
 -- ---- the value of one term
 
-values_bits : (ns : List TermNode) (v : Tree → Bool) (values : ℕ → Bool) (xs : List TermId) → Tells ns (holds v) values xs → values_at values xs ≡ bits_of v (tree_row (trees_at ns xs))
+values_bits : (ns : List TermNode) (v : Tree → Bool) (values : ℕ → Bool) (xs : List TermId) → TellsPassed ns (holds v) values xs → values_at values xs ≡ bits_of v (tree_row (trees_at ns xs))
 values_bits ns v values [] h = refl
 values_bits ns v values (x ∷ xs) h =
     let a : values x.0 ≡ holds v (tree_at (trees ns) x) = h.0 in
@@ -76,8 +76,8 @@ module _ (ns : List TermNode) (v : Tree → Bool) (x : TermId) (k : Term) (shown
   joined_value op args values e o at j =
       let ts = tree_row (trees_at ns args) in
       let s : operation op ts ≡ tree_at (trees ns) x = ap (term_tree (trees ns)) (sym e) ∙ shown in
-      let all : Tells ns (holds v) values (joined_by (trees ns) (Applied op args)) = j (Applied op args) (at ∙ ap Some e) in
-      let own : Tells ns (holds v) values args = subst (λ (b : Bool). Tells ns (holds v) values (if b then args else [])) o all in
+      let all : TellsPassed ns (holds v) values (joined_by (trees ns) (Applied op args)) = j (Applied op args) (at ∙ ap Some e) in
+      let own : TellsPassed ns (holds v) values args = subst (λ (b : Bool). TellsPassed ns (holds v) values (if b then args else [])) o all in
       ap (connected op) (values_bits ns v values args own) ∙ ap (λ (b : Bool). if b then connected op (bits_of v ts) else v (operation op ts)) (sym o) ∙ ap (holds v) s
 
   pub other_value : (c f t : TermId) → k ≡ Choice c f t → is_one_bit (tree_at (trees ns) f) ≡ false → v (tree_at (trees ns) x) ≡ holds v (tree_at (trees ns) x)
@@ -92,8 +92,8 @@ module _ (ns : List TermNode) (v : Tree → Bool) (x : TermId) (k : Term) (shown
       let F = tree_at (trees ns) f in
       let T = tree_at (trees ns) t in
       let s : choice_of C F T ≡ tree_at (trees ns) x = ap (term_tree (trees ns)) (sym e) ∙ shown in
-      let all : Tells ns (holds v) values (joined_by (trees ns) (Choice c f t)) = j (Choice c f t) (at ∙ ap Some e) in
-      let own : Tells ns (holds v) values (c ∷ f ∷ t ∷ []) = subst (λ (b : Bool). Tells ns (holds v) values (if b then c ∷ f ∷ t ∷ [] else [])) o all in
+      let all : TellsPassed ns (holds v) values (joined_by (trees ns) (Choice c f t)) = j (Choice c f t) (at ∙ ap Some e) in
+      let own : TellsPassed ns (holds v) values (c ∷ f ∷ t ∷ []) = subst (λ (b : Bool). TellsPassed ns (holds v) values (if b then c ∷ f ∷ t ∷ [] else [])) o all in
       let a : values c.0 ≡ holds v C = own.0 in
       let b : values f.0 ≡ holds v F = own.1.0 in
       let d : values t.0 ≡ holds v T = own.1.1.0 in

@@ -6,7 +6,7 @@ use Rattle.lh_term.specs.declared.term.Term.TheVariants.{Konst, Past, Now, Op as
 use Rattle.lh_term.specs.declared.term.TermNode.{TermNode}
 use Rattle.lh_term.specs.Tree.{Tree, tree_row}
 use Rattle.lh_term.specs.Arena.{tree_at, trees, terms_in, term_tree, ids_below}
-use Rattle.lh_term.specs.Reach.{operands_of, is_on, Leaves}
+use Rattle.lh_term.specs.Reach.{operands_of, is_on, LeavesChildren}
 use Rattle.lh_edge.specs.Atoms.{is_one_bit, is_connective}
 use Rattle.lh_edge.specs.Reached.{joined_by, is_atom}
 use Rattle.lh_edge.proofs.Joined.{atom_joins}
@@ -31,13 +31,13 @@ module _ (ns : List TermNode) (x : TermId) (f g : ℕ → Bool) (v : Term) (is :
   the_term : (k : Term) → slice_get (terms_in ns) x.0 ≡ Some k → term_tree (trees ns) k ≡ tree_at (trees ns) x
   the_term k at = let e : Some v ≡ Some k = sym is ∙ at in let same : v ≡ k = cc in ap (term_tree (trees ns)) (sym same) ∙ shown
 
-  pub leaves_none : is_atom (tree_at (trees ns) x) ≡ true → ((q : ℕ) → g q ≡ f q) → (k : Term) → slice_get (terms_in ns) x.0 ≡ Some k → Leaves (joined_by (trees ns)) ns x f g k
+  pub leaves_none : is_atom (tree_at (trees ns) x) ≡ true → ((q : ℕ) → g q ≡ f q) → (k : Term) → slice_get (terms_in ns) x.0 ≡ Some k → LeavesChildren (joined_by (trees ns)) ns x f g k
   leaves_none e h k at =
       let n : joined_by (trees ns) k ≡ [] = atom_joins (trees ns) k (ap is_atom (the_term k at) ∙ e) in
       record { shown = the_term k at; below = ap (ids_below x.0) n; left = λ q. h q ∙ ap (λ xs. is_on xs q || f q) (sym n) }
 
-  pub leaves_all : is_atom (tree_at (trees ns) x) ≡ false → ((k : Term) → slice_get (terms_in ns) x.0 ≡ Some k → Leaves operands_of ns x f g k) → (k : Term) → slice_get (terms_in ns) x.0 ≡ Some k
-      → Leaves (joined_by (trees ns)) ns x f g k
+  pub leaves_all : is_atom (tree_at (trees ns) x) ≡ false → ((k : Term) → slice_get (terms_in ns) x.0 ≡ Some k → LeavesChildren operands_of ns x f g k) → (k : Term) → slice_get (terms_in ns) x.0 ≡ Some k
+      → LeavesChildren (joined_by (trees ns)) ns x f g k
   leaves_all e h k at =
       let n : joined_by (trees ns) k ≡ operands_of k = joins_all (trees ns) k (ap is_atom (the_term k at) ∙ e) in
       let o = h k at in

@@ -1,4 +1,4 @@
--- The terms that a term is joined of, and what is told of terms by their ids.
+-- The terms that connectives of bits join to a term, and what is known of terms by their ids.
 use Rattle.std.specs.Prelude.{◌≡◌, ℕ, Bool, true, not, if◌then◌else◌, slice_get, List, [], ◌∷◌, map, Some}
 use Rattle.lh_term.specs.declared.term.TermId.{TermId}
 use Rattle.lh_term.specs.declared.term.Term.{Term}
@@ -28,10 +28,10 @@ is_atom (choice_of c f t) = not (is_one_bit f)
 -- ---- what is told of terms
 
 -- f says of each of these ids whether its term passes p
-abbrev pub Tells : List TermNode → (Tree → Bool) → (ℕ → Bool) → List TermId → Type 0
-Tells ns p f [] = Unit {0}
-Tells ns p f (x ∷ xs) = (f x.0 ≡ p (tree_at (trees ns) x)) × Tells ns p f xs
+abbrev pub TellsPassed : List TermNode → (Tree → Bool) → (ℕ → Bool) → List TermId → Type 0
+TellsPassed ns p f [] = Unit {0}
+TellsPassed ns p f (x ∷ xs) = (f x.0 ≡ p (tree_at (trees ns) x)) × TellsPassed ns p f xs
 
 -- it does of those to which x leads
 abbrev pub TellsNext : Leads → List TermNode → (Tree → Bool) → (ℕ → Bool) → TermId → Type 0
-TellsNext leads ns p f x = (k : Term) → slice_get (terms_in ns) x.0 ≡ Some k → Tells ns p f (leads k)
+TellsNext leads ns p f x = (k : Term) → slice_get (terms_in ns) x.0 ≡ Some k → TellsPassed ns p f (leads k)

@@ -13,7 +13,7 @@ use Rattle.lh_edge.specs.Atoms.{contains_past, has}
 use Rattle.lh_edge.specs.Valuations.{differ, holds}
 use Rattle.lh_edge.specs.Shown.{can_show}
 use Rattle.lh_edge.specs.Triggers.{comes_first, with_part}
-use Rattle.lh_edge.specs.Reached.{is_atom, Tells}
+use Rattle.lh_edge.specs.Reached.{is_atom, TellsPassed}
 use Rattle.lh_edge.specs.declared.shown.Sight.{Sight}
 
 -- ---- values before
@@ -138,7 +138,7 @@ values_at values (a ∷ more) = values a.0 ∷ values_at values more
 -- what the check of all valuations knows of its atoms
 pub record IsKnown (ns : List TermNode) (atoms : List TermId) (pasts : ℕ → Bool) : Type 0 where
   pub are_in : AreIn ns atoms
-  pub tells : Tells ns contains_past pasts atoms
+  pub tells : TellsPassed ns contains_past pasts atoms
 
 -- the part of one bit, waited on, whose value before a term is
 abbrev pub showing_of : List Part → Tree → Option Part

@@ -13,7 +13,7 @@ ghost use Rattle.lh_types.specs.declared.op.Op.TheVariants as spec_op;
 ghost use Rattle.lh_term.proofs.Conditions.{AllBits};
 ghost use Rattle.lh_edge.specs.Atoms as spec;
 ghost use Rattle.lh_edge.specs.Steps.{TellPasts};
-ghost use Rattle.lh_edge.specs.Reached.{Tells, TellsNext};
+ghost use Rattle.lh_edge.specs.Reached.{TellsPassed, TellsNext};
 
 use lh_term::term::{Term, TermId};
 use lh_term::terms::Terms;
@@ -45,7 +45,7 @@ pub(crate) fn pasts_of(
     xs: &[TermId],
 ) -> Result<HashSet<usize>, NoMemory>
     requires { AreIn terms.now xs.now }
-    ensures { IfOk result (λ pasts. Tells terms.now spec.contains_past (hash.contains nat_eq pasts) xs.now) }
+    ensures { IfOk result (λ pasts. TellsPassed terms.now spec.contains_past (hash.contains nat_eq pasts) xs.now) }
 {
     let made_of = terms.made_of(xs)?;
     pasts_among(alloc, terms, &made_of)
@@ -55,7 +55,7 @@ pub(crate) fn pasts_of(
 fn pasts_among(alloc: Global, terms: &Terms, made_of: &[TermId]) -> Result<HashSet<usize>, NoMemory>
     requires are_in { AreIn terms.now made_of.now }
     requires go_on { GoOn operands_of terms.now none_left made_of.now }
-    ensures { IfOk result (λ pasts. Tells terms.now spec.contains_past (hash.contains nat_eq pasts) made_of.now) }
+    ensures { IfOk result (λ pasts. TellsPassed terms.now spec.contains_past (hash.contains nat_eq pasts) made_of.now) }
 {
     let mut pasts = HashSet::new(alloc);
     let mut k = made_of.len();
@@ -94,7 +94,7 @@ fn contains_past(terms: &Terms, x: TermId, pasts: &HashSet<usize>) -> bool
 
 /// Whether a value before is in one of some terms.
 fn some_past(_terms: &Terms, xs: &[TermId], pasts: &HashSet<usize>) -> bool
-    requires { Tells _terms.now spec.contains_past (hash.contains nat_eq pasts.now) xs.now }
+    requires { TellsPassed _terms.now spec.contains_past (hash.contains nat_eq pasts.now) xs.now }
     ensures { result ≡ list_any spec.contains_past (trees_at _terms.now xs.now) }
 {
     let mut left = xs;
@@ -124,7 +124,7 @@ pub(crate) fn edge_part(alloc: Global, terms: &mut Terms, cond: TermId) -> Resul
 fn conjoined(terms: &mut Terms, xs: &[TermId], pasts: &HashSet<usize>) -> Result<TermId, NoMemory>
     requires are_in { AreIn terms.old xs.now }
     requires bits { AllBits (trees_at terms.old xs.now) }
-    requires tells { Tells terms.old spec.contains_past (hash.contains nat_eq pasts.now) xs.now }
+    requires tells { TellsPassed terms.old spec.contains_past (hash.contains nat_eq pasts.now) xs.now }
     ensures made { IfOk result (λ e. StandsForTree terms.new e (conjunction (filter spec.contains_past (trees_at terms.old xs.now)))) }
     ensures kept { Grows terms.old terms.new }
 {

@@ -3,7 +3,7 @@ ghost use Rattle.std.specs.Prelude.{◌≡◌, Some, slice_get, IfOk, OnOk};
 ghost use Rattle.std.specs.Ordering.{nat_cmp};
 ghost use Rattle.std.specs.BTreeSet as sorted;
 ghost use Rattle.lh_term.specs.Arena.{trees, terms_in, IsIn, AreIn};
-ghost use Rattle.lh_term.specs.Reach.{Leaves, AreReached};
+ghost use Rattle.lh_term.specs.Reach.{LeavesChildren, AreReached};
 ghost use Rattle.lh_term.specs.declared.term.Term.{Term as TermOf};
 ghost use Rattle.lh_edge.specs.Reached.{joined_by};
 
@@ -36,7 +36,7 @@ pub fn joined_of(alloc: Global, terms: &Terms, xs: &[TermId]) -> Result<Vec<Term
 /// Leaves the terms that a term joins to be looked at.
 fn leave_joined(terms: &Terms, x: TermId, left: &mut BTreeSet<usize>) -> Result<(), NoMemory>
     requires { IsIn terms.now x }
-    ensures { OnOk result ((k : TermOf) → slice_get (terms_in terms.now) x.0 ≡ Some k → Leaves (joined_by (trees terms.now)) terms.now x (sorted.contains nat_cmp left.old) (sorted.contains nat_cmp left.new) k) }
+    ensures { OnOk result ((k : TermOf) → slice_get (terms_in terms.now) x.0 ≡ Some k → LeavesChildren (joined_by (trees terms.now)) terms.now x (sorted.contains nat_cmp left.old) (sorted.contains nat_cmp left.new) k) }
 {
     let _term = terms.view(x);
     if is_atom(terms, x) {

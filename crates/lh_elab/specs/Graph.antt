@@ -12,7 +12,7 @@ use Rattle.lh_unit.specs.declared.inst.Inst.{Inst}
 use Rattle.lh_unit.specs.declared.inst.Inst.TheVariants as inst
 use Rattle.lh_elab.specs.declared.graph.HierarchyNode.{HierarchyNode}
 
--- a number of bits stands still here, at one more than a design may have
+-- a number of bits saturates here, at one more than a design may have
 abbrev pub max_counted : ℕ
 max_counted = 16777217
 

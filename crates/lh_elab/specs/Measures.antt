@@ -9,7 +9,7 @@ use Rattle.lh_elab.specs.declared.graph.HierarchyNode.{HierarchyNode}
 use Rattle.lh_elab.specs.declared.measure.HierarchyMeasure.{HierarchyMeasure}
 use Rattle.lh_elab.specs.Graph.{no_node, max_counted}
 
--- the numbers stand still here, at one more than is allowed
+-- the numbers saturate here, at one more than is allowed
 abbrev pub depth_end : ℕ
 depth_end = 65
 

@@ -49,7 +49,7 @@ pub struct Building {
 }
 
 impl Building {
-    /// Nothing is built, and the signals are to have so many bits.
+    /// Nothing is built, and the signals are to have this many bits.
     fn new(alloc: Global, bits: u32) -> Result<Building, NoMemory>
         ensures { IfOk result (IsNew bits) }
     {

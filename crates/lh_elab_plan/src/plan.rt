@@ -42,7 +42,7 @@ pub struct PlanSignal {
     pub initial: Bits,
 }
 
-/// Where a part of the signals lies in an instance: so many bits above the lowest of an argument or a `sig`.
+/// Where a part of the signals lies in an instance: this many bits above the lowest of an argument or a `sig`.
 #[derive(Clone, Copy)]
 pub struct Low {
     pub base: Base,

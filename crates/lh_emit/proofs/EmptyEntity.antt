@@ -12,7 +12,7 @@ use Rattle.lh_term.specs.declared.term.TermId.{TermId}
 use Rattle.lh_term.specs.declared.term.TermNode.{TermNode}
 use Rattle.lh_term.proofs.Arenas.{map_length}
 use Rattle.lh_emit_def.specs.Emitted.{Source, nothing_emitted, whole_name}
-use Rattle.lh_emit_body.specs.Lines.{naming, line_text, arg_names, HasRoom, BeginsWith, AddsArg, LinesAreEmitted}
+use Rattle.lh_emit_body.specs.Lines.{naming, line_text, arg_names, LinesHaveRoom, BeginsWith, AddsBodyArg, LinesAreEmitted}
 use Rattle.lh_emit.specs.Begun.{HasArgs}
 use Rattle.lh_emit.specs.Emitting.{ArgumentsFirst, IsEmitted}
 use Rattle.lh_emit.specs.Parts.{part_in, KnowsParts}
@@ -34,13 +34,13 @@ pub record ArgsSoFar (args : List ArgText) (ls : Lines) (left : List (List ℕ))
   pub names : arg_names rest ≡ left
 
 pub record AddingArgs (names : List (List ℕ)) (ls : Lines) (left : List (List ℕ)) : Type 0 where
-  pub room : HasRoom ls
+  pub room : LinesHaveRoom ls
   pub adding : (args : List ArgText) → arg_names args ≡ names → ArgsSoFar args ls left
 
-pub args-first : (names : List (List ℕ)) (ls : Lines) → HasRoom ls → BeginsWith [] ls → AddingArgs names ls names
+pub args-first : (names : List (List ℕ)) (ls : Lines) → LinesHaveRoom ls → BeginsWith [] ls → AddingArgs names ls names
 args-first names ls r b = record { room = r; adding = λ args e. record { done = []; rest = args; is = refl; begins = b; names = e } }
 
-one-more : (args : List ArgText) (old new : Lines) (n : List ℕ) (left : List (List ℕ)) → AddsArg n old new → ArgsSoFar args old (n ∷ left) → ArgsSoFar args new left
+one-more : (args : List ArgText) (old new : Lines) (n : List ℕ) (left : List (List ℕ)) → AddsBodyArg n old new → ArgsSoFar args old (n ∷ left) → ArgsSoFar args new left
 one-more args old new n left h k = by k.rest k.is k.names
   where
     by : (rest : List ArgText) → args ≡ k.done ++ rest → arg_names rest ≡ n ∷ left → ArgsSoFar args new left
@@ -54,7 +54,7 @@ split-first : (xs : List (List ℕ)) (d : List ℕ) → 1 ≤ length xs → xs �
 split-first [] d l = absurd (omega (arith, l))
 split-first (x ∷ xs) d l = let e : length (x ∷ xs) - 1 ≡ length xs = omega arith in ap (λ ys. x ∷ ys) (sym (ap (λ n. take n xs) e ∙ take-length xs))
 
-pub args-next : (names : List (List ℕ)) (old new : Lines) (left : List (List ℕ)) (n : List ℕ) → AddingArgs names old left → 1 ≤ length left → n ≡ get_or left 0 n → AddsArg n old new
+pub args-next : (names : List (List ℕ)) (old new : Lines) (left : List (List ℕ)) (n : List ℕ) → AddingArgs names old left → 1 ≤ length left → n ≡ get_or left 0 n → AddsBodyArg n old new
     → AddingArgs names new (take (length left - 1) (drop 1 left))
 args-next names old new left n k l e h =
     let rest = take (length left - 1) (drop 1 left) in
@@ -88,7 +88,7 @@ or-none : {A : Type 0} (x y : Option A) → y ≡ None → x ≡ or_else x y
 or-none None y e = sym e
 or-none (Some a) y e = refl
 
-pub begins-emitted : (ns : List TermNode) (s : Source) (ls : Lines) (vs : Values) (ps : Parts) → HasRoom ls → BeginsWith s.args ls → ((x : TermId) → value_in vs x ≡ None)
+pub begins-emitted : (ns : List TermNode) (s : Source) (ls : Lines) (vs : Values) (ps : Parts) → LinesHaveRoom ls → BeginsWith s.args ls → ((x : TermId) → value_in vs x ≡ None)
     → ((p : Part) → part_in ps p ≡ None) →
     IsEmitted ns s record { lines = ls; values = vs; parts = ps } (nothing_emitted s)
 begins-emitted ns s ls vs ps room b no_values no_parts = record {

@@ -25,21 +25,21 @@ use Rattle.lh_term.proofs.Swaps.{tree_grown, in_grown}
 use Rattle.lh_emit_def.specs.Emitted.{Source, Emitted, gives_term, with_term, next_name, whole_name, signal, typed, need_part}
 use Rattle.lh_emit_def.specs.Entities.{max_lines, choices_fit}
 use Rattle.lh_emit_def.specs.Needs.{operation_text, types_of_all}
-use Rattle.lh_emit_body.specs.Lines.{naming, most_lines, values_alone, LinesAreEmitted, HasRoom, NamesGrow, GivesValue}
+use Rattle.lh_emit_body.specs.Lines.{naming, most_lines, values_alone, LinesAreEmitted, LinesHaveRoom, NamesGrow, GivesValue}
 use Rattle.lh_emit.specs.Emitting.{ArgumentsFirst, IsEmitted}
-use Rattle.lh_emit.specs.Making.{AreMade, HasNoPair, form_of, IsProbed}
+use Rattle.lh_emit.specs.Making.{AreOperandTerms, HasNoPair, form_of, TermIsProbed}
 use Rattle.lh_emit.specs.Operands.{with_type}
 use Rattle.lh_emit.specs.Operations.{HaveValues, AreValues, operands_of}
 use Rattle.lh_emit.specs.Parts.{part_in, KnowsParts}
 use Rattle.lh_emit.specs.Tasks.{made_of, makes, HasName}
-use Rattle.lh_emit.specs.Underway.{TakesPart, IsReady, IsInstOf, IsMade, IsTooMuchToMake, CanTakePart, GivesNoPart, TakesPartOr, CanMake, MakesNot, GivesInstOr, MakesOr}
+use Rattle.lh_emit.specs.Underway.{EmitsPart, IsReady, IsInstOfTerm, TermIsMade, IsTooMuchToMake, CanTakePart, GivesNoPart, TakesPartOr, CanMake, MakesNot, GivesInstOr, MakesOr}
 use Rattle.std.specs.Prelude.{Result, Ok, Err}
 use Rattle.std.specs.Result.{IsErrAnd}
 use Rattle.std.proofs.lemmas.Option.{slice_get_within}
 use Rattle.lh_emit_body.specs.declared.lines.EmitFault.{EmitFault}
 use Rattle.lh_emit_body.specs.declared.lines.EmitFault.TheVariants as fault
 use Rattle.lh_term.proofs.Arenas.{map_length}
-use Rattle.lh_emit.specs.Values.{value_in, Keeps, ValuesNameTerms}
+use Rattle.lh_emit.specs.Values.{value_in, KeepsOtherValues, ValuesNameTerms}
 use Rattle.lh_emit.specs.declared.emitter.Emitter.{Emitter}
 use Rattle.lh_emit_body.specs.declared.lines.Lines.{Lines}
 use Rattle.lh_emit.specs.declared.making.TermForm.TheVariants.{Scalar, Joined}
@@ -84,11 +84,11 @@ module _ (ns : List TermNode) (s : Source) (x : Emitter) (t : TermId) (e : Emitt
   tree = tree_at (trees ns) t
 
   -- a constant
-  pub scalar-inst : (v : Datum) → tree ≡ constant v → form_of tree ≡ Scalar → IsInstOf ns s t e ns x (inst.Const v)
+  pub scalar-inst : (v : Datum) → tree ≡ constant v → form_of tree ≡ Scalar → IsInstOfTerm ns s t e ns x (inst.Const v)
   scalar-inst v q h = record { emitted = e; is = r.is; makes = scalar-makes s tree v e q h; within = tt; fits = ap choices_fit q }
 
   -- the value of a part
-  pub probe-inst : (p : Part) (y : Emitter) (v : ValueId) (i : Inst) → IsProbed tree p → TakesPart ns s p e y v → i ≡ inst.Prb (with_type (signal_type p.ty) v) → IsInstOf ns s t e ns y i
+  pub probe-inst : (p : Part) (y : Emitter) (v : ValueId) (i : Inst) → TermIsProbed tree p → EmitsPart ns s p e y v → i ≡ inst.Prb (with_type (signal_type p.ty) v) → IsInstOfTerm ns s t e ns y i
   probe-inst p y v i h k q = record {
     emitted = need_part s p e;
     is = k.is;
@@ -101,7 +101,7 @@ module _ (ns : List TermNode) (s : Source) (x : Emitter) (t : TermId) (e : Emitt
   }
 
   -- the terms that it is made of have values
-  module _ (ms : List TermNode) (g : Grows ns ms) (one : OneId ms) (xs : List TermId) (m : AreMade ns ms t xs) where
+  module _ (ms : List TermNode) (g : Grows ns ms) (one : OneId ms) (xs : List TermId) (m : AreOperandTerms ns ms t xs) where
     grown : IsEmitted ms s x e
     grown = emitted-grown ns ms s x e g one r.is
 
@@ -111,7 +111,7 @@ module _ (ns : List TermNode) (s : Source) (x : Emitter) (t : TermId) (e : Emitt
     -- an operation on these
     pub joined-inst : (op : Op) (given : List ValueId) (d : TypeTree) (args : List Typed) → form_of tree ≡ Joined op → AreValues x.values xs given → d ≡ type_of tree
         → args ≡ operands_of ms op xs d given →
-        IsInstOf ns s t e ms x (inst.Pure op args)
+        IsInstOfTerm ns s t e ms x (inst.Pure op args)
     joined-inst op given d args f a q z =
         let k = values-named ms x.lines.names x.values e grown.terms xs given m.within a in
         let i : Inst = inst.Pure op (operands_of ms op xs d given) in
@@ -129,7 +129,7 @@ module _ (ns : List TermNode) (s : Source) (x : Emitter) (t : TermId) (e : Emitt
 
   -- ---- the entity after the instruction
 
-  module _ (ms : List TermNode) (y : Emitter) (i : Inst) (g : Grows ns ms) (one : OneId ms) (k : IsInstOf ns s t e ms y i) where
+  module _ (ms : List TermNode) (y : Emitter) (i : Inst) (g : Grows ns ms) (one : OneId ms) (k : IsInstOfTerm ns s t e ms y i) where
     abbrev text : InstText
     text = inst_text (naming y.lines.names) i
 
@@ -139,7 +139,7 @@ module _ (ns : List TermNode) (s : Source) (x : Emitter) (t : TermId) (e : Emitt
     same-tree : tree_at (trees ms) t ≡ tree
     same-tree = tree_grown ns ms g t r.is_in
 
-    pub inst-made : (new : Lines) (v : ValueId) (vs : Values) → GivesValue y.lines i new v → Keeps y.values t v vs → IsMade ns s t e ms record { lines = new; values = vs; parts = y.parts }
+    pub inst-made : (new : Lines) (v : ValueId) (vs : Values) → GivesValue y.lines i new v → KeepsOtherValues y.values t v vs → TermIsMade ns s t e ms record { lines = new; values = vs; parts = y.parts }
     inst-made new v vs h keeps = record { is = subst (IsEmitted ms s record { lines = new; values = vs; parts = y.parts }) (sym k.makes) after }
       where
         said : LinesAreEmitted s.args new end
@@ -196,7 +196,7 @@ pub gives-scalar : (ns : List TermNode) (o : Origin) (x : Emitter) (t : TermId) 
     → GivesInstOr ns o x t ns x (Ok (inst.Const v))
 gives-scalar ns o x t v q h = (grows-same x.lines.names x.lines.names refl, λ s e src r. scalar-inst ns s x t e r v q h)
 
-pub can-probe : (ns : List TermNode) (o : Origin) (x : Emitter) (t : TermId) (p : Part) → CanMake ns o x t → IsProbed (tree_at (trees ns) t) p → CanTakePart ns o x p
+pub can-probe : (ns : List TermNode) (o : Origin) (x : Emitter) (t : TermId) (p : Part) → CanMake ns o x t → TermIsProbed (tree_at (trees ns) t) p → CanTakePart ns o x p
 can-probe ns o x t p c h = record {
   source = c.source;
   emitted = c.emitted;
@@ -205,7 +205,7 @@ can-probe ns o x t p c h = record {
   given = probe-reached c.source (tree_at (trees ns) t) p h c.is.given.parts;
 }
 
-pub gives-probe : (ns : List TermNode) (o : Origin) (x : Emitter) (t : TermId) (p : Part) (y : Emitter) (v : ValueId) (from : Typed) → IsProbed (tree_at (trees ns) t) p → TakesPartOr ns o x p y (Ok v)
+pub gives-probe : (ns : List TermNode) (o : Origin) (x : Emitter) (t : TermId) (p : Part) (y : Emitter) (v : ValueId) (from : Typed) → TermIsProbed (tree_at (trees ns) t) p → TakesPartOr ns o x p y (Ok v)
     → from ≡ with_type (signal_type p.ty) v →
     GivesInstOr ns o x t ns y (Ok (inst.Prb from))
 gives-probe ns o x t p y v from h k q = (
@@ -213,7 +213,7 @@ gives-probe ns o x t p y v from h k q = (
   λ s e src r. probe-inst ns s x t e r p y v (inst.Prb from) h (k.1 s e src r.is (probe-reached s (tree_at (trees ns) t) p h r.given.parts)) (ap inst.Prb q),
 )
 
-pub probe-not : (ns : List TermNode) (o : Origin) (x : Emitter) (t : TermId) (p : Part) (f : EmitFault) → IsProbed (tree_at (trees ns) t) p → GivesNoPart ns o x p f → MakesNot ns o x t f
+pub probe-not : (ns : List TermNode) (o : Origin) (x : Emitter) (t : TermId) (p : Part) (f : EmitFault) → TermIsProbed (tree_at (trees ns) t) p → GivesNoPart ns o x p f → MakesNot ns o x t f
 probe-not ns o x t p fault.OutOfMemory h g = tt
 probe-not ns o x t p fault.EntityTooLarge h g = λ s e src r.
     let tree = tree_at (trees ns) t in
@@ -224,7 +224,7 @@ probe-not ns o x t p fault.EntityTooLarge h g = λ s e src r.
     ap (λ (z : Emitted). length z.lines) (probe-makes s tree p e h) in
     inr (omega (arith, far, long, same))
 
-pub have-made : (ns : List TermNode) (o : Origin) (x : Emitter) (t : TermId) (ms : List TermNode) (xs : List TermId) → CanMake ns o x t → Grows ns ms → OneId ms → AreMade ns ms t xs → HaveValues x.values xs
+pub have-made : (ns : List TermNode) (o : Origin) (x : Emitter) (t : TermId) (ms : List TermNode) (xs : List TermId) → CanMake ns o x t → Grows ns ms → OneId ms → AreOperandTerms ns ms t xs → HaveValues x.values xs
 have-made ns o x t ms xs c g one m = made-values ns c.source x t c.emitted c.is ms g one xs m
 
 pub values-length : (vs : Values) (xs : List TermId) (given : List ValueId) → AreValues vs xs given → length given ≡ length xs
@@ -232,7 +232,7 @@ values-length vs xs given a = sym (map_length {X = ValueId} {Y = Option ValueId}
 
 pub gives-joined : (ns : List TermNode) (o : Origin) (x : Emitter) (t : TermId) (op : Op) (ms : List TermNode) (xs : List TermId) (given : List ValueId) (d : TypeTree) (args : List Typed)
     → form_of (tree_at (trees ns) t) ≡ Joined op → IsIn ns t →
-    Grows ns ms → OneId ms → AreMade ns ms t xs → AreValues x.values xs given → d ≡ type_of (tree_at (trees ms) t) → args ≡ operands_of ms op xs d given
+    Grows ns ms → OneId ms → AreOperandTerms ns ms t xs → AreValues x.values xs given → d ≡ type_of (tree_at (trees ms) t) → args ≡ operands_of ms op xs d given
     → GivesInstOr ns o x t ms x (Ok (inst.Pure op args))
 gives-joined ns o x t op ms xs given d args f h g one m a q z = (
   grows-same x.lines.names x.lines.names refl,
@@ -255,13 +255,13 @@ pub make-cause : (ns : List TermNode) (o : Origin) (x : Emitter) (t : TermId) (m
 make-cause ns o x t ms y (Ok v) f h g = absurd h
 make-cause ns o x t ms y (Err e) f h g = subst (MakesNot ns o x t) (sym h) g
 
-pub can-give : (ns : List TermNode) (o : Origin) (x : Emitter) (t : TermId) (ms : List TermNode) (y : Emitter) (i : Inst) → CanMake ns o x t → GivesInstOr ns o x t ms y (Ok i) → HasRoom y.lines
+pub can-give : (ns : List TermNode) (o : Origin) (x : Emitter) (t : TermId) (ms : List TermNode) (y : Emitter) (i : Inst) → CanMake ns o x t → GivesInstOr ns o x t ms y (Ok i) → LinesHaveRoom y.lines
     × InstWithin (values_alone (length y.lines.names)) i
 can-give ns o x t ms y i c k = let m = k.1 c.source c.emitted c.origin c.is in (m.is.room, m.within)
 
 pub makes-inst : (ns : List TermNode) (o : Origin) (x : Emitter) (t : TermId) (ms : List TermNode) (y : Emitter) (i : Inst) (new : Lines) (v : ValueId) (vs : Values) → Grows ns ms → OneId ms
     → GivesInstOr ns o x t ms y (Ok i) → GivesValue y.lines i new v →
-    Keeps y.values t v vs → MakesOr ns o x t ms record { lines = new; values = vs; parts = y.parts } (Ok tt)
+    KeepsOtherValues y.values t v vs → MakesOr ns o x t ms record { lines = new; values = vs; parts = y.parts } (Ok tt)
 makes-inst ns o x t ms y i new v vs g one k h keeps = (
   grows-then x.lines.names y.lines.names new.names k.0 h.2,
   λ s e src r. inst-made ns s x t e r ms y i g one (k.1 s e src r) new v vs h keeps,

@@ -14,7 +14,7 @@ use Rattle.lh_term.specs.declared.term.TermId.{TermId}
 use Rattle.lh_term.specs.declared.term.TermNode.{TermNode}
 use Rattle.lh_emit_def.specs.Emitted.{Emitted, with_term}
 use Rattle.lh_emit_body.specs.Lines.{naming}
-use Rattle.lh_emit.specs.Values.{value_in, Keeps, ValuesNameTerms}
+use Rattle.lh_emit.specs.Values.{value_in, KeepsOtherValues, ValuesNameTerms}
 use Rattle.lh_emit.specs.declared.values.Values.{Values}
 
 -- the names of values stay as they were where names are added
@@ -28,7 +28,7 @@ not-below a k b i = let q : nat_lt a k ≡ true = lt-ltb a k i in absurd cc
 
 module _ (ns : List TermNode) (names more : List (List ℕ)) (old new : Values) (e : Emitted) (t : TermId) (v : ValueId) where
   -- the value of one more term
-  pub knows-kept : OneId ns → IsIn ns t → ValuesNameTerms ns names old e → v.0 < length (names ++ more) → Keeps old t v new → (terms : Tree → Option (List ℕ)) →
+  pub knows-kept : OneId ns → IsIn ns t → ValuesNameTerms ns names old e → v.0 < length (names ++ more) → KeepsOtherValues old t v new → (terms : Tree → Option (List ℕ)) →
       terms ≡ with_term e.terms (tree_at (trees ns) t) (value_text (naming (names ++ more)) v) → ValuesNameTerms ns (names ++ more) new record e { terms = terms }
   knows-kept one is_in k w keeps terms q = record {
     named = λ x h. ap (λ f. f (tree_at (trees ns) x)) q ∙ named x h (nat_eq x.0 t.0) refl ∙ ap (option_map (value_text (naming (names ++ more)))) (sym (keeps x));

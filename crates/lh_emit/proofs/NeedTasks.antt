@@ -12,7 +12,7 @@ use Rattle.lh_term.specs.declared.part.Part.{Part}
 use Rattle.lh_emit_def.specs.Emitted.{Source, Emitted, PartStep, gives_term, next_name, takes_steps, arg_name, unless_there, need_part}
 use Rattle.lh_emit_def.specs.Needs.{gives_operation, constants, need_value, need_values, operands_in, probe, pair_of, need_pair, need, need_all}
 use Rattle.lh_emit_def.proofs.ComputedTerms.{pair-constant, pair-else}
-use Rattle.lh_emit.specs.Tasks.{made_of, makes, Step, need_of, make_of, needs, takes, HasName, AreReady, datum_size, datum_sizes, tree_size, row_size, trees_size, step_size, steps_size}
+use Rattle.lh_emit.specs.Tasks.{made_of, makes, Step, need_of, make_of, needs, takes, HasName, TermsAreReady, datum_size, datum_sizes, tree_size, row_size, trees_size, step_size, steps_size}
 
 -- ---- what an entity keeps as it grows
 
@@ -195,21 +195,21 @@ module _ (s : Source) where
   takes-needs [] more e = refl
   takes-needs (t ∷ ts) more e = takes-needs ts more (need s t e)
 
-  pub ready-needs : (ts : List Tree) (more : List Step) (e : Emitted) → AreReady s more (needs s ts e) → AreReady s (map need_of ts ++ more) e
+  pub ready-needs : (ts : List Tree) (more : List Step) (e : Emitted) → TermsAreReady s more (needs s ts e) → TermsAreReady s (map need_of ts ++ more) e
   ready-needs [] more e r = r
   ready-needs (t ∷ ts) more e r = ready-needs ts more (need s t e) r
 
   -- a term that was emitted is not needed any more
-  pub step-there : (t : Tree) (n : List ℕ) (more : List Step) (e : Emitted) → e.terms t ≡ Some n → AreReady s (need_of t ∷ more) e → (takes s more e ≡ takes s (need_of t ∷ more) e) × AreReady s more e
-  step-there t n more e q r = let p = need-there t n e q in (ap (takes s more) (sym p), subst (AreReady s more) p r)
+  pub step-there : (t : Tree) (n : List ℕ) (more : List Step) (e : Emitted) → e.terms t ≡ Some n → TermsAreReady s (need_of t ∷ more) e → (takes s more e ≡ takes s (need_of t ∷ more) e) × TermsAreReady s more e
+  step-there t n more e q r = let p = need-there t n e q in (ap (takes s more) (sym p), subst (TermsAreReady s more) p r)
 
   -- one that was not is needed by its terms
-  pub step-new : (t : Tree) (more : List Step) (e : Emitted) → e.terms t ≡ None → AreReady s (need_of t ∷ more) e →
-      (takes s (map need_of (made_of t) ++ make_of t ∷ more) e ≡ takes s (need_of t ∷ more) e) × AreReady s (map need_of (made_of t) ++ make_of t ∷ more) e
+  pub step-new : (t : Tree) (more : List Step) (e : Emitted) → e.terms t ≡ None → TermsAreReady s (need_of t ∷ more) e →
+      (takes s (map need_of (made_of t) ++ make_of t ∷ more) e ≡ takes s (need_of t ∷ more) e) × TermsAreReady s (map need_of (made_of t) ++ make_of t ∷ more) e
   step-new t more e q r =
       let p = need-new t e q in (
         takes-needs (made_of t) (make_of t ∷ more) e ∙ ap (takes s more) (sym p),
-        ready-needs (made_of t) (make_of t ∷ more) e ((needs-needed (made_of t) e).named, subst (AreReady s more) p r),
+        ready-needs (made_of t) (make_of t ∷ more) e ((needs-needed (made_of t) e).named, subst (TermsAreReady s more) p r),
       )
 
 -- ---- sizes

@@ -13,7 +13,7 @@ use Rattle.lh_term.specs.declared.term.TermNode.{TermNode}
 use Rattle.lh_emit_def.specs.Emitted.{Source, Emitted, term_name}
 use Rattle.lh_emit_def.specs.Entities.{max_lines, choices_fit}
 use Rattle.lh_emit_def.specs.Needs.{need}
-use Rattle.lh_emit_def.specs.Ways.{IsGiven, IsReached, WaitIsGiven}
+use Rattle.lh_emit_def.specs.Ways.{TermIsGiven, IsReached, WaitIsGiven}
 use Rattle.lh_emit_body.specs.Lines.{naming, NamesGrow}
 use Rattle.lh_emit_source.specs.Origins.{IsOrigin, IsSource, source_by}
 use Rattle.lh_emit.specs.Emitting.{IsEmitted, CanNeed, IsNeeded, NeedsTerm, NeedsNot, CanProbe, NeedsNow, NeedsNowNot, CanReach, IsPartNeeded, NeedsPart, NeedsPartNot}
@@ -66,7 +66,7 @@ part-not ns o x p y (Err fault.EntityTooLarge) h = λ name f e origin w given. h
 
 -- ---- present values
 
-now-given : (s : Source) (p : Part) → WaitIsGiven s p → IsGiven s (now_of p)
+now-given : (s : Source) (p : Part) → WaitIsGiven s p → TermIsGiven s (now_of p)
 now-given s p w = record { typed = w.is_data; parts = w.part }
 
 module _ (ns ms : List TermNode) (o : Origin) (x : Emitter) (p : Part) (t : TermId) (g : Grows ns ms) (one : OneId ms) (st : StandsForTree ms t (now_of p)) where
@@ -78,7 +78,7 @@ module _ (ns ms : List TermNode) (o : Origin) (x : Emitter) (p : Part) (t : Term
     origin = c.origin;
     is = emitted-grown ns ms (source_by c.name c.naming o.flat.now) x c.emitted g one c.is;
     within = st.is_in;
-    given = subst (IsGiven (source_by c.name c.naming o.flat.now)) (sym st.tree) (now-given (source_by c.name c.naming o.flat.now) p c.given);
+    given = subst (TermIsGiven (source_by c.name c.naming o.flat.now)) (sym st.tree) (now-given (source_by c.name c.naming o.flat.now) p c.given);
   }
 
   module _ (ls : List TermNode) (y : Emitter) where
@@ -86,7 +86,7 @@ module _ (ns ms : List TermNode) (o : Origin) (x : Emitter) (p : Part) (t : Term
     now-needed (Err f) h = tt
     now-needed (Ok v) h = λ name f e origin w given.
         let s = source_by name f o.flat.now in
-        let k = h name f e origin (emitted-grown ns ms s x e g one w) (subst (IsGiven s) (sym st.tree) (now-given s p given)) in
+        let k = h name f e origin (emitted-grown ns ms s x e g one w) (subst (TermIsGiven s) (sym st.tree) (now-given s p given)) in
         subst (λ z. IsNeeded ls s z e y v) st.tree k
 
     pub now-not : (r : Result ValueId EmitFault) → IfErr r (NeedsNot ms o x t) → IfErr r (NeedsNowNot ns o x p)
@@ -94,7 +94,7 @@ module _ (ns ms : List TermNode) (o : Origin) (x : Emitter) (p : Part) (t : Term
     now-not (Err fault.OutOfMemory) h = tt
     now-not (Err fault.EntityTooLarge) h = λ name f e origin w given.
         let s = source_by name f o.flat.now in
-        by s e (h name f e origin (emitted-grown ns ms s x e g one w) (subst (IsGiven s) (sym st.tree) (now-given s p given)))
+        by s e (h name f e origin (emitted-grown ns ms s x e g one w) (subst (TermIsGiven s) (sym st.tree) (now-given s p given)))
       where
         by : (s : Source) (e : Emitted) → (choices_fit (tree_at (trees ms) t) ≡ false) ⊎ (max_lines < length (need s (tree_at (trees ms) t) e).lines) → max_lines < length (need s (now_of p) e).lines
         by s e (inl out) = let z : true ≡ false = ap choices_fit (sym st.tree) ∙ out in absurd cc

@@ -25,7 +25,7 @@ use Rattle.lh_emit.specs.Steps.{walk, walk_name, AllData, StillWalks, Walks, Wal
 use Rattle.std.specs.Result.{IsErrAnd}
 use Rattle.std.proofs.lemmas.Option.{slice_get_within}
 use Rattle.lh_emit_body.specs.declared.lines.EmitFault.{EmitFault}
-use Rattle.lh_emit.specs.Underway.{TakesPart, CanTakePart, GivesNoPart, TakesPartOr, Looks, IsNewPart}
+use Rattle.lh_emit.specs.Underway.{EmitsPart, CanTakePart, GivesNoPart, TakesPartOr, Looks, IsNewPart}
 use Rattle.lh_emit.specs.Whole.{is_whole}
 use Rattle.lh_emit.specs.Values.{ValuesNameTerms}
 use Rattle.lh_emit.specs.declared.emitter.Emitter.{Emitter}
@@ -88,7 +88,7 @@ module _ (o : Origin) (s : Source) (src : IsSource o s) (p : Part) (r : IsReache
     from-name : slice_index_or x.lines.names p.arg [] ≡ r.arg.name
     from-name = w.arguments.named p.arg r.arg r.there
 
-    there : (n : List ℕ) (v : ValueId) → e.parts p ≡ Some n → value_text (naming x.lines.names) v ≡ n → v.0 < length x.lines.names → TakesPart ns s p e x v
+    there : (n : List ℕ) (v : ValueId) → e.parts p ≡ Some n → value_text (naming x.lines.names) v ≡ n → v.0 < length x.lines.names → EmitsPart ns s p e x v
     there n v h q l =
         let same : need_part s p e ≡ e = ap (λ z. unless_there z (takes_steps s p (arg_name (slice_get s.args p.arg)) (s.steps p)) e) h in
         record {
@@ -98,7 +98,7 @@ module _ (o : Origin) (s : Source) (src : IsSource o s) (p : Part) (r : IsReache
         }
 
     -- a whole argument is its own value
-    pub whole-taken : (b : Bool) → b ≡ is_whole p (get_or (args_of o) p.arg d).ty → b ≡ true → TakesPart ns s p e x record { 0 = p.arg }
+    pub whole-taken : (b : Bool) → b ≡ is_whole p (get_or (args_of o) p.arg d).ty → b ≡ true → EmitsPart ns s p e x record { 0 = p.arg }
     whole-taken b q t =
         let n : whole_name s.args p ≡ Some r.arg.name = whole-name b q ∙ ap (λ (c : Bool). if c then Some r.arg.name else None) t in
         there r.arg.name record { 0 = p.arg } (w.parts.named p ∙ ap (λ z. or_else z (option_map (value_text (naming x.lines.names)) (part_in x.parts p))) n) from-name from-within
@@ -109,7 +109,7 @@ module _ (o : Origin) (s : Source) (src : IsSource o s) (p : Part) (r : IsReache
         w.parts.named p ∙ ap (λ z. or_else z (option_map (value_text (naming x.lines.names)) (part_in x.parts p))) n
 
     -- a part that is there has its value
-    pub known-taken : (b : Bool) (v : ValueId) → b ≡ is_whole p (get_or (args_of o) p.arg d).ty → b ≡ false → part_in x.parts p ≡ Some v → TakesPart ns s p e x v
+    pub known-taken : (b : Bool) (v : ValueId) → b ≡ is_whole p (get_or (args_of o) p.arg d).ty → b ≡ false → part_in x.parts p ≡ Some v → EmitsPart ns s p e x v
     known-taken b v q t h = there (value_text (naming x.lines.names) v) v (parts-at b q t ∙ ap (option_map (value_text (naming x.lines.names))) h) refl (w.parts.within p v h)
 
     need-new : (b : Bool) → b ≡ is_whole p (get_or (args_of o) p.arg d).ty → b ≡ false → part_in x.parts p ≡ None →
@@ -214,7 +214,7 @@ module _ (o : Origin) (s : Source) (src : IsSource o s) (p : Part) (r : IsReache
         fit = λ z n g. w.fit z n (sym (ap (λ f. f z) (walk-terms s from (s.steps p) e)) ∙ g);
       }
 
-      pub new-taken : TakesPart ns s p e record { lines = new; values = x.values; parts = ps } v
+      pub new-taken : EmitsPart ns s p e record { lines = new; values = x.values; parts = ps } v
       new-taken =
           let same = need-new b q t h in
           record {

@@ -13,7 +13,7 @@ use Rattle.lh_unit.specs.declared.inst.Inst.{Inst}
 use Rattle.lh_unit.specs.declared.inst.Inst.TheVariants as inst
 use Rattle.lh_term.specs.declared.part.Part.{Part}
 use Rattle.lh_emit_def.specs.Emitted.{PartStep, Source, Emitted, gives, next_name, typed, takes_steps, with_part}
-use Rattle.lh_emit_body.specs.Lines.{naming, line_text, most_lines, values_alone, LinesAreEmitted, HasRoom, NamesGrow, GivesValue, GivesOne}
+use Rattle.lh_emit_body.specs.Lines.{naming, line_text, most_lines, values_alone, LinesAreEmitted, LinesHaveRoom, NamesGrow, GivesValue, GivesOne}
 use Rattle.std.specs.Prelude.{Result, Ok, Err}
 use Rattle.std.specs.Result.{IsErrAnd, IfErr}
 use Rattle.lh_emit.specs.Operands.{with_type}
@@ -62,7 +62,7 @@ GivesFault ls fault.EntityTooLarge = length ls.lines ≡ most_lines
 
 -- ---- one step
 
-pub walks-first : (all : List RouteStep) (old : Lines) (from : ValueId) → HasRoom old → from.0 < length old.names → Walks all old from old from all
+pub walks-first : (all : List RouteStep) (old : Lines) (from : ValueId) → LinesHaveRoom old → from.0 < length old.names → Walks all old from old from all
 walks-first all old from room within = record {
   room = room;
   within = within;

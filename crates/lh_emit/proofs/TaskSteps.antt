@@ -16,13 +16,13 @@ use Rattle.lh_term.proofs.Swaps.{tree_grown, in_grown, grows_on}
 use Rattle.lh_emit_def.specs.Emitted.{Source, Emitted, term_name}
 use Rattle.lh_emit_def.specs.Entities.{max_lines, choices_fit}
 use Rattle.lh_emit_def.specs.Needs.{need}
-use Rattle.lh_emit_def.specs.Ways.{IsGiven}
+use Rattle.lh_emit_def.specs.Ways.{TermIsGiven}
 use Rattle.lh_emit_body.specs.Lines.{naming, NamesGrow}
 use Rattle.lh_emit.specs.Emitting.{IsEmitted}
-use Rattle.lh_emit.specs.Making.{AreMade, HasNoPair}
+use Rattle.lh_emit.specs.Making.{AreOperandTerms, HasNoPair}
 use Rattle.lh_emit_source.specs.Origins.{IsSource}
-use Rattle.lh_emit.specs.Tasks.{made_of, makes, need_of, make_of, takes, AreReady, steps_size}
-use Rattle.lh_emit.specs.Underway.{step_of, steps_at, term_of, tops, IsTask, FitsTask, IsUnderway, CanGo, HasGone, Goes, IsTooMuch, GoesNot, IsReady, CanMake, IsMade, MakesTerm, IsTooMuchToMake, MakesNot, GoesOr, MakesOr, HasTerm, CanTakeTerm, GivesNoTerm, TakesTermOr}
+use Rattle.lh_emit.specs.Tasks.{made_of, makes, need_of, make_of, takes, TermsAreReady, steps_size}
+use Rattle.lh_emit.specs.Underway.{step_of, steps_at, term_of, tops, IsTask, FitsTask, IsUnderway, CanGo, HasGone, Goes, IsTooMuch, EmitFails, IsReady, CanMake, TermIsMade, MakesTerm, IsTooMuchToMake, MakesNot, GoesOr, MakesOr, HasTerm, CanTakeTerm, GivesNoTerm, TakesTermOr}
 use Rattle.std.specs.Prelude.{Result, Ok, Err}
 use Rattle.std.specs.Result.{IsErrAnd}
 use Rattle.std.proofs.lemmas.Bool.{false_from_ne_true}
@@ -54,7 +54,7 @@ module _ (ns ms : List TermNode) (g : Grows ns ms) where
   pub tasks-grown : (s : Source) (xs : List Task) → Each (IsTask ns s) xs → Each (IsTask ms s) xs
   tasks-grown s [] h = tt
   tasks-grown s (x ∷ xs) h =
-      (record { is_in = in_grown ns ms g (term_of x) h.0.is_in; given = subst (IsGiven s) (sym (tree_grown ns ms g (term_of x) h.0.is_in)) h.0.given }, tasks-grown s xs h.1)
+      (record { is_in = in_grown ns ms g (term_of x) h.0.is_in; given = subst (TermIsGiven s) (sym (tree_grown ns ms g (term_of x) h.0.is_in)) h.0.given }, tasks-grown s xs h.1)
 
   pub fits-grown : (s : Source) (xs : List Task) → Each (IsTask ns s) xs → Each (FitsTask ns) xs → Each (FitsTask ms) xs
   fits-grown s [] h f = tt
@@ -66,7 +66,7 @@ needs-steps : (ms : List TermNode) (xs : List TermId) (rest : List Task) → ste
 needs-steps ms [] rest = refl
 needs-steps ms (x ∷ xs) rest = ap (λ ys. need_of (tree_at (trees ms) x) ∷ ys) (needs-steps ms xs rest)
 
-needs-tasks : (ms : List TermNode) (s : Source) (xs : List TermId) → AreIn ms xs → Each (IsGiven s) (trees_at ms xs) → Each (IsTask ms s) (map Need xs)
+needs-tasks : (ms : List TermNode) (s : Source) (xs : List TermId) → AreIn ms xs → Each (TermIsGiven s) (trees_at ms xs) → Each (IsTask ms s) (map Need xs)
 needs-tasks ms s [] h g = tt
 needs-tasks ms s (x ∷ xs) h g =
     let b = and_both (nat_lt x.0 (length ms)) (ids_below (length ms) xs) h in
@@ -76,7 +76,7 @@ needs-fit : (ms : List TermNode) (xs : List TermId) → Each (λ (t : Tree). cho
 needs-fit ms [] h = tt
 needs-fit ms (x ∷ xs) h = (h.0, needs-fit ms xs h.1)
 
-open-steps : (ns ms : List TermNode) (s : Source) (t : TermId) (xs : List TermId) (rest : List Task) → Grows ns ms → AreMade ns ms t xs → IsIn ns t → Each (IsTask ns s) rest →
+open-steps : (ns ms : List TermNode) (s : Source) (t : TermId) (xs : List TermId) (rest : List Task) → Grows ns ms → AreOperandTerms ns ms t xs → IsIn ns t → Each (IsTask ns s) rest →
     steps_at ms (map Need xs ++ Make t ∷ rest) ≡ map need_of (made_of (tree_at (trees ns) t)) ++ make_of (tree_at (trees ns) t) ∷ steps_at ns rest
 open-steps ns ms s t xs rest g m h r =
     needs-steps ms xs (Make t ∷ rest)
@@ -96,19 +96,19 @@ module _ (ns : List TermNode) (s : Source) (x : Emitter) (t : TermId) (rest : Li
         record { emitted = e; is = record { is = u.is; ready = k.1; given = u.given.1 }; same = k.0; fit = λ h. h.1 }
 
     -- one that was not
-    pub gone-open : (ms : List TermNode) (xs : List TermId) → Grows ns ms → OneId ms → AreMade ns ms t xs → e.terms tree ≡ None → HasGone ns s (Need t ∷ rest) e ms x (map Need xs ++ Make t ∷ rest)
+    pub gone-open : (ms : List TermNode) (xs : List TermId) → Grows ns ms → OneId ms → AreOperandTerms ns ms t xs → e.terms tree ≡ None → HasGone ns s (Need t ∷ rest) e ms x (map Need xs ++ Make t ∷ rest)
     gone-open ms xs g one m q =
         let k = step-new s tree (steps_at ns rest) e q u.ready in
         let same = open-steps ns ms s t xs rest g m u.given.0.is_in u.given.1 in
-        let here : IsTask ms s (Make t) = record { is_in = in_grown ns ms g t u.given.0.is_in; given = subst (IsGiven s) (sym (tree_grown ns ms g t u.given.0.is_in)) u.given.0.given } in
+        let here : IsTask ms s (Make t) = record { is_in = in_grown ns ms g t u.given.0.is_in; given = subst (TermIsGiven s) (sym (tree_grown ns ms g t u.given.0.is_in)) u.given.0.given } in
         record {
           emitted = e;
           is = record {
             is = emitted-grown ns ms s x e g one u.is;
-            ready = subst (λ ys. AreReady s ys e) (sym same) k.1;
+            ready = subst (λ ys. TermsAreReady s ys e) (sym same) k.1;
             given =
                 Each-append (IsTask ms s) (map Need xs) (Make t ∷ rest)
-                (needs-tasks ms s xs m.within (subst (Each (IsGiven s)) (sym m.made) (made-given s tree u.given.0.given m.pair)))
+                (needs-tasks ms s xs m.within (subst (Each (TermIsGiven s)) (sym m.made) (made-given s tree u.given.0.given m.pair)))
                 (here, tasks-grown ns ms g s rest u.given.1);
           };
           same = ap (λ ys. takes s ys e) same ∙ k.0;
@@ -128,12 +128,12 @@ module _ (ns : List TermNode) (s : Source) (x : Emitter) (t : TermId) (rest : Li
     ready-make = record { is = u.is; is_in = u.given.0.is_in; given = u.given.0.given; made = u.ready.0 }
 
     -- an instruction that is made
-    pub gone-make : (ms : List TermNode) (y : Emitter) → Grows ns ms → IsMade ns s t e ms y → HasGone ns s (Make t ∷ rest) e ms y rest
+    pub gone-make : (ms : List TermNode) (y : Emitter) → Grows ns ms → TermIsMade ns s t e ms y → HasGone ns s (Make t ∷ rest) e ms y rest
     gone-make ms y g k =
         let same : steps_at ms rest ≡ steps_at ns rest = steps-grown ns ms g s rest u.given.1 in
         record {
           emitted = makes s tree e;
-          is = record { is = k.is; ready = subst (λ ys. AreReady s ys (makes s tree e)) (sym same) u.ready.1; given = tasks-grown ns ms g s rest u.given.1 };
+          is = record { is = k.is; ready = subst (λ ys. TermsAreReady s ys (makes s tree e)) (sym same) u.ready.1; given = tasks-grown ns ms g s rest u.given.1 };
           same = ap (λ ys. takes s ys (makes s tree e)) same;
           fit = λ h. fits-grown ns ms g s rest u.given.1 h.1;
         }
@@ -156,13 +156,13 @@ goes-there ns o x t rest h q s e src u = at (value_in x.values t) refl
     at (Some v) p = gone-there ns s x t rest e u (value_text (naming x.lines.names) v) (u.is.terms.named t h ∙ ap (option_map (value_text (naming x.lines.names))) p)
 
 pub goes-open : (ns : List TermNode) (o : Origin) (x : Emitter) (t : TermId) (rest all : List Task) (ms : List TermNode) (xs : List TermId) → IsIn ns t → value_in x.values t ≡ None → Grows ns ms → OneId ms
-    → AreMade ns ms t xs →
+    → AreOperandTerms ns ms t xs →
     all ≡ map Need xs ++ Make t ∷ rest → Goes ns o x (Need t ∷ rest) ms x all
 goes-open ns o x t rest all ms xs h q g one m a s e src u =
     subst (HasGone ns s (Need t ∷ rest) e ms x) (sym a)
     (gone-open ns s x t rest e u ms xs g one m (u.is.terms.named t h ∙ ap (option_map (value_text (naming x.lines.names))) q))
 
-pub goes-not-open : (ns : List TermNode) (o : Origin) (x : Emitter) (t : TermId) (rest : List Task) (f : EmitFault) → HasNoPair ns t f → GoesNot ns o x (Need t ∷ rest) f
+pub goes-not-open : (ns : List TermNode) (o : Origin) (x : Emitter) (t : TermId) (rest : List Task) (f : EmitFault) → HasNoPair ns t f → EmitFails ns o x (Need t ∷ rest) f
 goes-not-open ns o x t rest fault.OutOfMemory h = tt
 goes-not-open ns o x t rest fault.EntityTooLarge h = λ s e src u. open-not ns s x t rest e u fault.EntityTooLarge h refl
 
@@ -170,7 +170,7 @@ pub goes-make : (ns : List TermNode) (o : Origin) (x : Emitter) (t : TermId) (re
     → Goes ns o x (Make t ∷ rest) ms y rest
 goes-make ns o x t rest ms y g k s e src u = gone-make ns s x t rest e u ms y g (k s e src (ready-make ns s x t rest e u))
 
-pub goes-not-make : (ns : List TermNode) (o : Origin) (x : Emitter) (t : TermId) (rest : List Task) (f : EmitFault) → MakesNot ns o x t f → GoesNot ns o x (Make t ∷ rest) f
+pub goes-not-make : (ns : List TermNode) (o : Origin) (x : Emitter) (t : TermId) (rest : List Task) (f : EmitFault) → MakesNot ns o x t f → EmitFails ns o x (Make t ∷ rest) f
 goes-not-make ns o x t rest fault.OutOfMemory h = tt
 goes-not-make ns o x t rest fault.EntityTooLarge h = λ s e src u. make-not ns s x t rest e u (h s e src (ready-make ns s x t rest e u))
 
@@ -193,7 +193,7 @@ less-make ns o x t rest ms c g =
 less-there : (ns : List TermNode) (t : TermId) (rest : List Task) → steps_size (steps_at ns rest) < steps_size (steps_at ns (Need t ∷ rest))
 less-there ns t rest = smaller-there (tree_at (trees ns) t) (steps_at ns rest)
 
-less-open : (ns : List TermNode) (o : Origin) (x : Emitter) (t : TermId) (rest all : List Task) (ms : List TermNode) (xs : List TermId) → CanGo ns o x (Need t ∷ rest) → Grows ns ms → AreMade ns ms t xs
+less-open : (ns : List TermNode) (o : Origin) (x : Emitter) (t : TermId) (rest all : List Task) (ms : List TermNode) (xs : List TermId) → CanGo ns o x (Need t ∷ rest) → Grows ns ms → AreOperandTerms ns ms t xs
     → all ≡ map Need xs ++ Make t ∷ rest →
     steps_size (steps_at ms all) < steps_size (steps_at ns (Need t ∷ rest))
 less-open ns o x t rest all ms xs c g m e =
@@ -207,7 +207,7 @@ go-there ns o x t rest c q = (grows-same x.lines.names x.lines.names refl, goes-
 
 pub go-open : (ns : List TermNode) (o : Origin) (x : Emitter) (t : TermId) (rest mid all : List Task) (ms : List TermNode) (xs : List TermId) → CanGo ns o x (Need t ∷ rest)
     → is_some (value_in x.values t) ≡ false → Grows ns ms → OneId ms →
-    AreMade ns ms t xs → mid ≡ Make t ∷ rest → all ≡ map Need xs ++ mid → GoesOr ns o x (Need t ∷ rest) ms x all (Ok tt)
+    AreOperandTerms ns ms t xs → mid ≡ Make t ∷ rest → all ≡ map Need xs ++ mid → GoesOr ns o x (Need t ∷ rest) ms x all (Ok tt)
 go-open ns o x t rest mid all ms xs c q g one m e f =
     let a : all ≡ map Need xs ++ Make t ∷ rest = f ∙ ap (λ ys. map Need xs ++ ys) e in (
       grows-same x.lines.names x.lines.names refl,
@@ -232,8 +232,8 @@ too-much-then : (ns : List TermNode) (s : Source) (left : List Task) (e : Emitte
 too-much-then ns s left e ms y mid a (inl h) = inl (λ k. h (a.fit k))
 too-much-then ns s left e ms y mid a (inr h) = inr (subst (λ (z : Emitted). max_lines < length z.lines) a.same h)
 
-pub goes-not-then : (ns : List TermNode) (o : Origin) (x : Emitter) (left : List Task) (ms : List TermNode) (y : Emitter) (mid : List Task) (f : EmitFault) → Goes ns o x left ms y mid → GoesNot ms o y mid f
-    → GoesNot ns o x left f
+pub goes-not-then : (ns : List TermNode) (o : Origin) (x : Emitter) (left : List Task) (ms : List TermNode) (y : Emitter) (mid : List Task) (f : EmitFault) → Goes ns o x left ms y mid → EmitFails ms o y mid f
+    → EmitFails ns o x left f
 goes-not-then ns o x left ms y mid fault.OutOfMemory g n = tt
 goes-not-then ns o x left ms y mid fault.EntityTooLarge g n = λ s e src u. on s e (g s e src u) src
   where
@@ -248,12 +248,12 @@ can-go-on ns o x left ms y mid c g = let a = g c.source c.emitted c.origin c.is 
 pub go-no-memory : (ns : List TermNode) (o : Origin) (x : Emitter) (left : List Task) (ms : List TermNode) (y : Emitter) (rest : List Task) (r : Result (Unit {0}) EmitFault)
     → IsErrAnd r (λ f. f ≡ fault.OutOfMemory) → GoesOr ns o x left ms y rest r
 go-no-memory ns o x left ms y rest (Ok u) h = absurd h
-go-no-memory ns o x left ms y rest (Err f) h = subst (GoesNot ns o x left) (sym h) tt
+go-no-memory ns o x left ms y rest (Err f) h = subst (EmitFails ns o x left) (sym h) tt
 
 pub go-cause : (ns : List TermNode) (o : Origin) (x : Emitter) (left : List Task) (ms : List TermNode) (y : Emitter) (rest : List Task) (r : Result (Unit {0}) EmitFault) (f : EmitFault)
-    → IsErrAnd r (λ e. e ≡ f) → GoesNot ns o x left f → GoesOr ns o x left ms y rest r
+    → IsErrAnd r (λ e. e ≡ f) → EmitFails ns o x left f → GoesOr ns o x left ms y rest r
 go-cause ns o x left ms y rest (Ok u) f h g = absurd h
-go-cause ns o x left ms y rest (Err e) f h g = subst (GoesNot ns o x left) (sym h) g
+go-cause ns o x left ms y rest (Err e) f h g = subst (EmitFails ns o x left) (sym h) g
 
 -- the step of an instruction
 pub go-make : (ns : List TermNode) (o : Origin) (x : Emitter) (t : TermId) (rest : List Task) (ms : List TermNode) (y : Emitter) (r : Result (Unit {0}) EmitFault) → CanGo ns o x (Make t ∷ rest) → Grows ns ms
@@ -264,7 +264,7 @@ go-make ns o x t rest ms y (Err f) c g k = goes-not-make ns o x t rest f k
 
 -- ---- from the first to the last
 
-first-underway : (ns : List TermNode) (s : Source) (x : Emitter) (t : TermId) (e : Emitted) → IsEmitted ns s x e → IsIn ns t → IsGiven s (tree_at (trees ns) t) → IsUnderway ns s x (Need t ∷ []) e
+first-underway : (ns : List TermNode) (s : Source) (x : Emitter) (t : TermId) (e : Emitted) → IsEmitted ns s x e → IsIn ns t → TermIsGiven s (tree_at (trees ns) t) → IsUnderway ns s x (Need t ∷ []) e
 first-underway ns s x t e w h g = record { is = w; ready = tt; given = (record { is_in = h; given = g }, tt) }
 
 pub can-go-first : (ns : List TermNode) (o : Origin) (x : Emitter) (t : TermId) → CanTakeTerm ns o x t → CanGo ns o x (Need t ∷ [])
@@ -275,7 +275,7 @@ pub takes-term : (ns : List TermNode) (o : Origin) (x : Emitter) (t : TermId) (m
     TakesTermOr ns o x t ms y (Ok v)
 takes-term ns o x t ms y v h g names k q = (names, λ s e src w given. on s e src w given (k s e src (first-underway ns s x t e w h given)))
   where
-    on : (s : Source) (e : Emitted) → IsSource o s → IsEmitted ns s x e → IsGiven s (tree_at (trees ns) t) → HasGone ns s (Need t ∷ []) e ms y [] → HasTerm ns s t e ms y v
+    on : (s : Source) (e : Emitted) → IsSource o s → IsEmitted ns s x e → TermIsGiven s (tree_at (trees ns) t) → HasGone ns s (Need t ∷ []) e ms y [] → HasTerm ns s t e ms y v
     on s e src w given a =
         let tree = tree_at (trees ns) t in
         let is : IsEmitted ms s y (need s tree e) = subst (IsEmitted ms s y) a.same a.is.is in
@@ -288,7 +288,7 @@ takes-term ns o x t ms y v h g names k q = (names, λ s e src w given. on s e sr
           fits = is.fit tree named.0 named.1;
         }
 
-pub no-term : (ns : List TermNode) (o : Origin) (x : Emitter) (t : TermId) (f : EmitFault) → IsIn ns t → GoesNot ns o x (Need t ∷ []) f → GivesNoTerm ns o x t f
+pub no-term : (ns : List TermNode) (o : Origin) (x : Emitter) (t : TermId) (f : EmitFault) → IsIn ns t → EmitFails ns o x (Need t ∷ []) f → GivesNoTerm ns o x t f
 no-term ns o x t fault.OutOfMemory h k = tt
 no-term ns o x t fault.EntityTooLarge h k = λ s e src w given. on s e (k s e src (first-underway ns s x t e w h given))
   where
@@ -347,7 +347,7 @@ module _ (ns : List TermNode) (o : Origin) (x : Emitter) (t : TermId) (ms : List
     goes = goes-then ns o x (Need t ∷ []) ms y (k ∷ tops left) ls z (tops more) popped h.1;
   }
 
-  pub step-cause : (f : EmitFault) → IsIn ns t → GoesNot ms o y (k ∷ tops left) f → GivesNoTerm ns o x t f
+  pub step-cause : (f : EmitFault) → IsIn ns t → EmitFails ms o y (k ∷ tops left) f → GivesNoTerm ns o x t f
   step-cause f h g = no-term ns o x t f h (goes-not-then ns o x (Need t ∷ []) ms y (k ∷ tops left) f popped g)
 
   pub less-left : (ls : List TermNode) (z : Emitter) (more : List Task) → GoesOr ms o y (k ∷ tops left) ls z (tops more) (Ok tt)

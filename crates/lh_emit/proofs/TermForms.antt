@@ -18,10 +18,10 @@ use Rattle.lh_emit_def.specs.Emitted.{Source, Emitted, gives_term, signal, need_
 use Rattle.lh_emit_def.specs.Entities.{choices_fit, all_choices_fit}
 use Rattle.lh_emit_def.specs.Needs.{gives_operation, constants, operands_in, pair_of, writes_result, types_of_all}
 use Rattle.lh_term.specs.Leaves.{AllParts, AllPartsIn}
-use Rattle.lh_emit_def.specs.Ways.{IsGiven, IsReached}
+use Rattle.lh_emit_def.specs.Ways.{TermIsGiven, IsReached}
 use Rattle.lh_emit_def.proofs.ComputedTerms.{pair-constant, pair-else, array-parts, tuple-parts}
 use Rattle.lh_emit_def.proofs.Pairs.{pair-typed, pair-constant_typed}
-use Rattle.lh_emit.specs.Making.{form_of, IsProbed}
+use Rattle.lh_emit.specs.Making.{form_of, TermIsProbed}
 use Rattle.lh_emit.specs.Tasks.{made_of, makes, has_pair}
 use Rattle.lh_emit.specs.declared.making.TermForm.{TermForm}
 use Rattle.lh_emit.specs.declared.making.TermForm.TheVariants.{Scalar, Probe, Joined}
@@ -37,21 +37,21 @@ scalar-at s (tuple_value vs) e h = absurd cc
 pub scalar-makes : (s : Source) (x : Tree) (d : Datum) (e : Emitted) → x ≡ constant d → form_of x ≡ Scalar → makes s x e ≡ gives_term s x (const_text d) e
 scalar-makes s x d e q h = subst (λ (y : Tree). form_of y ≡ Scalar → makes s y e ≡ gives_term s y (const_text d) e) (sym q) (scalar-at s d e) h
 
-pub probe-makes : (s : Source) (x : Tree) (p : Part) (e : Emitted) → IsProbed x p → makes s x e ≡ gives_term s x (prb_text (signal (need_part s p e) p)) (need_part s p e)
+pub probe-makes : (s : Source) (x : Tree) (p : Part) (e : Emitted) → TermIsProbed x p → makes s x e ≡ gives_term s x (prb_text (signal (need_part s p e) p)) (need_part s p e)
 probe-makes s x p e h = by h.is
   where
     by : (x ≡ past_of p) ⊎ (x ≡ now_of p) → makes s x e ≡ gives_term s x (prb_text (signal (need_part s p e) p)) (need_part s p e)
     by (inl q) = subst (λ (y : Tree). makes s y e ≡ gives_term s y (prb_text (signal (need_part s p e) p)) (need_part s p e)) (sym q) refl
     by (inr q) = subst (λ (y : Tree). makes s y e ≡ gives_term s y (prb_text (signal (need_part s p e) p)) (need_part s p e)) (sym q) refl
 
-pub probe-reached : (s : Source) (x : Tree) (p : Part) → IsProbed x p → AllParts (IsReached s) x → IsReached s p
+pub probe-reached : (s : Source) (x : Tree) (p : Part) → TermIsProbed x p → AllParts (IsReached s) x → IsReached s p
 probe-reached s x p h g = by h.is
   where
     by : (x ≡ past_of p) ⊎ (x ≡ now_of p) → IsReached s p
     by (inl q) = subst (AllParts (IsReached s)) q g
     by (inr q) = subst (AllParts (IsReached s)) q g
 
-pub probe-fits : (x : Tree) (p : Part) → IsProbed x p → choices_fit x ≡ true
+pub probe-fits : (x : Tree) (p : Part) → TermIsProbed x p → choices_fit x ≡ true
 probe-fits x p h = by h.is
   where
     by : (x ≡ past_of p) ⊎ (x ≡ now_of p) → choices_fit x ≡ true
@@ -182,15 +182,15 @@ no-pair-fits (choice_of c f t) h = rw h refl
 
 -- ---- what a term is made of is given
 
-constants-given : (s : Source) (vs : DatumRow) → Each FitsTerm (parts_of vs) → Each (IsGiven s) (constants vs)
+constants-given : (s : Source) (vs : DatumRow) → Each FitsTerm (parts_of vs) → Each (TermIsGiven s) (constants vs)
 constants-given s no_values h = tt
 constants-given s (more_values v vs) h = (record { typed = h.0; parts = tt }, constants-given s vs h.1)
 
-operands-given : (s : Source) (ts : TreeRow) → AreTyped ts → AllPartsIn (IsReached s) ts → Each (IsGiven s) (operands_in ts)
+operands-given : (s : Source) (ts : TreeRow) → AreTyped ts → AllPartsIn (IsReached s) ts → Each (TermIsGiven s) (operands_in ts)
 operands-given s no_trees h g = tt
 operands-given s (more_trees t ts) h g = (record { typed = h.0; parts = g.0 }, operands-given s ts h.1 g.1)
 
-pub made-given : (s : Source) (x : Tree) → IsGiven s x → has_pair x ≡ true → Each (IsGiven s) (made_of x)
+pub made-given : (s : Source) (x : Tree) → TermIsGiven s x → has_pair x ≡ true → Each (TermIsGiven s) (made_of x)
 made-given s (constant (int_value w b)) k p = tt
 made-given s (constant (time_value d)) k p = tt
 made-given s (constant (array_value vs)) k p = constants-given s vs (array-parts vs k.typed)
@@ -200,6 +200,6 @@ made-given s (now_of q) k p = tt
 made-given s (operation op ts) k p = operands-given s ts k.typed.0 k.parts
 made-given s (choice_of c f t) k p = (by (paired f t), (record { typed = k.typed.0; parts = k.parts.0 }, tt))
   where
-    by : Paired f t → IsGiven s (pair_of f t)
-    by (folded a b e) = subst (IsGiven s) (sym e) (record { typed = pair-constant_typed c f t k.typed p a b; parts = tt })
-    by (joined e) = subst (IsGiven s) (sym e) (record { typed = pair-typed c f t k.typed p; parts = (k.parts.1, (k.parts.2, tt)) })
+    by : Paired f t → TermIsGiven s (pair_of f t)
+    by (folded a b e) = subst (TermIsGiven s) (sym e) (record { typed = pair-constant_typed c f t k.typed p a b; parts = tt })
+    by (joined e) = subst (TermIsGiven s) (sym e) (record { typed = pair-typed c f t k.typed p; parts = (k.parts.1, (k.parts.2, tt)) })

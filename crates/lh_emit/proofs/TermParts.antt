@@ -29,7 +29,7 @@ use Rattle.lh_term.proofs.Arenas.{ids_more, map_append}
 use Rattle.lh_term.proofs.Swaps.{tree_grown, in_grown, grows_on}
 use Rattle.lh_emit_def.specs.Needs.{operands_in, pair_of}
 use Rattle.lh_emit_def.proofs.ComputedTerms.{array-parts, tuple-parts}
-use Rattle.lh_emit.specs.Making.{AreMade, HasNoPair, NoPairOf, IsMadeBy, parts_in, AreConstants, AreChosen}
+use Rattle.lh_emit.specs.Making.{AreOperandTerms, HasNoPair, NoPairOf, IsMadeBy, parts_in, AreConstants, AreChosen}
 use Rattle.lh_emit.specs.Tasks.{made_of, has_pair}
 use Rattle.lh_region_joins.proofs.Selectors.{trees-grown}
 
@@ -108,7 +108,7 @@ parts-fit (time_value d) h = tt
 parts-fit (array_value vs) h = array-parts vs h
 parts-fit (tuple_value vs) h = tuple-parts vs h
 
-pub made-constants : (ns ms : List TermNode) (t : TermId) (d : Datum) (xs : List TermId) → tree_at (trees ns) t ≡ constant d → AreConstants (parts_in d) ms xs → AreMade ns ms t xs
+pub made-constants : (ns ms : List TermNode) (t : TermId) (d : Datum) (xs : List TermId) → tree_at (trees ns) t ≡ constant d → AreConstants (parts_in d) ms xs → AreOperandTerms ns ms t xs
 made-constants ns ms t d xs e k = record {
   within = k.within;
   made = k.made ∙ constant-parts d ∙ ap made_of (sym e);
@@ -119,21 +119,21 @@ row-operands : (ts : List Tree) → operands_in (tree_row ts) ≡ ts
 row-operands [] = refl
 row-operands (t ∷ ts) = ap (λ xs. t ∷ xs) (row-operands ts)
 
-pub made-operands : (ns : List TermNode) (t : TermId) (op : Op) (args xs : List TermId) → tree_at (trees ns) t ≡ operation_on op (trees_at ns args) → AreIn ns args → xs ≡ args → AreMade ns ns t xs
+pub made-operands : (ns : List TermNode) (t : TermId) (op : Op) (args xs : List TermId) → tree_at (trees ns) t ≡ operation_on op (trees_at ns args) → AreIn ns args → xs ≡ args → AreOperandTerms ns ns t xs
 made-operands ns t op args xs e h q = record {
   within = subst (AreIn ns) (sym q) h;
   made = ap (trees_at ns) q ∙ sym (row-operands (trees_at ns args)) ∙ ap made_of (sym e);
   pair = ap has_pair e;
 }
 
-pub made-choice : (ns ms : List TermNode) (t : TermId) (c f g : Tree) (xs : List TermId) → tree_at (trees ns) t ≡ choice_of c f g → AreChosen c f g ms xs → AreMade ns ms t xs
+pub made-choice : (ns ms : List TermNode) (t : TermId) (c f g : Tree) (xs : List TermId) → tree_at (trees ns) t ≡ choice_of c f g → AreChosen c f g ms xs → AreOperandTerms ns ms t xs
 made-choice ns ms t c f g xs e k = record {
   within = k.within;
   made = k.made ∙ ap made_of (sym e);
   pair = ap has_pair e ∙ k.pair;
 }
 
-pub made-none : (ns : List TermNode) (t : TermId) (xs : List TermId) → xs ≡ [] → made_of (tree_at (trees ns) t) ≡ [] → has_pair (tree_at (trees ns) t) ≡ true → AreMade ns ns t xs
+pub made-none : (ns : List TermNode) (t : TermId) (xs : List TermId) → xs ≡ [] → made_of (tree_at (trees ns) t) ≡ [] → has_pair (tree_at (trees ns) t) ≡ true → AreOperandTerms ns ns t xs
 made-none ns t xs e m h = record {
   within = subst (AreIn ns) (sym e) refl;
   made = ap (trees_at ns) e ∙ sym m;
@@ -161,14 +161,14 @@ parts-copied v vs (Ok ws) (inl p) h = h ∙ sym (parts_of-data_row vs) ∙ sym (
 parts-copied v vs (Ok ws) (inr p) h = h ∙ sym (parts_of-data_row vs) ∙ sym (ap (λ (x : Val). parts_in (datum_of x)) p)
 
 pub made-op : (ns : List TermNode) (t : TermId) (k : Term) (op : Op) (args xs : List TermId) → k ≡ Applied op args → term_tree (trees ns) k ≡ tree_at (trees ns) t → term_below t.0 k ≡ true → IsIn ns t
-    → xs ≡ args → AreMade ns ns t xs
+    → xs ≡ args → AreOperandTerms ns ns t xs
 made-op ns t k op args xs e shown below is_in q =
     made-operands ns t op args xs (sym shown ∙ ap (term_tree (trees ns)) e) (ids_more t.0 (length ns) (omega (arith, is_in)) args (sym (ap (term_below t.0) e) ∙ below)) q
 
 pub values-fit : (ns : List TermNode) (t : TermId) (n : Needs) (vs : List Datum) → n ≡ Parts vs → IsMadeBy ns t n → Each FitsTerm vs
 values-fit ns t n vs e h = let (d, p, q, f) = subst (IsMadeBy ns t) e h in subst (Each FitsTerm) (sym q) (parts-fit d f)
 
-pub values-made : (ns ms : List TermNode) (t : TermId) (n : Needs) (vs : List Datum) (xs : List TermId) → n ≡ Parts vs → IsMadeBy ns t n → AreConstants vs ms xs → AreMade ns ms t xs
+pub values-made : (ns ms : List TermNode) (t : TermId) (n : Needs) (vs : List Datum) (xs : List TermId) → n ≡ Parts vs → IsMadeBy ns t n → AreConstants vs ms xs → AreOperandTerms ns ms t xs
 values-made ns ms t n vs xs e h k = let (d, p, q, f) = subst (IsMadeBy ns t) e h in made-constants ns ms t d xs p (subst (λ ds. AreConstants ds ms xs) q k)
 
 pub choice-parts : (ns : List TermNode) (t : TermId) (n : Needs) (c f g : TermId) → n ≡ Chosen c f g → IsMadeBy ns t n → IsMadeBy ns t (Chosen c f g)

@@ -13,8 +13,8 @@ use Rattle.lh_term.specs.declared.term.TermNode.{TermNode}
 use Rattle.lh_emit_def.specs.Emitted.{Source, Emitted, puts, term_name, part_name, need_part}
 use Rattle.lh_emit_def.specs.Needs.{need}
 use Rattle.lh_emit_def.specs.Entities.{max_lines, choices_fit}
-use Rattle.lh_emit_def.specs.Ways.{IsGiven, IsReached, WaitIsGiven}
-use Rattle.lh_emit_body.specs.Lines.{most_lines, naming, LinesAreEmitted, HasRoom, NamesGrow}
+use Rattle.lh_emit_def.specs.Ways.{TermIsGiven, IsReached, WaitIsGiven}
+use Rattle.lh_emit_body.specs.Lines.{most_lines, naming, LinesAreEmitted, LinesHaveRoom, NamesGrow}
 use Rattle.lh_emit_source.specs.Origins.{source_by, IsOrigin}
 use Rattle.lh_emit.specs.Values.{ValuesNameTerms}
 use Rattle.lh_emit.specs.Parts.{KnowsParts}
@@ -26,7 +26,7 @@ pub use Rattle.lh_emit_body.specs.Bodies.{ArgumentsFirst}
 
 -- The instructions by ids are those of the definition; the terms and parts that have names there have values here, of these names; and each term that was emitted has only choices that fit.
 pub record IsEmitted (ns : List TermNode) (s : Source) (x : Emitter) (e : Emitted) : Type 0 where
-  pub room : HasRoom x.lines
+  pub room : LinesHaveRoom x.lines
   pub says : LinesAreEmitted s.args x.lines e
   pub arguments : ArgumentsFirst s.args x.lines.names
   pub terms : ValuesNameTerms ns x.lines.names x.values e
@@ -43,7 +43,7 @@ pub record CanNeed (ns : List TermNode) (o : Origin) (x : Emitter) (t : TermId) 
   pub origin : IsOrigin naming o
   pub is : IsEmitted ns (source_by name naming o.flat.now) x emitted
   pub within : IsIn ns t
-  pub given : IsGiven (source_by name naming o.flat.now) (tree_at (trees ns) t)
+  pub given : TermIsGiven (source_by name naming o.flat.now) (tree_at (trees ns) t)
 
 -- the entity after need of a term, whose value is this
 pub record IsNeeded (ms : List TermNode) (s : Source) (x : Tree) (e : Emitted) (y : Emitter) (v : ValueId) : Type 0 where
@@ -54,7 +54,7 @@ pub record IsNeeded (ms : List TermNode) (s : Source) (x : Tree) (e : Emitted) (
 
 abbrev pub NeedsTerm : List TermNode → Origin → Emitter → TermId → List TermNode → Emitter → ValueId → Type 0
 NeedsTerm ns o x t ms y v =
-    (name : UnitName) (f : Naming) (e : Emitted) → IsOrigin f o → IsEmitted ns (source_by name f o.flat.now) x e → IsGiven (source_by name f o.flat.now) (tree_at (trees ns) t) →
+    (name : UnitName) (f : Naming) (e : Emitted) → IsOrigin f o → IsEmitted ns (source_by name f o.flat.now) x e → TermIsGiven (source_by name f o.flat.now) (tree_at (trees ns) t) →
     IsNeeded ms (source_by name f o.flat.now) (tree_at (trees ns) t) e y v
 
 -- a choice of the term has an array that is no type, or the entity would be too long
@@ -65,7 +65,7 @@ IsTooLarge s x e = (choices_fit x ≡ false) ⊎ (max_lines < length (need s x e
 abbrev pub NeedsNot : List TermNode → Origin → Emitter → TermId → EmitFault → Type 0
 NeedsNot ns o x t fault.OutOfMemory = Unit {0}
 NeedsNot ns o x t fault.EntityTooLarge =
-    (name : UnitName) (f : Naming) (e : Emitted) → IsOrigin f o → IsEmitted ns (source_by name f o.flat.now) x e → IsGiven (source_by name f o.flat.now) (tree_at (trees ns) t) →
+    (name : UnitName) (f : Naming) (e : Emitted) → IsOrigin f o → IsEmitted ns (source_by name f o.flat.now) x e → TermIsGiven (source_by name f o.flat.now) (tree_at (trees ns) t) →
     IsTooLarge (source_by name f o.flat.now) (tree_at (trees ns) t) e
 
 -- ---- need of the present value of a part

@@ -22,7 +22,7 @@ use Rattle.lh_emit.specs.declared.making.TermForm.{TermForm}
 use Rattle.lh_emit.specs.declared.making.TermForm.TheVariants.{Scalar, Probe, Joined}
 
 -- the ids of the terms that a term is made of; a choice has its array
-pub record AreMade (ns ms : List TermNode) (t : TermId) (xs : List TermId) : Type 0 where
+pub record AreOperandTerms (ns ms : List TermNode) (t : TermId) (xs : List TermId) : Type 0 where
   pub within : AreIn ms xs
   pub made : trees_at ms xs ≡ made_of (tree_at (trees ns) t)
   pub pair : has_pair (tree_at (trees ns) t) ≡ true
@@ -50,7 +50,7 @@ parts_in (array_value vs) = parts_of vs
 parts_in (tuple_value vs) = parts_of vs
 
 -- the term is the value of this part, which is of a data type
-pub record IsProbed (t : Tree) (p : Part) : Type 0 where
+pub record TermIsProbed (t : Tree) (p : Part) : Type 0 where
   pub is : (t ≡ past_of p) ⊎ (t ≡ now_of p)
   pub is_data : IsData p.ty
 
@@ -68,7 +68,7 @@ pub record AreChosen (c f t : Tree) (ms : List TermNode) (xs : List TermId) : Ty
 -- what stands in the arena of what a term is made of
 abbrev pub IsMadeBy : List TermNode → TermId → Needs → Type 0
 IsMadeBy ns t (Parts vs) = (d : Datum) × (tree_at (trees ns) t ≡ constant d) × (vs ≡ parts_in d) × FitsTerm d
-IsMadeBy ns t (Terms xs) = AreMade ns ns t xs
+IsMadeBy ns t (Terms xs) = AreOperandTerms ns ns t xs
 IsMadeBy ns t (Chosen c f g) =
     IsIn ns c × IsIn ns f × IsIn ns g × (tree_at (trees ns) t ≡ choice_of (tree_at (trees ns) c) (tree_at (trees ns) f) (tree_at (trees ns) g)) × IsTyped (tree_at (trees ns) t)
 

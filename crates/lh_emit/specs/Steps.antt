@@ -6,7 +6,7 @@ use Rattle.lh_unit.specs.Naming.{value_text}
 use Rattle.lh_unit.specs.Within.{Each}
 use Rattle.lh_unit.specs.declared.inst.ValueId.{ValueId}
 use Rattle.lh_emit_def.specs.Emitted.{PartStep, Source, Emitted, gives, next_name, typed}
-use Rattle.lh_emit_body.specs.Lines.{naming, most_lines, LinesAreEmitted, HasRoom, NamesGrow}
+use Rattle.lh_emit_body.specs.Lines.{naming, most_lines, LinesAreEmitted, LinesHaveRoom, NamesGrow}
 use Rattle.lh_emit_source.specs.Origins.{AreStepsOf}
 use Rattle.lh_emit_body.specs.declared.lines.Lines.{Lines}
 use Rattle.lh_emit_body.specs.declared.lines.EmitFault.{EmitFault}
@@ -37,7 +37,7 @@ pub record StillWalks (s : Source) (n : List ℕ) (xs : List PartStep) (e : Emit
 
 -- Steps were taken from a value on, the last of which gives v; these are left.
 pub record Walks (all : List RouteStep) (old : Lines) (from : ValueId) (now : Lines) (v : ValueId) (left : List RouteStep) : Type 0 where
-  pub room : HasRoom now
+  pub room : LinesHaveRoom now
   pub within : v.0 < length now.names
   pub grows : NamesGrow old.names now.names
   pub walks : (s : Source) (e : Emitted) (xs : List PartStep) → LinesAreEmitted s.args old e → AreStepsOf xs all → StillWalks s (value_text (naming old.names) from) xs e now v left

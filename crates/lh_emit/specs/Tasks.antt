@@ -63,10 +63,10 @@ abbrev pub HasName : Emitted → Tree → Type 0
 HasName e t = (n : List ℕ) × (e.terms t ≡ Some n)
 
 -- where the turn of an instruction comes, the terms that it is made of were emitted
-abbrev pub AreReady : Source → List Step → Emitted → Type 0
-AreReady s [] e = Unit {0}
-AreReady s (need_of t ∷ more) e = AreReady s more (need s t e)
-AreReady s (make_of t ∷ more) e = Each (HasName e) (made_of t) × AreReady s more (makes s t e)
+abbrev pub TermsAreReady : Source → List Step → Emitted → Type 0
+TermsAreReady s [] e = Unit {0}
+TermsAreReady s (need_of t ∷ more) e = TermsAreReady s more (need s t e)
+TermsAreReady s (make_of t ∷ more) e = Each (HasName e) (made_of t) × TermsAreReady s more (makes s t e)
 
 -- ---- sizes
 

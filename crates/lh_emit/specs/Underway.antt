@@ -12,7 +12,7 @@ use Rattle.lh_term.specs.declared.term.TermNode.{TermNode}
 use Rattle.lh_emit_def.specs.Emitted.{Source, Emitted, gives_term, term_name, part_name, need_part}
 use Rattle.lh_emit_def.specs.Needs.{need}
 use Rattle.lh_emit_def.specs.Entities.{max_lines, choices_fit}
-use Rattle.lh_emit_def.specs.Ways.{IsGiven, IsReached}
+use Rattle.lh_emit_def.specs.Ways.{TermIsGiven, IsReached}
 use Rattle.lh_emit_body.specs.Lines.{naming, values_alone, NamesGrow}
 use Rattle.lh_emit_source.specs.Origins.{IsSource, args_of}
 use Rattle.lh_emit.specs.Parts.{part_in}
@@ -20,7 +20,7 @@ use Rattle.lh_emit.specs.Whole.{is_whole}
 use Rattle.lh_types.specs.Types.{IsLimited}
 use Rattle.lh_unit.specs.declared.inst.Arg.{Arg}
 use Rattle.lh_emit.specs.Emitting.{IsEmitted}
-use Rattle.lh_emit.specs.Tasks.{made_of, makes, has_pair, Step, need_of, make_of, takes, HasName, AreReady, steps_size}
+use Rattle.lh_emit.specs.Tasks.{made_of, makes, has_pair, Step, need_of, make_of, takes, HasName, TermsAreReady, steps_size}
 use Rattle.lh_emit.specs.declared.emitter.Emitter.{Emitter}
 use Rattle.lh_emit_body.specs.declared.lines.EmitFault.{EmitFault}
 use Rattle.lh_emit_body.specs.declared.lines.EmitFault.TheVariants as fault
@@ -38,13 +38,13 @@ pub record CanTakePart (ns : List TermNode) (o : Origin) (x : Emitter) (p : Part
   pub is : IsEmitted ns source x emitted
   pub given : IsReached source p
 
-pub record TakesPart (ns : List TermNode) (s : Source) (p : Part) (e : Emitted) (y : Emitter) (v : ValueId) : Type 0 where
+pub record EmitsPart (ns : List TermNode) (s : Source) (p : Part) (e : Emitted) (y : Emitter) (v : ValueId) : Type 0 where
   pub is : IsEmitted ns s y (need_part s p e)
   pub name : value_text (naming y.lines.names) v ≡ part_name (need_part s p e) p
   pub within : v.0 < length y.lines.names
 
 abbrev pub GivesPart : List TermNode → Origin → Emitter → Part → Emitter → ValueId → Type 0
-GivesPart ns o x p y v = (s : Source) (e : Emitted) → IsSource o s → IsEmitted ns s x e → IsReached s p → TakesPart ns s p e y v
+GivesPart ns o x p y v = (s : Source) (e : Emitted) → IsSource o s → IsEmitted ns s x e → IsReached s p → EmitsPart ns s p e y v
 
 abbrev pub GivesNoPart : List TermNode → Origin → Emitter → Part → EmitFault → Type 0
 GivesNoPart ns o x p fault.OutOfMemory = Unit {0}
@@ -89,7 +89,7 @@ tops (x ∷ xs) = tops xs ++ x ∷ []
 -- the term of a task is of the arena, typed, and its parts are reached
 pub record IsTask (ns : List TermNode) (s : Source) (x : Task) : Type 0 where
   pub is_in : IsIn ns (term_of x)
-  pub given : IsGiven s (tree_at (trees ns) (term_of x))
+  pub given : TermIsGiven s (tree_at (trees ns) (term_of x))
 
 abbrev pub FitsTask : List TermNode → Task → Type 0
 FitsTask ns x = choices_fit (tree_at (trees ns) (term_of x)) ≡ true
@@ -97,7 +97,7 @@ FitsTask ns x = choices_fit (tree_at (trees ns) (term_of x)) ≡ true
 -- an entity under construction, and what is still to be done, in the order of its turn
 pub record IsUnderway (ns : List TermNode) (s : Source) (x : Emitter) (left : List Task) (e : Emitted) : Type 0 where
   pub is : IsEmitted ns s x e
-  pub ready : AreReady s (steps_at ns left) e
+  pub ready : TermsAreReady s (steps_at ns left) e
   pub given : Each (IsTask ns s) left
 
 pub record CanGo (ns : List TermNode) (o : Origin) (x : Emitter) (left : List Task) : Type 0 where
@@ -120,14 +120,14 @@ Goes ns o x left ms y rest = (s : Source) (e : Emitted) → IsSource o s → IsU
 abbrev pub IsTooMuch : List TermNode → Source → List Task → Emitted → Type 0
 IsTooMuch ns s left e = (Each (FitsTask ns) left → ⊥) ⊎ (max_lines < length (takes s (steps_at ns left) e).lines)
 
-abbrev pub GoesNot : List TermNode → Origin → Emitter → List Task → EmitFault → Type 0
-GoesNot ns o x left fault.OutOfMemory = Unit {0}
-GoesNot ns o x left fault.EntityTooLarge = (s : Source) (e : Emitted) → IsSource o s → IsUnderway ns s x left e → IsTooMuch ns s left e
+abbrev pub EmitFails : List TermNode → Origin → Emitter → List Task → EmitFault → Type 0
+EmitFails ns o x left fault.OutOfMemory = Unit {0}
+EmitFails ns o x left fault.EntityTooLarge = (s : Source) (e : Emitted) → IsSource o s → IsUnderway ns s x left e → IsTooMuch ns s left e
 
 -- the work goes on, and less is left; or there is a cause
 abbrev pub GoesOr : List TermNode → Origin → Emitter → List Task → List TermNode → Emitter → List Task → Result (Unit {0}) EmitFault → Type 0
 GoesOr ns o x left ms y rest (Ok u) = NamesGrow x.lines.names y.lines.names × Goes ns o x left ms y rest × (steps_size (steps_at ms rest) < steps_size (steps_at ns left))
-GoesOr ns o x left ms y rest (Err f) = GoesNot ns o x left f
+GoesOr ns o x left ms y rest (Err f) = EmitFails ns o x left f
 
 -- ---- one term
 
@@ -135,7 +135,7 @@ GoesOr ns o x left ms y rest (Err f) = GoesNot ns o x left f
 pub record IsReady (ns : List TermNode) (s : Source) (x : Emitter) (t : TermId) (e : Emitted) : Type 0 where
   pub is : IsEmitted ns s x e
   pub is_in : IsIn ns t
-  pub given : IsGiven s (tree_at (trees ns) t)
+  pub given : TermIsGiven s (tree_at (trees ns) t)
   pub made : Each (HasName e) (made_of (tree_at (trees ns) t))
 
 pub record CanMake (ns : List TermNode) (o : Origin) (x : Emitter) (t : TermId) : Type 0 where
@@ -145,7 +145,7 @@ pub record CanMake (ns : List TermNode) (o : Origin) (x : Emitter) (t : TermId) 
   pub is : IsReady ns source x t emitted
 
 -- the instruction that gives a term, in the entity after need of its part
-pub record IsInstOf (ns : List TermNode) (s : Source) (t : TermId) (e : Emitted) (ms : List TermNode) (y : Emitter) (i : Inst) : Type 0 where
+pub record IsInstOfTerm (ns : List TermNode) (s : Source) (t : TermId) (e : Emitted) (ms : List TermNode) (y : Emitter) (i : Inst) : Type 0 where
   pub emitted : Emitted
   pub is : IsEmitted ms s y emitted
   pub makes : makes s (tree_at (trees ns) t) e ≡ gives_term s (tree_at (trees ns) t) (inst_text (naming y.lines.names) i) emitted
@@ -153,14 +153,14 @@ pub record IsInstOf (ns : List TermNode) (s : Source) (t : TermId) (e : Emitted)
   pub fits : choices_fit (tree_at (trees ns) t) ≡ true
 
 abbrev pub GivesInst : List TermNode → Origin → Emitter → TermId → List TermNode → Emitter → Inst → Type 0
-GivesInst ns o x t ms y i = (s : Source) (e : Emitted) → IsSource o s → IsReady ns s x t e → IsInstOf ns s t e ms y i
+GivesInst ns o x t ms y i = (s : Source) (e : Emitted) → IsSource o s → IsReady ns s x t e → IsInstOfTerm ns s t e ms y i
 
 -- the entity after the instruction
-pub record IsMade (ns : List TermNode) (s : Source) (t : TermId) (e : Emitted) (ms : List TermNode) (y : Emitter) : Type 0 where
+pub record TermIsMade (ns : List TermNode) (s : Source) (t : TermId) (e : Emitted) (ms : List TermNode) (y : Emitter) : Type 0 where
   pub is : IsEmitted ms s y (makes s (tree_at (trees ns) t) e)
 
 abbrev pub MakesTerm : List TermNode → Origin → Emitter → TermId → List TermNode → Emitter → Type 0
-MakesTerm ns o x t ms y = (s : Source) (e : Emitted) → IsSource o s → IsReady ns s x t e → IsMade ns s t e ms y
+MakesTerm ns o x t ms y = (s : Source) (e : Emitted) → IsSource o s → IsReady ns s x t e → TermIsMade ns s t e ms y
 
 abbrev pub IsTooMuchToMake : Source → Tree → Emitted → Type 0
 IsTooMuchToMake s t e = (choices_fit t ≡ false) ⊎ (max_lines < length (makes s t e).lines)
@@ -193,17 +193,17 @@ pub record CanTakeTerm (ns : List TermNode) (o : Origin) (x : Emitter) (t : Term
   pub origin : IsSource o source
   pub is : IsEmitted ns source x emitted
   pub within : IsIn ns t
-  pub given : IsGiven source (tree_at (trees ns) t)
+  pub given : TermIsGiven source (tree_at (trees ns) t)
 
-abbrev pub GivesTerm : List TermNode → Origin → Emitter → TermId → List TermNode → Emitter → ValueId → Type 0
-GivesTerm ns o x t ms y v = (s : Source) (e : Emitted) → IsSource o s → IsEmitted ns s x e → IsGiven s (tree_at (trees ns) t) → HasTerm ns s t e ms y v
+abbrev pub EmitsTerm : List TermNode → Origin → Emitter → TermId → List TermNode → Emitter → ValueId → Type 0
+EmitsTerm ns o x t ms y v = (s : Source) (e : Emitted) → IsSource o s → IsEmitted ns s x e → TermIsGiven s (tree_at (trees ns) t) → HasTerm ns s t e ms y v
 
 abbrev pub GivesNoTerm : List TermNode → Origin → Emitter → TermId → EmitFault → Type 0
 GivesNoTerm ns o x t fault.OutOfMemory = Unit {0}
 GivesNoTerm ns o x t fault.EntityTooLarge =
-    (s : Source) (e : Emitted) → IsSource o s → IsEmitted ns s x e → IsGiven s (tree_at (trees ns) t) →
+    (s : Source) (e : Emitted) → IsSource o s → IsEmitted ns s x e → TermIsGiven s (tree_at (trees ns) t) →
     (choices_fit (tree_at (trees ns) t) ≡ false) ⊎ (max_lines < length (need s (tree_at (trees ns) t) e).lines)
 
 abbrev pub TakesTermOr : List TermNode → Origin → Emitter → TermId → List TermNode → Emitter → Result ValueId EmitFault → Type 0
-TakesTermOr ns o x t ms y (Ok v) = NamesGrow x.lines.names y.lines.names × GivesTerm ns o x t ms y v
+TakesTermOr ns o x t ms y (Ok v) = NamesGrow x.lines.names y.lines.names × EmitsTerm ns o x t ms y v
 TakesTermOr ns o x t ms y (Err f) = GivesNoTerm ns o x t f

@@ -16,8 +16,8 @@ abbrev pub value_in : Values → TermId → Option ValueId
 value_in vs x = slice_index_or vs.items.items x.0 None
 
 -- this term has this value, and each other has what it had
-abbrev pub Keeps : Values → TermId → ValueId → Values → Type 0
-Keeps old t v new = (x : TermId) → value_in new x ≡ (if nat_eq x.0 t.0 then Some v else value_in old x)
+abbrev pub KeepsOtherValues : Values → TermId → ValueId → Values → Type 0
+KeepsOtherValues old t v new = (x : TermId) → value_in new x ≡ (if nat_eq x.0 t.0 then Some v else value_in old x)
 
 -- The values are the names of terms: each value names its term, and no other term has a name.
 pub record ValuesNameTerms (ns : List TermNode) (names : List (List ℕ)) (vs : Values) (e : Emitted) : Type 0 where

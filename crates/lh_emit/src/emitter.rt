@@ -5,7 +5,7 @@ ghost use Rattle.lh_types.specs.Types.{IsLimited};
 ghost use Rattle.lh_term.specs.Types.{type_of};
 ghost use Rattle.lh_term.specs.Arena.{trees, tree_at, IsIn, AreIn, Grows};
 ghost use Rattle.lh_unit.specs.Within.{InstWithin};
-ghost use Rattle.lh_emit_body.specs.Lines.{HasRoom, values_alone, NamesGrow};
+ghost use Rattle.lh_emit_body.specs.Lines.{LinesHaveRoom, values_alone, NamesGrow};
 ghost use Rattle.lh_emit.specs.Making as making;
 ghost use Rattle.lh_emit.specs.Underway.{CanTakePart, TakesPartOr, Looks, IsNewPart, CanMake, GivesInstOr, MakesOr, CanGo, GoesOr, CanTakeTerm, TakesTermOr, tops};
 ghost use Rattle.lh_emit.specs.Operations.{HaveValues, IsOperandsOn};
@@ -116,7 +116,7 @@ impl Emitter {
 
     /// Adds an instruction that gives no value.
     pub fn put(&mut self, inst: Inst) -> Result<(), EmitFault>
-        requires room { HasRoom self.old.lines }
+        requires room { LinesHaveRoom self.old.lines }
         requires named { InstWithin (values_alone (length self.old.lines.names)) inst }
         ensures { PutsInst self.old inst self.new result }
     {
@@ -227,7 +227,7 @@ impl Emitter {
         part: &Part,
     ) -> Result<Inst, EmitFault>
         requires can { CanMake terms.now origin.now self.old _t }
-        requires probed { making.IsProbed (tree_at (trees terms.now) _t) part.now }
+        requires probed { making.TermIsProbed (tree_at (trees terms.now) _t) part.now }
         ensures { GivesInstOr terms.now origin.now self.old _t terms.now self.new result }
     {
         let value = self.take_part(alloc, origin, terms, part)?;

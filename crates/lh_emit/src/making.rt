@@ -9,7 +9,7 @@ ghost use Rattle.lh_term.specs.Types.{FitsTerm, IsTyped, type_of};
 ghost use Rattle.lh_term.specs.Arena.{trees, tree_at, IsIn, Grows};
 ghost use Rattle.lh_unit.specs.Within.{Each};
 ghost use Rattle.lh_emit.specs.Making as making;
-ghost use Rattle.lh_emit.specs.Making.{AreMade, HasNoPair, parts_in, IsProbed, AreConstants, AreChosen, NoPairOf, IsMadeBy};
+ghost use Rattle.lh_emit.specs.Making.{AreOperandTerms, HasNoPair, parts_in, TermIsProbed, AreConstants, AreChosen, NoPairOf, IsMadeBy};
 
 use lh_emit_body::lines::EmitFault;
 use lh_term::part::Part;
@@ -48,7 +48,7 @@ pub fn form_of(terms: &Terms, t: TermId) -> TermForm
 pub fn probed(terms: &Terms, t: TermId) -> Result<Part, NoMemory>
     requires is_in { IsIn terms.now t }
     requires form { making.form_of (tree_at (trees terms.now) t) ≡ TermForm.Probe }
-    ensures { IfOk result (λ p. IsProbed (tree_at (trees terms.now) t) p) }
+    ensures { IfOk result (λ p. TermIsProbed (tree_at (trees terms.now) t) p) }
 {
     match terms.view(t) {
         Term::Past(part) | Term::Now(part) => part.copy(),
@@ -73,7 +73,7 @@ pub fn scalar(terms: &Terms, t: TermId) -> Result<Val, NoMemory>
 pub fn made_of(alloc: Global, terms: &mut Terms, t: TermId) -> Result<TermList, EmitFault>
     requires { IsIn terms.old t }
     ensures kept { Grows terms.old terms.new }
-    ensures made { IfOk result (λ list. AreMade terms.old terms.new t list) }
+    ensures made { IfOk result (λ list. AreOperandTerms terms.old terms.new t list) }
     ensures cause { IfErr result (HasNoPair terms.old t) }
 {
     match needs_of(alloc, terms, t)? {

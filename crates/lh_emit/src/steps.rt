@@ -2,7 +2,7 @@
 ghost use Rattle.std.specs.Prelude.{◌≡◌, ◌<◌, ◌∷◌, [], length, IfOk};
 ghost use Rattle.std.specs.Result.{IfErr};
 ghost use Rattle.lh_types.specs.Types.{IsData, signal_type};
-ghost use Rattle.lh_emit_body.specs.Lines.{HasRoom};
+ghost use Rattle.lh_emit_body.specs.Lines.{LinesHaveRoom};
 ghost use Rattle.lh_emit.specs.Operands.{with_type};
 ghost use Rattle.lh_emit.specs.Steps.{AllData, Walks, WalksNot};
 
@@ -20,7 +20,7 @@ pub fn take_steps(
     from: ValueId,
     route: &[RouteStep],
 ) -> Result<ValueId, EmitFault>
-    requires room { HasRoom lines.old }
+    requires room { LinesHaveRoom lines.old }
     requires within { from.0 < length lines.old.names }
     requires types { AllData route.now }
     ensures walks { IfOk result (λ v. Walks route.now lines.old from lines.new v []) }
@@ -43,7 +43,7 @@ pub(crate) fn take_route(
     from: ValueId,
     route: Route,
 ) -> Result<ValueId, EmitFault>
-    requires room { HasRoom lines.old }
+    requires room { LinesHaveRoom lines.old }
     requires within { from.0 < length lines.old.names }
     requires types { AllData route }
     ensures walks { IfOk result (λ v. Walks route lines.old from lines.new v []) }

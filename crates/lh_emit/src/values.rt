@@ -1,7 +1,7 @@
 //! The values of the terms that were emitted.
 ghost use Rattle.std.specs.Prelude.{◌≡◌, ◌<◌, ◌++◌, ℕ, None, [], ◌∷◌, length, slice_index_or, IfOk, OnOk};
 ghost use Rattle.lh_term.specs.declared.term.TermId.{TermId as Id};
-ghost use Rattle.lh_emit.specs.Values.{value_in, Keeps};
+ghost use Rattle.lh_emit.specs.Values.{value_in, KeepsOtherValues};
 
 use lh_term::term::TermId;
 use lh_types::memory::NoMemory;
@@ -38,7 +38,7 @@ impl Values {
 
     /// Keeps the value of a term.
     pub fn keep(&mut self, term: TermId, value: ValueId) -> Result<(), NoMemory>
-        ensures { OnOk result (Keeps self.old term value self.new) }
+        ensures { OnOk result (KeepsOtherValues self.old term value self.new) }
     {
         make_room(&mut self.items, term.0)?;
         self.items[term.0] = Some(value);

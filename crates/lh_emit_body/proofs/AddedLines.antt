@@ -19,7 +19,7 @@ use Rattle.lh_unit.proofs.Texts.{Agree, maybe-same, inst-same}
 use Rattle.lh_emit_def.specs.Names.{value_name, free_number}
 use Rattle.lh_emit_def.specs.Emitted.{Source, Emitted, gives, puts, next_name}
 use Rattle.lh_emit_body.specs.Fresh.{IsFresh, PassesOver}
-use Rattle.lh_emit_body.specs.Lines.{most_lines, naming, line_text, values_alone, IsNamedLine, LinesAreEmitted, HasRoom, BeginsWith, AddsArg, arg_names, result_name, NamesGrow, NamesNext, with_line, GivesValue, GivesOne, PutsOne}
+use Rattle.lh_emit_body.specs.Lines.{most_lines, naming, line_text, values_alone, IsNamedLine, LinesAreEmitted, LinesHaveRoom, BeginsWith, AddsBodyArg, arg_names, result_name, NamesGrow, NamesNext, with_line, GivesValue, GivesOne, PutsOne}
 use Rattle.lh_emit_body.specs.declared.lines.BodyLine.{BodyLine}
 use Rattle.lh_emit_body.specs.declared.lines.EmitFault.{EmitFault}
 use Rattle.lh_emit_body.specs.declared.lines.EmitFault.TheVariants as fault
@@ -72,7 +72,7 @@ room-more : (k c n : ℕ) → n ≤ k * (c + 1) → n ≤ k * (c + 1 + 1)
 room-more k c n h = let q : k * (c + 1 + 1) ≡ k * (c + 1) + k = omega arith in omega (arith, q, h)
 
 -- the number from which the next name is sought
-pub room-seek : (ls : Lines) → HasRoom ls → ls.fresh.next + ls.fresh.count < 2 ^ 63
+pub room-seek : (ls : Lines) → LinesHaveRoom ls → ls.fresh.next + ls.fresh.count < 2 ^ 63
 unfolding most_lines
 room-seek ls h =
     let few : ls.fresh.count < 4294967296 = h.few in
@@ -85,7 +85,7 @@ short-next n b h d = grind (arith, h, d)
 below-most : (n b : ℕ) → n ≤ b → (n ≡ b → ⊥) → n < b
 below-most n b h d = grind (arith, h, d)
 
-pub has-few : (ls : Lines) → HasRoom ls → (length ls.lines ≡ 65536 → ⊥) → length ls.lines < most_lines
+pub has-few : (ls : Lines) → LinesHaveRoom ls → (length ls.lines ≡ 65536 → ⊥) → length ls.lines < most_lines
 unfolding most_lines
 has-few ls h d = below-most (length ls.lines) 65536 h.short d
 
@@ -112,7 +112,7 @@ gives-nothing old new i (Err fault.OutOfMemory) e = tt
 gives-nothing old new i (Err fault.EntityTooLarge) e = absurd cc
 
 -- no instructions
-pub no-room : (ls : Lines) → ls.fresh.count ≡ 0 → ls.fresh.next ≡ 0 → ls.lines ≡ [] → HasRoom ls
+pub no-room : (ls : Lines) → ls.fresh.count ≡ 0 → ls.fresh.next ≡ 0 → ls.lines ≡ [] → LinesHaveRoom ls
 no-room ls c n l = record {
   few = rw c (omega arith);
   room = rw n (omega arith);
@@ -124,9 +124,9 @@ pub begins-none : (ls : Lines) → IsFresh [] ls.fresh → ls.fresh.next ≡ 0 �
 begins-none ls f n l m = record { fresh = f; next = n; lines = l; names = m }
 
 -- one more argument
-pub adds-arg : (old new : Lines) (n : List ℕ) → HasRoom old → old.fresh.count < 4294967295 → PassesOver n old.fresh new.fresh → new.fresh.next ≡ old.fresh.next → new.fresh.count ≡ old.fresh.count + 1
+pub adds-arg : (old new : Lines) (n : List ℕ) → LinesHaveRoom old → old.fresh.count < 4294967295 → PassesOver n old.fresh new.fresh → new.fresh.next ≡ old.fresh.next → new.fresh.count ≡ old.fresh.count + 1
     →
-    new.names ≡ old.names ++ n ∷ [] → new.lines ≡ old.lines → AddsArg n old new
+    new.names ≡ old.names ++ n ∷ [] → new.lines ≡ old.lines → AddsBodyArg n old new
 adds-arg old new n h few passed next count nn nl = (
   λ args a e b. record {
     fresh = passed args a e b.fresh;
@@ -146,7 +146,7 @@ adds-arg old new n h few passed next count nn nl = (
 
 -- ---- one more
 
-module _ (old new : Lines) (i : Inst) (h : HasRoom old) (w : InstWithin (values_alone (length old.names)) i) (d : length old.lines ≡ most_lines → ⊥) where
+module _ (old new : Lines) (i : Inst) (h : LinesHaveRoom old) (w : InstWithin (values_alone (length old.names)) i) (d : length old.lines ≡ most_lines → ⊥) where
   pub gives-one : (v : ValueId) (n : List ℕ) → v.0 ≡ length old.names → new.names ≡ old.names ++ n ∷ [] → new.lines ≡ old.lines ++ record { result = Some v; inst = i } ∷ [] →
       ((args : List ArgText) → IsFresh args old.fresh → n ≡ value_name (free_number args old.fresh.next)) →
       ((args : List ArgText) → IsFresh args old.fresh → new.fresh.next ≡ free_number args old.fresh.next + 1) →

@@ -26,7 +26,7 @@ naming names = record { unit_name = λ u. record { sigil = 64; name = [] }; valu
 abbrev pub line_text : List (List ℕ) → BodyLine → LineText
 line_text names l = record { result = maybe_text (naming names) l.result; inst = inst_text (naming names) l.inst }
 
--- so many values, and neither units nor labels
+-- this many values, and neither units nor labels
 abbrev pub values_alone : ℕ → Sizes
 values_alone n = record { units = 0; values = n; labels = 0 }
 
@@ -54,7 +54,7 @@ pub record LinesAreEmitted (args : List ArgText) (ls : Lines) (e : Emitted) : Ty
   pub names : ls.names ≡ arg_names args ++ flat_map result_name e.lines
 
 -- there is room for what numbers and ids come next
-pub record HasRoom (ls : Lines) : Type 0 where
+pub record LinesHaveRoom (ls : Lines) : Type 0 where
   pub few : ls.fresh.count < 2 ^ 32
   pub room : ls.fresh.next ≤ length ls.lines * (ls.fresh.count + 1)
   pub short : length ls.lines ≤ most_lines
@@ -68,8 +68,8 @@ pub record BeginsWith (args : List ArgText) (ls : Lines) : Type 0 where
   pub names : ls.names ≡ arg_names args
 
 -- with one more argument of this name
-abbrev pub AddsArg : List ℕ → Lines → Lines → Type 0
-AddsArg n old new = ((args : List ArgText) (a : ArgText) → a.name ≡ n → BeginsWith args old → BeginsWith (args ++ a ∷ []) new) × HasRoom new
+abbrev pub AddsBodyArg : List ℕ → Lines → Lines → Type 0
+AddsBodyArg n old new = ((args : List ArgText) (a : ArgText) → a.name ≡ n → BeginsWith args old → BeginsWith (args ++ a ∷ []) new) × LinesHaveRoom new
 
 -- The next value has its id and its name; no instruction gives it yet.
 pub record NamesNext (old new : Lines) (v : ValueId) : Type 0 where
@@ -95,7 +95,7 @@ NamesGrow old new = (more : List (List ℕ)) × (new ≡ old ++ more)
 abbrev pub GivesValue : Lines → Inst → Lines → ValueId → Type 0
 GivesValue old i new v =
     ((s : Source) (e : Emitted) → LinesAreEmitted s.args old e → LinesAreEmitted s.args new (gives s (inst_text (naming old.names) i) e) × (value_text (naming new.names) v ≡ next_name s e))
-    × (v.0 < length new.names) × NamesGrow old.names new.names × HasRoom new
+    × (v.0 < length new.names) × NamesGrow old.names new.names × LinesHaveRoom new
 
 -- One more instruction, which gives a value. There is none where the entity would be too large.
 abbrev pub GivesOne : Lines → Inst → Lines → Result ValueId EmitFault → Type 0
@@ -107,6 +107,6 @@ GivesOne old i new (Err fault.OutOfMemory) = Unit {0}
 abbrev pub PutsOne : Lines → Inst → Lines → Result (Unit {0}) EmitFault → Type 0
 PutsOne old i new (Ok u) =
     ((s : Source) (e : Emitted) → LinesAreEmitted s.args old e → LinesAreEmitted s.args new (puts (inst_text (naming old.names) i) e))
-    × (new.names ≡ old.names) × HasRoom new
+    × (new.names ≡ old.names) × LinesHaveRoom new
 PutsOne old i new (Err fault.EntityTooLarge) = length old.lines ≡ most_lines
 PutsOne old i new (Err fault.OutOfMemory) = Unit {0}

@@ -1,7 +1,7 @@
 //! The instructions of an entity under construction, with the names of their values.
 ghost use Rattle.std.specs.Prelude.{◌≡◌, ◌<◌, [], length, IfOk, OnOk};
 ghost use Rattle.lh_unit.specs.Within.{InstWithin};
-ghost use Rattle.lh_emit_body.specs.Lines.{most_lines, values_alone, HasRoom, BeginsWith, AddsArg, NamesNext, with_line, GivesValue, GivesOne, PutsOne};
+ghost use Rattle.lh_emit_body.specs.Lines.{most_lines, values_alone, LinesHaveRoom, BeginsWith, AddsBodyArg, NamesNext, with_line, GivesValue, GivesOne, PutsOne};
 
 use crate::names::Fresh;
 use lh_types::list::ListOf;
@@ -60,7 +60,7 @@ pub struct Lines {
 impl Lines {
     /// No instructions and no arguments.
     pub fn new(alloc: Global) -> Lines
-        ensures room { HasRoom result }
+        ensures room { LinesHaveRoom result }
         ensures begins { BeginsWith [] result }
     {
         Lines {
@@ -72,8 +72,8 @@ impl Lines {
 
     /// Adds an argument of this name, which gets the next id; no instruction stands yet.
     pub fn add_arg(&mut self, name: &Name) -> Result<(), NoMemory>
-        requires { HasRoom self.old }
-        ensures { OnOk result (AddsArg name.now self.old self.new) }
+        requires { LinesHaveRoom self.old }
+        ensures { OnOk result (AddsBodyArg name.now self.old self.new) }
     {
         // Arguments have numbers of 32 bits.
         if self.fresh.count() >= u32::MAX as usize {
@@ -87,7 +87,7 @@ impl Lines {
     /// Adds an instruction that gives a value, with the next name for it.
     #[tactic(none)]
     pub fn give(&mut self, inst: Inst) -> Result<ValueId, EmitFault>
-        requires room { HasRoom self.old }
+        requires room { LinesHaveRoom self.old }
         requires named { InstWithin (values_alone (length self.old.names)) inst }
         ensures { GivesOne self.old inst self.new result }
     {
@@ -99,7 +99,7 @@ impl Lines {
     }
 
     fn give_line(&mut self, inst: Inst) -> Result<ValueId, NoMemory>
-        requires room { HasRoom self.old }
+        requires room { LinesHaveRoom self.old }
         requires short { length self.old.lines < most_lines }
         requires named { InstWithin (values_alone (length self.old.names)) inst }
         ensures { IfOk result (λ value. GivesValue self.old inst self.new value) }
@@ -114,7 +114,7 @@ impl Lines {
 
     // The id of the next value, which gets its name.
     fn name_next(&mut self) -> Result<ValueId, NoMemory>
-        requires { HasRoom self.old }
+        requires { LinesHaveRoom self.old }
         ensures { IfOk result (λ value. NamesNext self.old self.new value) }
     {
         let value = next_id(self.names.len())?;
@@ -138,7 +138,7 @@ impl Lines {
     /// Adds an instruction that gives none.
     #[tactic(none)]
     pub fn put(&mut self, inst: Inst) -> Result<(), EmitFault>
-        requires room { HasRoom self.old }
+        requires room { LinesHaveRoom self.old }
         requires named { InstWithin (values_alone (length self.old.names)) inst }
         ensures { PutsOne self.old inst self.new result }
     {
@@ -150,7 +150,7 @@ impl Lines {
     }
 }
 
-/// The id of the value after so many; there is no memory for more than 2^32 of them.
+/// The id of the value after this many; there is no memory for more than 2^32 of them.
 fn next_id(count: usize) -> Result<ValueId, NoMemory>
     ensures { IfOk result (λ v. v.0 ≡ count) }
 {

@@ -28,7 +28,7 @@ use Rattle.lh_emit_def.specs.Emitted.{Emitted, puts, term_name, part_name, signa
 use Rattle.lh_emit_def.specs.Needs.{need}
 use Rattle.lh_emit_def.specs.Entities.{need_cond, cond_name, need_drive, emit_drive, emit_drives, emit_probes, choices_fit, drive_fits}
 use Rattle.lh_emit_def.specs.Reads.{range_in, reads, is_one, due_by, with_row, with_rows}
-use Rattle.lh_emit_def.specs.Ways.{IsReached, IsGiven, DriveIsGiven, WaitIsGiven}
+use Rattle.lh_emit_def.specs.Ways.{IsReached, TermIsGiven, DriveIsGiven, WaitIsGiven}
 use Rattle.lh_emit_def.proofs.ComputedTerms.{value}
 use Rattle.lh_emit_def.proofs.Induction.{IsNamed, IsNamedPart, Kept, kept-same}
 use Rattle.lh_emit_def.proofs.NeedLaws.{need-needed, part-needed}
@@ -113,7 +113,7 @@ module _ (f : Frame) (few : HasFewArgs f.unit) where
 
   module _ (w : Wish) (ts : List Bool) where
     -- need of a condition
-    pub cond-needed : (c : Tree) → IsGiven (source f few) c → choices_fit c ≡ true → (e : Emitted) → Inv f few w ts e →
+    pub cond-needed : (c : Tree) → TermIsGiven (source f few) c → choices_fit c ≡ true → (e : Emitted) → Inv f few w ts e →
         (Inv f few w ts (need_cond (source f few) c e)) × CondNamed (need_cond (source f few) c e) c × Kept e (need_cond (source f few) c e)
     cond-needed c g h e inv = at (is_bit 1 c) refl
       where

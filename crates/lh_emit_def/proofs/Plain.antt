@@ -9,14 +9,14 @@ use Rattle.lh_emit_def.specs.Given.{Drive, EdgeRowTree}
 use Rattle.lh_emit_def.specs.Emitted.{PartStep, Source, source_of, Emitted, gives, nothing_emitted, next_name, takes_steps, typed}
 use Rattle.lh_emit_def.specs.Entities.{comb, edge, once, emit_probes, drive_fits, row_fits}
 use Rattle.lh_emit_def.specs.Ways.{IsReached, WaitIsGiven, DriveIsGiven, RowIsGiven}
-use Rattle.lh_emit_def.specs.Laws.{IsEmitted, CombIsEntity, EdgeIsEntity, OnceIsEntity}
+use Rattle.lh_emit_def.specs.Laws.{IsEmittedKind, CombIsEntity, EdgeIsEntity, OnceIsEntity}
 use Rattle.lh_emit_def.proofs.KeptByRows.{DriveHas, KeepsRows, drives-kept, probes-kept, rows-kept}
 use Rattle.lh_emit_def.proofs.Whole.{within, given-rows}
 
 abbrev pub AllEmitted : List LineText → Type 0
-AllEmitted ls = Each (λ (l : LineText). IsEmitted l.inst) ls
+AllEmitted ls = Each (λ (l : LineText). IsEmittedKind l.inst) ls
 
-one-more : (ls : List LineText) (l : LineText) → AllEmitted ls → IsEmitted l.inst → AllEmitted (ls ++ l ∷ [])
+one-more : (ls : List LineText) (l : LineText) → AllEmitted ls → IsEmittedKind l.inst → AllEmitted (ls ++ l ∷ [])
 one-more [] l h k = (k, tt)
 one-more (x ∷ ls) l h k = (h.0, one-more ls l h.1 k)
 

@@ -17,7 +17,7 @@ use Rattle.lh_term.specs.declared.part.Part.{Part}
 use Rattle.lh_emit_def.specs.Emitted.{PartStep, source_of}
 use Rattle.lh_emit_def.specs.Ways.{part_by_step, part_by, StepsLead, IsReached}
 use Rattle.lh_term.specs.Parts.{whole_argument}
-use Rattle.lh_emit_def.specs.Reached.{Reached, as_argument, stepped_by, further, reached, steps_if, first_steps, steps_in, IsPartOf}
+use Rattle.lh_emit_def.specs.Reached.{Reached, as_argument, stepped_by, further, reached, steps_if, first_steps, steps_in, IsReachedPartOf}
 use Rattle.lh_region_def.specs.Known.{argument_part}
 
 -- ---- what is reached is reached by its steps
@@ -254,7 +254,7 @@ module _ (u : UnitText) where
   abbrev lines : List LineText
   lines = lines_of u.blocks
 
-  -- the name is reached with one more step, and not with so many
+  -- the name is reached with one more step, and not with this many
   record IsNew (k : ℕ) (n : List ℕ) : Type 0 where
     way : Reached
     before : reached k u n ≡ None
@@ -404,7 +404,7 @@ argument-steps u n r h = at (argument_part n 0 u.args) h
     at (Some p) k = ap (λ (z : Reached). z.steps) (sym (some_inj _ r k))
 
 -- Each part that has a name is reached by the steps that are found for it.
-pub part-reached : (u : UnitText) (n : List ℕ) (p : Part) → IsPartOf u n p → IsReached (source_of u (steps_in u)) p
+pub part-reached : (u : UnitText) (n : List ℕ) (p : Part) → IsReachedPartOf u n p → IsReached (source_of u (steps_in u)) p
 part-reached u n p h = at (first_steps (reached (length (lines_of u.blocks)) u) p (lines_of u.blocks)) refl
   where
     by : first_steps (reached (length (lines_of u.blocks)) u) p (lines_of u.blocks) ≡ None → (as_argument u n ≡ Some h.way) ⊎ Given n (lines_of u.blocks) → IsReached (source_of u (steps_in u)) p

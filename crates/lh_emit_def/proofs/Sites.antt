@@ -21,7 +21,7 @@ use Rattle.lh_term.specs.declared.part.Part.{Part}
 use Rattle.lh_emit_def.specs.Emitted.{PartStep, source_of, Emitted, nothing_emitted, name_if_whole, whole_name}
 use Rattle.lh_emit_def.specs.Entities.{entity_with, comb, edge, once, emit_probes, drive_fits, row_fits}
 use Rattle.lh_emit_def.specs.Ways.{IsReached}
-use Rattle.lh_emit_def.specs.Laws.{IsEmitted, IsRightEntity, CombIsRight, EdgeIsRight, OnceIsRight}
+use Rattle.lh_emit_def.specs.Laws.{IsEmittedKind, IsRightEntity, CombIsRight, EdgeIsRight, OnceIsRight}
 use Rattle.lh_emit_def.proofs.Arguments.{AreApart, are-apart, argument-named, defines-there}
 use Rattle.lh_emit_def.proofs.PassState.{Frame, HasFewArgs, source, Begins}
 use Rattle.lh_emit_def.proofs.Typed.{Named, UseRight, IsRight, AllRight}
@@ -73,7 +73,7 @@ module _ (u : UnitText) (ls : List LineText) (items : List ItemText) where
 
   -- ---- each fault
 
-  undefined-none : (i : InstText) → IsEmitted i → list_any (λ n. not (defines_value n entity)) (values_named i) ≡ false → is_undefined items entity i ≡ false
+  undefined-none : (i : InstText) → IsEmittedKind i → list_any (λ n. not (defines_value n entity)) (values_named i) ≡ false → is_undefined items entity i ≡ false
   undefined-none (const_text d) m a = ap (λ z. z || false || false) a
   undefined-none (pure_text o args) m a = ap (λ z. z || false || false) a
   undefined-none (prb_text s) m a = ap (λ z. z || false || false) a
@@ -81,7 +81,7 @@ module _ (u : UnitText) (ls : List LineText) (items : List ItemText) where
   undefined-none (reg_text to ts) m a = ap (λ z. z || false || false) a
   undefined-none _ m a = absurd m
 
-  kind-none : (i : InstText) → IsEmitted i → list_any (has_wrong_kind entity) (uses i) ≡ false → is_wrong_kind items entity i ≡ false
+  kind-none : (i : InstText) → IsEmittedKind i → list_any (has_wrong_kind entity) (uses i) ≡ false → is_wrong_kind items entity i ≡ false
   kind-none (const_text d) m a = ap (λ z. z || false || false) a
   kind-none (pure_text o args) m a = ap (λ z. z || false || false) a
   kind-none (prb_text s) m a = ap (λ z. z || false || false) a
@@ -89,7 +89,7 @@ module _ (u : UnitText) (ls : List LineText) (items : List ItemText) where
   kind-none (reg_text to ts) m a = ap (λ z. z || false || false) a
   kind-none _ m a = absurd m
 
-  type-none : (i : InstText) → IsEmitted i → list_any (has_no_kind entity) (uses i) ≡ false → types_fit entity i ≡ true → is_wrong_type items entity i ≡ false
+  type-none : (i : InstText) → IsEmittedKind i → list_any (has_no_kind entity) (uses i) ≡ false → types_fit entity i ≡ true → is_wrong_type items entity i ≡ false
   type-none (const_text d) m a t = λ j. a j || not (t j) || false
   type-none (pure_text o args) m a t = λ j. a j || not (t j) || false
   type-none (prb_text s) m a t = λ j. a j || not (t j) || false
@@ -97,7 +97,7 @@ module _ (u : UnitText) (ls : List LineText) (items : List ItemText) where
   type-none (reg_text to ts) m a t = λ j. a j || not (t j) || false
   type-none _ m a t = absurd m
 
-  place-none : (i : InstText) → IsEmitted i → not (is_allowed kind.Entity i) ≡ false
+  place-none : (i : InstText) → IsEmittedKind i → not (is_allowed kind.Entity i) ≡ false
   place-none (const_text d) m = refl
   place-none (pure_text o args) m = refl
   place-none (prb_text s) m = refl
@@ -105,7 +105,7 @@ module _ (u : UnitText) (ls : List LineText) (items : List ItemText) where
   place-none (reg_text to ts) m = refl
   place-none _ m = absurd m
 
-  phi-none : (p : InstPlaceText) (i : InstText) → IsEmitted i → phi_is_wrong entity p i ≡ false
+  phi-none : (p : InstPlaceText) (i : InstText) → IsEmittedKind i → phi_is_wrong entity p i ≡ false
   phi-none p (const_text d) m = refl
   phi-none p (pure_text o args) m = refl
   phi-none p (prb_text s) m = refl
@@ -113,7 +113,7 @@ module _ (u : UnitText) (ls : List LineText) (items : List ItemText) where
   phi-none p (reg_text to ts) m = refl
   phi-none p _ m = absurd m
 
-  arguments-none : (i : InstText) → IsEmitted i → arguments_differ items entity i ≡ false
+  arguments-none : (i : InstText) → IsEmittedKind i → arguments_differ items entity i ≡ false
   arguments-none (const_text d) m = refl
   arguments-none (pure_text o args) m = refl
   arguments-none (prb_text s) m = refl
@@ -126,7 +126,7 @@ module _ (u : UnitText) (ls : List LineText) (items : List ItemText) where
   not-both false p q = cc
 
   -- an instruction that is right has no fault at its place
-  none-at : (p : InstPlaceText) (rest : List LineText) → ls ≡ p.before ++ rest → IsEmitted p.line.inst → IsRight entity p.before p.line.inst → (k : FaultKind)
+  none-at : (p : InstPlaceText) (rest : List LineText) → ls ≡ p.before ++ rest → IsEmittedKind p.line.inst → IsRight entity p.before p.line.inst → (k : FaultKind)
       → HasFault items (record { unit = entity; place = p }) k → ⊥
   none-at p rest s m r undefined h = not-both _ h (undefined-none p.line.inst m (all-defined p.before rest s p.line.inst r))
   none-at p rest s m r wrong_kind h = not-both _ h (kind-none p.line.inst m (right-kinds p.before rest s p.line.inst r))
@@ -141,7 +141,7 @@ module _ (u : UnitText) (ls : List LineText) (items : List ItemText) where
   site p = record { unit = entity; place = p }
 
   -- none of the rest of its block has
-  none-in : (n : ℕ) (first : Bool) (b : BlockText) (before rest : List LineText) → ls ≡ before ++ rest → Each (λ (l : LineText). IsEmitted l.inst) rest → AllRight entity before rest →
+  none-in : (n : ℕ) (first : Bool) (b : BlockText) (before rest : List LineText) → ls ≡ before ++ rest → Each (λ (l : LineText). IsEmittedKind l.inst) rest → AllRight entity before rest →
       NoneHasFault items (map site (places_in n first b before rest))
   none-in n first b before [] s m r = tt
   none-in n first b before (l ∷ rest) s m r = (
@@ -149,7 +149,7 @@ module _ (u : UnitText) (ls : List LineText) (items : List ItemText) where
     none-in (n + 1) first b (before ++ l ∷ []) rest (s ∙ sym (append_assoc before (l ∷ []) rest)) m.1 r.1,
   )
 
-  pub none-has : Each (λ (l : LineText). IsEmitted l.inst) ls → AllRight entity [] ls → NoneHasFault items (map site (places entity))
+  pub none-has : Each (λ (l : LineText). IsEmittedKind l.inst) ls → AllRight entity [] ls → NoneHasFault items (map site (places entity))
   none-has m r =
       subst (λ ps. NoneHasFault items (map site ps)) (sym (append-nil (places_in 1 true (record { label = None; lines = ls }) [] ls)))
       (none-in 1 true (record { label = None; lines = ls }) [] ls refl m r)
@@ -208,7 +208,7 @@ module _ (f : Frame) (few : HasFewArgs f.unit) (once : args_repeat [] f.unit.arg
 abbrev nowhere : UnitText → (Part → List PartStep) → Frame
 nowhere u steps = record { unit = u; steps = steps; args = []; now = []; memory = None; at = record { fs = 0; delta = 0; eps = 0 } }
 
-no-fault : (u y : UnitText) (steps : Part → List PartStep) (fits : Bool) (e : Emitted) (few : HasFewArgs u) → IsWithin u y fits e.lines → Each (λ (l : LineText). IsEmitted l.inst) e.lines
+no-fault : (u y : UnitText) (steps : Part → List PartStep) (fits : Bool) (e : Emitted) (few : HasFewArgs u) → IsWithin u y fits e.lines → Each (λ (l : LineText). IsEmittedKind l.inst) e.lines
     → NoFault (nowhere u steps) few e → IsRightEntity y
 no-fault u y steps fits e few w m h =
     let b : Begins (nowhere u steps) few (entity_with u e.lines) e.lines = record {

@@ -22,7 +22,7 @@ use Rattle.lh_term.specs.Leaves.{AllParts, AllPartsIn}
 use Rattle.lh_emit_def.specs.Ways.{IsReached, WaitIsGiven, DriveIsGiven, TriggerIsGiven, RowIsGiven}
 use Rattle.lh_region_def.specs.Rows.{DriveReads}
 use Rattle.lh_region_def.specs.Typed.{Among}
-use Rattle.lh_emit_def.specs.Laws.{Passes, CombPasses, CombSenses, OncePasses, OnceSenses, EdgePasses, row_parts, EdgeSenses}
+use Rattle.lh_emit_def.specs.Laws.{PartPasses, CombPasses, CombSenses, OncePasses, OnceSenses, EdgePasses, row_parts, EdgeSenses}
 use Rattle.lh_emit_def.proofs.Induction.{IsNamed, Kept}
 use Rattle.lh_emit_def.proofs.PassState.{Frame, HasFewArgs, after, Begins, Inv}
 use Rattle.lh_emit_def.proofs.FirstHeld.{ArgsFit, begins}
@@ -177,7 +177,7 @@ pub comb-senses : CombSenses
 comb-senses test u y steps waited ds args h fit ws gs ps rs =
     let f = frame u steps args [] None (record { fs = 0; delta = 0; eps = 0 }) in
     let s = source_of u steps in
-    let P = Passes test in
+    let P = PartPasses test in
     let G = Good u steps P in
     let w = within u y (list_all drive_fits ds) (comb s waited ds).lines h in
     let k = rows-probe f fit.few G in

@@ -21,7 +21,7 @@ use Rattle.lh_emit_def.specs.Emitted.{PartStep, source_of}
 use Rattle.lh_emit_def.specs.Entities.{emits, entity_with, comb_emission, edge_emission, once_emission}
 use Rattle.lh_emit_def.specs.Reads.{range_in, reads, with_rows}
 use Rattle.lh_emit_def.specs.Registers.{registers_wish, triggers_seen}
-use Rattle.lh_emit_def.specs.Reached.{steps_in, IsPartOf}
+use Rattle.lh_emit_def.specs.Reached.{steps_in, IsReachedPartOf}
 use Rattle.lh_emit_def.specs.Ways.{IsReached, WaitIsGiven, DriveIsGiven, RowIsGiven}
 
 -- the arguments of a unit in an instance: few, no two of one name, each with as many bits as its type has
@@ -46,14 +46,14 @@ CombPasses = (u y : UnitText) (steps : Part → List PartStep) (waited : List Pa
     (now : List Bool) (memory : Option (List Bool)) (t : Instant) → (pass y args [] now memory t).wish ≡ with_rows (reads args now) (reads args now) args t no_wish ds
 
 -- the part passes the test
-abbrev pub Passes : (Part → Bool) → Part → Type 0
-Passes test p = test p ≡ true
+abbrev pub PartPasses : (Part → Bool) → Part → Type 0
+PartPasses test p = test p ≡ true
 
 -- It senses the waited parts, and beyond them only what the drives read.
 abbrev pub CombSenses : Type 0
 CombSenses = (test : Part → Bool) (u y : UnitText) (steps : Part → List PartStep) (waited : List Part) (ds : List Drive) (args : List Range) →
     comb_emission u steps waited ds ≡ emits y → ArgumentsFit u args → Each (WaitIsGiven (source_of u steps)) waited → Each (DriveIsGiven (source_of u steps)) ds →
-    Each (Passes test) waited → Each (DriveReads (Passes test)) ds → SensesParts (Passes test) waited y args
+    Each (PartPasses test) waited → Each (DriveReads (PartPasses test)) ds → SensesParts (PartPasses test) waited y args
 
 abbrev pub OncePasses : Type 0
 OncePasses = (u y : UnitText) (steps : Part → List PartStep) (ds : List Drive) (args : List Range) →
@@ -91,19 +91,19 @@ EdgeSenses = (u y : UnitText) (steps : Part → List PartStep) (rs : List EdgeRo
 -- ---- its instructions
 
 -- a constant, an operation, a part, a probe, a drive or a register
-abbrev pub IsEmitted : InstText → Type 0
-IsEmitted (const_text d) = Unit {0}
-IsEmitted (pure_text o args) = Unit {0}
-IsEmitted (prb_text s) = Unit {0}
-IsEmitted (drv_text to value after cond) = Unit {0}
-IsEmitted (reg_text to triggers) = Unit {0}
-IsEmitted _ = ⊥
+abbrev pub IsEmittedKind : InstText → Type 0
+IsEmittedKind (const_text d) = Unit {0}
+IsEmittedKind (pure_text o args) = Unit {0}
+IsEmittedKind (prb_text s) = Unit {0}
+IsEmittedKind (drv_text to value after cond) = Unit {0}
+IsEmittedKind (reg_text to triggers) = Unit {0}
+IsEmittedKind _ = ⊥
 
 -- the entity is the unit's, with its name and arguments, and has such instructions alone
 pub record IsEntityOf (u y : UnitText) : Type 0 where
   pub lines : List LineText
   pub is : y ≡ entity_with u lines
-  pub emitted : Each (λ (l : LineText). IsEmitted l.inst) lines
+  pub emitted : Each (λ (l : LineText). IsEmittedKind l.inst) lines
   pub short : length lines ≤ 65536
 
 abbrev pub CombIsEntity : Type 0
@@ -120,7 +120,7 @@ OnceIsEntity = (u y : UnitText) (steps : Part → List PartStep) (ds : List Driv
 
 -- Each part that a process names is reached by the steps that are found for it.
 abbrev pub PartsAreReached : Type 0
-PartsAreReached = (u : UnitText) (n : List ℕ) (p : Part) → IsPartOf u n p → IsReached (source_of u (steps_in u)) p
+PartsAreReached = (u : UnitText) (n : List ℕ) (p : Part) → IsReachedPartOf u n p → IsReached (source_of u (steps_in u)) p
 
 -- ---- well-formedness
 

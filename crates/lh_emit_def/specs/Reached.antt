@@ -48,7 +48,7 @@ abbrev pub steps_in : UnitText → Part → List PartStep
 steps_in u p = unwrap_or (first_steps (reached (length (lines_of u.blocks)) u) p (lines_of u.blocks)) []
 
 -- some number of steps leads to this part under the name
-pub record IsPartOf (u : UnitText) (n : List ℕ) (p : Part) : Type 0 where
+pub record IsReachedPartOf (u : UnitText) (n : List ℕ) (p : Part) : Type 0 where
   pub count : ℕ
   pub way : Reached
   pub is_reached : reached count u n ≡ Some way

@@ -43,19 +43,19 @@ pub record IsReached (s : Source) (p : Part) : Type 0 where
   pub leads : StepsLead (whole_argument p.arg carries) (s.steps p) p
 
 -- the term is typed, and its parts are reached
-pub record IsGiven (s : Source) (t : Tree) : Type 0 where
+pub record TermIsGiven (s : Source) (t : Tree) : Type 0 where
   pub typed : IsTyped t
   pub parts : AllParts (IsReached s) t
 
 -- so are those of a drive: its condition is one bit, its value is of the type that the part carries, and its delay a time
 pub record DriveIsGiven (s : Source) (d : Drive) : Type 0 where
-  pub cond : IsGiven s d.cond
+  pub cond : TermIsGiven s d.cond
   pub is_condition : type_of d.cond ≡ int_type 1
   pub is_value : type_of d.value ≡ d.part.ty
   pub is_delay : type_of d.delay ≡ time_type
   pub carries : IsData d.part.ty
-  pub value : IsGiven s d.value
-  pub delay : IsGiven s d.delay
+  pub value : TermIsGiven s d.value
+  pub delay : TermIsGiven s d.delay
   pub part : IsReached s d.part
 
 -- a part that is waited on
@@ -69,14 +69,14 @@ pub record TriggerIsGiven (s : Source) (g : TriggerTree) : Type 0 where
   pub is_bit : g.part.ty ≡ int_type 1
   pub is_gate : type_of g.gate ≡ int_type 1
   pub part : IsReached s g.part
-  pub gate : IsGiven s g.gate
+  pub gate : TermIsGiven s g.gate
 
 -- a row of registers: its value is of the type that the part carries, and its delay a time
 pub record RowIsGiven (s : Source) (r : EdgeRowTree) : Type 0 where
   pub is_value : type_of r.value ≡ r.part.ty
   pub is_delay : type_of r.delay ≡ time_type
   pub carries : IsData r.part.ty
-  pub value : IsGiven s r.value
-  pub delay : IsGiven s r.delay
+  pub value : TermIsGiven s r.value
+  pub delay : TermIsGiven s r.delay
   pub part : IsReached s r.part
   pub triggers : Each (TriggerIsGiven s) r.triggers

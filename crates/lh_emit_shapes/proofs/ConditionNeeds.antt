@@ -13,7 +13,7 @@ use Rattle.lh_term.specs.declared.term.TermNode.{TermNode}
 use Rattle.lh_emit_def.specs.Emitted.{Emitted}
 use Rattle.lh_emit_def.specs.Needs.{need}
 use Rattle.lh_emit_def.specs.Entities.{max_lines, need_cond, choices_fit}
-use Rattle.lh_emit_def.specs.Ways.{IsGiven}
+use Rattle.lh_emit_def.specs.Ways.{TermIsGiven}
 use Rattle.lh_emit_source.specs.Origins.{source_by, IsOrigin}
 use Rattle.lh_emit.specs.Emitting.{IsEmitted, IsNeeded, NeedsTerm, IsTooLarge, NeedsNot}
 use Rattle.lh_emit_shapes.specs.Putting.{IsTested, TestsTerm, TestsTermNot}
@@ -68,9 +68,9 @@ module _ (ns : List TermNode) (o : Origin) (x : Emitter) (t : TermId) where
   -- ---- the term that an id stands for
 
   module _ (name : UnitName) (f : Naming) (e : Emitted) (origin : IsOrigin f o) (is : IsEmitted ns (source_by name f o.flat.now) x e)
-      (a : Tree) (stands : tree_at (trees ns) t ≡ a) (given : IsGiven (source_by name f o.flat.now) a) where
-    pub is-given : IsGiven (source_by name f o.flat.now) (tree_at (trees ns) t)
-    is-given = subst (IsGiven (source_by name f o.flat.now)) (sym stands) given
+      (a : Tree) (stands : tree_at (trees ns) t ≡ a) (given : TermIsGiven (source_by name f o.flat.now) a) where
+    pub is-given : TermIsGiven (source_by name f o.flat.now) (tree_at (trees ns) t)
+    is-given = subst (TermIsGiven (source_by name f o.flat.now)) (sym stands) given
 
     pub needed-at : (ms : List TermNode) (y : Emitter) (v : ValueId) → NeedsTerm ns o x t ms y v → IsNeeded ms (source_by name f o.flat.now) a e y v
     needed-at ms y v n = subst (λ (z : Tree). IsNeeded ms (source_by name f o.flat.now) z e y v) stands (n name f e origin is is-given)

@@ -20,7 +20,7 @@ use Rattle.lh_emit_def.specs.Emitted.{Source, Emitted, puts, term_name, signal, 
 use Rattle.lh_emit_def.specs.Needs.{need}
 use Rattle.lh_emit_def.specs.Entities.{max_lines, need_cond, cond_name, emit_drive, choices_fit, drive_fits}
 use Rattle.lh_emit_def.specs.Ways.{IsReached}
-use Rattle.lh_emit_body.specs.Lines.{most_lines, naming, values_alone, HasRoom, NamesGrow}
+use Rattle.lh_emit_body.specs.Lines.{most_lines, naming, values_alone, LinesHaveRoom, NamesGrow}
 use Rattle.lh_emit.specs.Operands.{with_type}
 use Rattle.lh_emit_source.specs.Origins.{source_by}
 use Rattle.lh_emit.specs.Emitting.{IsEmitted, IsNeeded, CanNeed, NeedsTerm, IsTooLarge, NeedsNot, CanReach, IsPartNeeded, NeedsPart, NeedsPartNot}
@@ -226,7 +226,7 @@ module _ (o : Origin) (row : DriveRow) (ns : List TermNode) (x : Emitter) where
               let b = after-cond c in
               subst (λ (p : Part). IsPartNeeded m3 s p b.emitted x4 v4) b.are.part (n4 b.name b.naming b.emitted b.origin b.is (subst (IsReached s) (sym b.are.part) b.given.part))
 
-          pub has-room : CanPutDrive ns o x row → HasRoom x4.lines
+          pub has-room : CanPutDrive ns o x row → LinesHaveRoom x4.lines
           has-room c = (part-is c).is.room
 
           put-not : (f : EmitFault) (i : Inst) (y : Emitter) → PutsInst x4 i y (Err f) → PutsDriveNot ns o x row f

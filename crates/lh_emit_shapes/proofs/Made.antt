@@ -25,7 +25,7 @@ use Rattle.lh_emit_body.specs.Lines.{most_lines, arg_names, result_name}
 use Rattle.lh_emit_source.specs.Origins.{source_by, IsOrigin}
 use Rattle.lh_emit.specs.Emitting.{ArgumentsFirst, IsEmitted}
 use Rattle.lh_emit_shapes.specs.Putting.{CanPutDrives, PutsDrives, PutsDrivesNot, CanPutProbes, PutsProbes, PutsProbesNot, CanPutRegisters, PutsRegisters, PutsRegistersNot}
-use Rattle.lh_emit_shapes.specs.Bodies.{NamesDiffer, IsBody, BodyOrTooLarge, IsFlatOf, steps_of, DrivesGiven, CanDrive, IsComb, IsOnce, CanRegister, IsEdge}
+use Rattle.lh_emit_shapes.specs.Bodies.{NamesDiffer, IsBody, BodyOrTooLarge, IsFlatOf, steps_of, DrivesGiven, DrivesCanBeEmitted, IsComb, IsOnceBody, CanRegister, IsRegisterBody}
 use Rattle.lh_emit_body.specs.declared.body.Body.{Body}
 use Rattle.lh_emit_source.specs.declared.origin.Origin.{Origin}
 use Rattle.lh_emit.specs.declared.emitter.Emitter.{Emitter}
@@ -104,7 +104,7 @@ module _ (o : Origin) (waited : List Part) (drives : List DriveRow) (ns : List T
   comb-memory r h u f ds flat d w = answers-err u _ r fault.OutOfMemory h tt
 
   module _ (x : Emitter) (new : IsNew o x) where
-    pub comb-can-probes : CanDrive ns o waited drives → CanPutProbes ns o x waited
+    pub comb-can-probes : DrivesCanBeEmitted ns o waited drives → CanPutProbes ns o x waited
     comb-can-probes c =
         let s = source_by c.unit.name c.naming o.flat.now in
         record {
@@ -145,7 +145,7 @@ module _ (o : Origin) (waited : List Part) (drives : List DriveRow) (ns : List T
             given = d.given;
           }
 
-      pub comb-can-drives : CanDrive ns o waited drives → CanPutDrives m1 o x1 drives
+      pub comb-can-drives : DrivesCanBeEmitted ns o waited drives → CanPutDrives m1 o x1 drives
       comb-can-drives c = drives-put c.unit c.naming c.texts c.flat c.drives_given c.waits_given
 
       pub comb-drives-not : (g : EmitFault) → PutsDrivesNot m1 o x1 drives g → (r : Result Body EmitFault) → IsErrAnd r (λ e. e ≡ g) → IsComb ns o waited drives r
@@ -198,11 +198,11 @@ module _ (o : Origin) (waited : List Part) (drives : List DriveRow) (ns : List T
 -- ---- once
 
 module _ (o : Origin) (drives : List DriveRow) (ns : List TermNode) where
-  pub once-memory : (r : Result Body EmitFault) → IsErrAnd r (λ e. e ≡ fault.OutOfMemory) → IsOnce ns o drives r
+  pub once-memory : (r : Result Body EmitFault) → IsErrAnd r (λ e. e ≡ fault.OutOfMemory) → IsOnceBody ns o drives r
   once-memory r h u f ds flat d = answers-err u _ r fault.OutOfMemory h tt
 
   module _ (x : Emitter) (new : IsNew o x) where
-    pub once-can-drives : CanDrive ns o [] drives → CanPutDrives ns o x drives
+    pub once-can-drives : DrivesCanBeEmitted ns o [] drives → CanPutDrives ns o x drives
     once-can-drives c = record {
       name = c.unit.name;
       naming = c.naming;
@@ -214,7 +214,7 @@ module _ (o : Origin) (drives : List DriveRow) (ns : List TermNode) where
       given = c.drives_given.given;
     }
 
-    pub once-drives-not : (g : EmitFault) → PutsDrivesNot ns o x drives g → (r : Result Body EmitFault) → IsErrAnd r (λ e. e ≡ g) → IsOnce ns o drives r
+    pub once-drives-not : (g : EmitFault) → PutsDrivesNot ns o x drives g → (r : Result Body EmitFault) → IsErrAnd r (λ e. e ≡ g) → IsOnceBody ns o drives r
     once-drives-not g p r h u f ds flat d = answers-err u _ r g h (by g p)
       where
         large : (list_all drive_fits ds ≡ false) ⊎ (max_lines < length (once (source_by u.name f o.flat.now) ds).lines) →
@@ -238,7 +238,7 @@ module _ (o : Origin) (drives : List DriveRow) (ns : List TermNode) where
               given = d.given;
             })))
 
-    pub once-made : OnceIsRight → (m2 : List TermNode) (x2 : Emitter) → PutsDrives ns o x drives m2 x2 → (b : Body) → b.names ≡ x2.lines.names → b.lines ≡ x2.lines.lines → IsOnce ns o drives (Ok b)
+    pub once-made : OnceIsRight → (m2 : List TermNode) (x2 : Emitter) → PutsDrives ns o x drives m2 x2 → (b : Body) → b.names ≡ x2.lines.names → b.lines ≡ x2.lines.lines → IsOnceBody ns o drives (Ok b)
     once-made right m2 x2 p b bn bl u f ds flat d =
         let s = source_by u.name f o.flat.now in
         let same = source-is u f o flat in
@@ -262,7 +262,7 @@ module _ (o : Origin) (drives : List DriveRow) (ns : List TermNode) where
 -- ---- registers
 
 module _ (o : Origin) (rows : List EdgeRow) (ns : List TermNode) where
-  pub edge-memory : (r : Result Body EmitFault) → IsErrAnd r (λ e. e ≡ fault.OutOfMemory) → IsEdge ns o rows r
+  pub edge-memory : (r : Result Body EmitFault) → IsErrAnd r (λ e. e ≡ fault.OutOfMemory) → IsRegisterBody ns o rows r
   edge-memory r h u f rs flat d = answers-err u _ r fault.OutOfMemory h tt
 
   module _ (x : Emitter) (new : IsNew o x) where
@@ -278,7 +278,7 @@ module _ (o : Origin) (rows : List EdgeRow) (ns : List TermNode) where
       given = c.rows_given.given;
     }
 
-    pub edge-registers-not : (g : EmitFault) → PutsRegistersNot ns o x rows g → (r : Result Body EmitFault) → IsErrAnd r (λ e. e ≡ g) → IsEdge ns o rows r
+    pub edge-registers-not : (g : EmitFault) → PutsRegistersNot ns o x rows g → (r : Result Body EmitFault) → IsErrAnd r (λ e. e ≡ g) → IsRegisterBody ns o rows r
     edge-registers-not g p r h u f rs flat d = answers-err u _ r g h (by g p)
       where
         large : (list_all row_fits rs ≡ false) ⊎ (max_lines < length (edge (source_by u.name f o.flat.now) rs).lines) →
@@ -302,7 +302,7 @@ module _ (o : Origin) (rows : List EdgeRow) (ns : List TermNode) where
               given = d.given;
             })))
 
-    pub edge-made : EdgeIsRight → (m2 : List TermNode) (x2 : Emitter) → PutsRegisters ns o x rows m2 x2 → (b : Body) → b.names ≡ x2.lines.names → b.lines ≡ x2.lines.lines → IsEdge ns o rows (Ok b)
+    pub edge-made : EdgeIsRight → (m2 : List TermNode) (x2 : Emitter) → PutsRegisters ns o x rows m2 x2 → (b : Body) → b.names ≡ x2.lines.names → b.lines ≡ x2.lines.lines → IsRegisterBody ns o rows (Ok b)
     edge-made right m2 x2 p b bn bl u f rs flat d =
         let s = source_by u.name f o.flat.now in
         let same = source-is u f o flat in

@@ -25,7 +25,7 @@ use Rattle.lh_shape.specs.Answers.{IsEdgeRow, AreEdgeRows}
 use Rattle.lh_emit_def.specs.Emitted.{Source, Emitted, puts, signal, need_part}
 use Rattle.lh_emit_def.specs.Entities.{max_lines, need_trigger, trigger_text, need_register, put_register, emit_register_by, emit_register, choices_fit, no_triggers, row_fits}
 use Rattle.lh_emit_def.specs.Ways.{IsReached, TriggerIsGiven, RowIsGiven}
-use Rattle.lh_emit_body.specs.Lines.{naming, values_alone, HasRoom, NamesGrow}
+use Rattle.lh_emit_body.specs.Lines.{naming, values_alone, LinesHaveRoom, NamesGrow}
 use Rattle.lh_emit.specs.Operands.{with_type}
 use Rattle.lh_emit_source.specs.Origins.{source_by}
 use Rattle.lh_emit.specs.Emitting.{IsEmitted, CanReach, IsPartNeeded, NeedsPart, NeedsPartNot}
@@ -333,7 +333,7 @@ module _ (o : Origin) (row : EdgeRow) (ns : List TermNode) (x : Emitter) where
             let e1 = fold (need_trigger s c.register) c.emitted c.register.triggers in
             subst (λ (p : Part). IsPartNeeded m1 s p e1 x2 v2) c.are.part (n2 c.name c.naming e1 c.origin (n1 c).is (subst (IsReached s) (sym c.are.part) c.given.part))
 
-        pub reg-has-room : CanPutRegister ns o x row → HasRoom x2.lines
+        pub reg-has-room : CanPutRegister ns o x row → LinesHaveRoom x2.lines
         reg-has-room c = (reg-part-is c).is.room
 
         reg-put-not : (f : EmitFault) (i : Inst) (y : Emitter) → PutsInst x2 i y (Err f) → PutsRegisterNot ns o x row f

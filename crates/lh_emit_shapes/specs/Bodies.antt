@@ -47,7 +47,7 @@ pub record DrivesGiven (ns : List TermNode) (u : UnitText) (f : Naming) (o : Ori
   pub are : AreDrives ns drives ds
   pub given : Each (DriveIsGiven (source_by u.name f o.flat.now)) ds
 
-pub record CanDrive (ns : List TermNode) (o : Origin) (waited : List Part) (drives : List DriveRow) : Type 0 where
+pub record DrivesCanBeEmitted (ns : List TermNode) (o : Origin) (waited : List Part) (drives : List DriveRow) : Type 0 where
   pub unit : UnitText
   pub naming : Naming
   pub flat : IsFlatOf unit naming o
@@ -62,8 +62,8 @@ IsComb ns o waited drives answer =
     → BodyOrTooLarge u (comb_emission u (steps_of u f o) waited ds) answer
 
 -- The body is that of the entity that runs once.
-abbrev pub IsOnce : List TermNode → Origin → List DriveRow → Result Body EmitFault → Type 0
-IsOnce ns o drives answer = (u : UnitText) (f : Naming) (ds : List Drive) → IsFlatOf u f o → DrivesGiven ns u f o drives ds → BodyOrTooLarge u (once_emission u (steps_of u f o) ds) answer
+abbrev pub IsOnceBody : List TermNode → Origin → List DriveRow → Result Body EmitFault → Type 0
+IsOnceBody ns o drives answer = (u : UnitText) (f : Naming) (ds : List Drive) → IsFlatOf u f o → DrivesGiven ns u f o drives ds → BodyOrTooLarge u (once_emission u (steps_of u f o) ds) answer
 
 -- ---- registers
 
@@ -80,5 +80,5 @@ pub record CanRegister (ns : List TermNode) (o : Origin) (rows : List EdgeRow) :
   pub rows_given : RowsGiven ns unit naming o rows texts
 
 -- The body is that of the entity of registers.
-abbrev pub IsEdge : List TermNode → Origin → List EdgeRow → Result Body EmitFault → Type 0
-IsEdge ns o rows answer = (u : UnitText) (f : Naming) (rs : List EdgeRowTree) → IsFlatOf u f o → RowsGiven ns u f o rows rs → BodyOrTooLarge u (edge_emission u (steps_of u f o) rs) answer
+abbrev pub IsRegisterBody : List TermNode → Origin → List EdgeRow → Result Body EmitFault → Type 0
+IsRegisterBody ns o rows answer = (u : UnitText) (f : Naming) (rs : List EdgeRowTree) → IsFlatOf u f o → RowsGiven ns u f o rows rs → BodyOrTooLarge u (edge_emission u (steps_of u f o) rs) answer

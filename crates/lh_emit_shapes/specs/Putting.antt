@@ -23,7 +23,7 @@ use Rattle.lh_region.specs.declared.rows.DriveRow.{DriveRow}
 use Rattle.lh_shape.specs.Answers.{IsEdgeRow, AreEdgeRows}
 use Rattle.lh_emit_def.specs.Emitted.{Source, Emitted, puts, term_name}
 use Rattle.lh_emit_def.specs.Entities.{max_lines, need_cond, cond_name, emit_drive, emit_drives, emit_probes, need_trigger, mode_of, emit_register, choices_fit, drive_fits, row_fits}
-use Rattle.lh_emit_def.specs.Ways.{IsGiven, DriveIsGiven, WaitIsGiven, RowIsGiven, TriggerIsGiven}
+use Rattle.lh_emit_def.specs.Ways.{TermIsGiven, DriveIsGiven, WaitIsGiven, RowIsGiven, TriggerIsGiven}
 use Rattle.lh_emit_body.specs.Lines.{most_lines, naming, values_alone}
 use Rattle.lh_emit_source.specs.Origins.{source_by, IsOrigin}
 use Rattle.lh_emit.specs.Emitting.{IsEmitted}
@@ -44,13 +44,13 @@ pub record IsTested (ms : List TermNode) (s : Source) (c : Tree) (e : Emitted) (
 
 abbrev pub TestsTerm : List TermNode → Origin → Emitter → TermId → List TermNode → Emitter → Option ValueId → Type 0
 TestsTerm ns o x t ms y v =
-    (name : UnitName) (f : Naming) (e : Emitted) → IsOrigin f o → IsEmitted ns (source_by name f o.flat.now) x e → IsGiven (source_by name f o.flat.now) (tree_at (trees ns) t) →
+    (name : UnitName) (f : Naming) (e : Emitted) → IsOrigin f o → IsEmitted ns (source_by name f o.flat.now) x e → TermIsGiven (source_by name f o.flat.now) (tree_at (trees ns) t) →
     IsTested ms (source_by name f o.flat.now) (tree_at (trees ns) t) e y v
 
 abbrev pub TestsTermNot : List TermNode → Origin → Emitter → TermId → EmitFault → Type 0
 TestsTermNot ns o x t fault.OutOfMemory = Unit {0}
 TestsTermNot ns o x t fault.EntityTooLarge =
-    (name : UnitName) (f : Naming) (e : Emitted) → IsOrigin f o → IsEmitted ns (source_by name f o.flat.now) x e → IsGiven (source_by name f o.flat.now) (tree_at (trees ns) t) →
+    (name : UnitName) (f : Naming) (e : Emitted) → IsOrigin f o → IsEmitted ns (source_by name f o.flat.now) x e → TermIsGiven (source_by name f o.flat.now) (tree_at (trees ns) t) →
     (choices_fit (tree_at (trees ns) t) ≡ false) ⊎ (max_lines < length (need_cond (source_by name f o.flat.now) (tree_at (trees ns) t) e).lines)
 
 -- ---- drives
@@ -67,12 +67,12 @@ pub record CanPutDrive (ns : List TermNode) (o : Origin) (x : Emitter) (row : Dr
   pub given : DriveIsGiven (source_by name naming o.flat.now) drive
 
 -- the entity with the drive
-pub record IsDriven (ms : List TermNode) (s : Source) (d : Drive) (e : Emitted) (y : Emitter) : Type 0 where
+pub record DriveIsEmitted (ms : List TermNode) (s : Source) (d : Drive) (e : Emitted) (y : Emitter) : Type 0 where
   pub is : IsEmitted ms s y (emit_drive s e d)
   pub fits : drive_fits d ≡ true
 
 abbrev pub PutsDrive : List TermNode → Origin → Emitter → DriveRow → List TermNode → Emitter → Type 0
-PutsDrive ns o x row ms y = (c : CanPutDrive ns o x row) → IsDriven ms (source_by c.name c.naming o.flat.now) c.drive c.emitted y
+PutsDrive ns o x row ms y = (c : CanPutDrive ns o x row) → DriveIsEmitted ms (source_by c.name c.naming o.flat.now) c.drive c.emitted y
 
 -- a choice of the drive has an array that is no type, or the entity would be too long
 abbrev pub DriveTooLarge : Source → Drive → Emitted → Type 0

@@ -7,7 +7,7 @@ ghost use Rattle.lh_emit_body.specs.Lines.{NamesGrow};
 ghost use Rattle.lh_emit.specs.Emitting.{CanNeed};
 ghost use Rattle.lh_emit_shapes.specs.Putting.{TestsTerm, TestsTermNot, CanPutDrive, PutsDrive, PutsDriveNot, CanPutDrives, PutsDrives, PutsDrivesNot, CanPutProbes, PutsProbes, PutsProbesNot};
 ghost use Rattle.lh_emit_shapes.specs.Putting.{CanTrigger, NeedsTrigger, NeedsTriggerNot, CanPutRegister, NeedsTriggers, NeedsTriggersNot, PutsRegister, PutsRegisterNot, CanPutRegisters, PutsRegisters, PutsRegistersNot};
-ghost use Rattle.lh_emit_shapes.specs.Bodies.{CanDrive, IsComb, IsOnce, CanRegister, IsEdge};
+ghost use Rattle.lh_emit_shapes.specs.Bodies.{DrivesCanBeEmitted, IsComb, IsOnceBody, CanRegister, IsRegisterBody};
 
 use lh_edge::triggers::{EdgeRow, EdgeRowList, Trigger};
 use lh_emit::emitter::Emitter;
@@ -31,7 +31,7 @@ pub fn comb_body(
     waited: &PartList,
     drives: &DriveList,
 ) -> Result<Body, EmitFault>
-    requires { CanDrive terms.old origin.now waited.now drives.now }
+    requires { DrivesCanBeEmitted terms.old origin.now waited.now drives.now }
     ensures kept { Grows terms.old terms.new }
     ensures is { IsComb terms.old origin.now waited.now drives.now result }
 {
@@ -50,7 +50,7 @@ pub fn edge_body(
 ) -> Result<Body, EmitFault>
     requires { CanRegister terms.old origin.now rows.now }
     ensures kept { Grows terms.old terms.new }
-    ensures is { IsEdge terms.old origin.now rows.now result }
+    ensures is { IsRegisterBody terms.old origin.now rows.now result }
 {
     let mut emitter = Emitter::new(alloc, origin)?;
     put_registers(alloc, origin, terms, &mut emitter, rows.as_slice())?;
@@ -64,9 +64,9 @@ pub fn once_body(
     terms: &mut Terms,
     drives: &DriveList,
 ) -> Result<Body, EmitFault>
-    requires { CanDrive terms.old origin.now [] drives.now }
+    requires { DrivesCanBeEmitted terms.old origin.now [] drives.now }
     ensures kept { Grows terms.old terms.new }
-    ensures is { IsOnce terms.old origin.now drives.now result }
+    ensures is { IsOnceBody terms.old origin.now drives.now result }
 {
     let mut emitter = Emitter::new(alloc, origin)?;
     put_drives(alloc, origin, terms, &mut emitter, drives.as_slice())?;

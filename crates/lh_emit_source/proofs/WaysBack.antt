@@ -65,7 +65,7 @@ module _ (f : ℕ → Option PartStep) (a : ℕ → Option Part) where
       at false true p q k = omega (arith, k)
       at false false p q k = k
 
-  -- it is found with one more step, and not with so many
+  -- it is found with one more step, and not with this many
   record IsNew (n v : ℕ) : Type 0 where
     part : Part
     before : part_found n f a v ≡ None

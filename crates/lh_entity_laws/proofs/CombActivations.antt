@@ -30,13 +30,13 @@ use Rattle.lh_region_def.specs.Rows as way
 use Rattle.lh_region_def.specs.Rows.{Drive, RegionEnd, Rows}
 use Rattle.lh_region_def.specs.Regions.{lines_at, head_of, known_first, waited_parts, Regions}
 use Rattle.lh_region_def.specs.Typed.{Among}
-use Rattle.lh_region_def.specs.Means.{range_in, reads, Agrees, with_rows}
+use Rattle.lh_region_def.specs.Means.{range_in, reads, KnowledgeAgrees, with_rows}
 use Rattle.lh_region_def.specs.Laws.{max_steps, EndsAs, WaitsForHead}
 use Rattle.lh_region_def.proofs.PartReads.{reads-fit}
 use Rattle.lh_region_def.proofs.Activations.{head-stays-known}
 use Rattle.lh_region_def.proofs.Second.{now-typed}
 use Rattle.lh_shape.specs.Reasons.{ends_halted, is_empty, in_some, is_timed, are_mixed, waits_for_head, parts_waited}
-use Rattle.lh_emit_def.specs.Laws.{Passes, SensesParts}
+use Rattle.lh_emit_def.specs.Laws.{PartPasses, SensesParts}
 use Rattle.lh_entity_laws.specs.Stands.{IsEnough}
 use Rattle.lh_entity_laws.proofs.Bits.{bits_of, both-within, covered-bits, there-bits}
 use Rattle.lh_entity_laws.proofs.Shaped.{CombRegions}
@@ -64,7 +64,7 @@ module _ (functions : List UnitText) (bound : ℕ) (x y : UnitText) (i : Instanc
     (xk : x.kind ≡ kind.Proc) (yk : y.kind ≡ kind.Entity) (sigs : i.sigs ≡ []) (enough : IsEnough bound t) (waited : List Part) (ds : List Drive) (s : CombRegions t waited ds)
     (passes : (now : List Bool) (memory : Option (List Bool)) (at : Instant)
     → (pass y i.args [] now memory at).wish ≡ with_rows (reads i.args now) (reads i.args now) i.args at no_wish s.walk.course.rows.drives)
-    (senses : SensesParts (Passes (covers waited)) waited y i.args) where
+    (senses : SensesParts (PartPasses (covers waited)) waited y i.args) where
   abbrev f : UnitText
   f = flat_unit name t
 
@@ -112,7 +112,7 @@ module _ (functions : List UnitText) (bound : ℕ) (x y : UnitText) (i : Instanc
     from : List ℕ
     on : List Range
     stand : flat.stand ≡ machine.waits from start.label on None
-    known : (past now : Valuation) → Agrees f past now i.args (known_first t) flat.held
+    known : (past now : Valuation) → KnowledgeAgrees f past now i.args (known_first t) flat.held
 
   ends-at : (p flat : ProcessState) → k.Last p flat → (now : List Bool) (at : Instant) (memory : Option (List Bool))
       → Ends functions name t i.args formed s.walk.plain pads (reads i.args now) (reads i.args now) now at rows bound flat

@@ -38,7 +38,7 @@ use Rattle.lh_region_def.proofs.JoinedKnowledge.{GiveEach, given-each, merged-of
 use Rattle.lh_region_def.proofs.Sites.{LineGood}
 use Rattle.lh_emit_def.specs.Emitted.{PartStep, source_of}
 use Rattle.lh_emit_def.specs.Reached as Emit
-use Rattle.lh_emit_def.specs.Reached.{Reached, stepped_by, further, steps_in, IsPartOf}
+use Rattle.lh_emit_def.specs.Reached.{Reached, stepped_by, further, steps_in, IsReachedPartOf}
 use Rattle.lh_term.specs.Leaves.{AllParts}
 use Rattle.lh_emit_def.specs.Ways.{inner, part_by, WaitIsGiven}
 use Rattle.lh_emit_def.proofs.ReachedParts.{part-reached}
@@ -52,7 +52,7 @@ use Rattle.lh_entity_laws.proofs.GivenTrees.{In, AllIn, make-in, choice-in, conj
 pub record PartNamed (u : UnitText) (n : List ℕ) (p : Part) : Type 0 where
   pub is_data : IsData p.ty
   pub type : value_type u n ≡ Some (signal_type p.ty)
-  pub named : IsPartOf u n p
+  pub named : IsReachedPartOf u n p
 
 -- a part that is reached
 abbrev pub PartFine : UnitText → Part → Type 0
@@ -74,7 +74,7 @@ abbrev further_by : Op → List PartStep → Part → Reached
 further_by o steps p = record { part = p; steps = steps ++ record { op = o; to = p } ∷ [] }
 
 further-named : (u : UnitText) (n : List ℕ) (o : Op) (x : OperandText) (q p : Part) → args_define n u.args ≡ false → inst_giving n u.blocks ≡ Some (pure_text o (x ∷ [])) → part_by q o ≡ Some p
-    → IsPartOf u x.value q → IsPartOf u n p
+    → IsReachedPartOf u x.value q → IsReachedPartOf u n p
 further-named u n o x q p new line by h = record {
   count = suc h.count;
   way = further_by o h.way.steps p;

@@ -41,7 +41,7 @@ use Rattle.lh_emit_def.specs.Emitted.{PartStep, source_of}
 use Rattle.lh_emit_def.specs.Entities.{emits, comb_emission, edge_emission, once_emission}
 use Rattle.lh_emit_def.specs.Reached.{steps_in}
 use Rattle.lh_emit_def.specs.Ways.{WaitIsGiven, DriveIsGiven, RowIsGiven}
-use Rattle.lh_emit_def.specs.Laws.{ArgumentsFit, IsEmitted, IsEntityOf}
+use Rattle.lh_emit_def.specs.Laws.{ArgumentsFit, IsEmittedKind, IsEntityOf}
 use Rattle.lh_emit_def.proofs.Whole.{comb-passes, comb-senses, edge-passes, edge-senses, once-passes, once-senses}
 use Rattle.lh_emit_def.proofs.Plain.{comb-plain, edge-plain, once-plain}
 use Rattle.lh_region_laws.specs.Before.{RegionsAreAlike, SecondRowsAreTyped}
@@ -58,7 +58,7 @@ use Rattle.lh_entity_laws.proofs.Edges.{edge-drives, edge-for}
 
 -- ---- what an entity has
 
-emitted-plain : (i : InstText) → IsEmitted i → is_plain i ≡ true
+emitted-plain : (i : InstText) → IsEmittedKind i → is_plain i ≡ true
 emitted-plain (const_text d) h = refl
 emitted-plain (pure_text o args) h = refl
 emitted-plain (var_text a) h = absurd h
@@ -77,7 +77,7 @@ emitted-plain (wait_text to after signals) h = absurd h
 emitted-plain halt_text h = absurd h
 emitted-plain (ret_text o) h = absurd h
 
-all-plain : (ls : List LineText) → Each (λ (l : LineText). IsEmitted l.inst) ls → AllPlain ls
+all-plain : (ls : List LineText) → Each (λ (l : LineText). IsEmittedKind l.inst) ls → AllPlain ls
 all-plain [] h = tt
 all-plain (l ∷ ls) h = (emitted-plain l.inst h.0, all-plain ls h.1)
 

@@ -26,9 +26,9 @@ use Rattle.lh_unit.specs.Effects.{step_of, within, stepped, signal_part, operate
 use Rattle.lh_unit.specs.Hierarchy.{if_held}
 use Rattle.lh_unit_names.proofs.NameLists.{same_name-is}
 use Rattle.lh_verify_laws.specs.Operands.{IsOf, RowIs}
-use Rattle.lh_verify_laws.specs.Parts.{LeadsTo, TakesPart, HasPart}
+use Rattle.lh_verify_laws.specs.Parts.{StepLeadsTo, TakesPart, HasPart}
 use Rattle.lh_verify_laws.proofs.PartsLaw.{parts_have_ranges}
-use Rattle.lh_eval.specs.Fitting.{IsValueType, FitsHeld, Fits}
+use Rattle.lh_eval.specs.Fitting.{IsTypeWithinLimits, FitsHeld, Fits}
 use Rattle.lh_eval.specs.Sound.{HasOperands}
 use Rattle.lh_eval.specs.ResultsFit.{GivenFits, ConstantsFit, OperationsFit, ProbesFit, HeldStillFits}
 use Rattle.lh_eval.proofs.TypesMade.{int-made}
@@ -43,18 +43,18 @@ part-held (Some (datum_held d)) r e = absurd (none-some r e)
 part-held (Some (cell_held d)) r e = absurd (none-some r e)
 
 -- a data type is one that a value may have
-pub value-type : (t : TypeTree) → IsData t → IsValueType t
+pub value-type : (t : TypeTree) → IsData t → IsTypeWithinLimits t
 value-type time_type d = tt
 value-type (int_type n) d = d
 value-type t d = d
 
 -- a value of a type fits it, whatever it is held as
-as-given : (w : ℕ) (d : Datum) (x : Held) (t : TypeTree) → IsValueType t → FitsType d t → Some (datum_held d) ≡ Some x → FitsHeld w x t
+as-given : (w : ℕ) (d : Datum) (x : Held) (t : TypeTree) → IsTypeWithinLimits t → FitsType d t → Some (datum_held d) ≡ Some x → FitsHeld w x t
 as-given w d x t v f e = subst (λ (y : Held). FitsHeld w y t) (same_Some (datum_held d) x e) (v, f)
 
 pub constants-fit : ConstantsFit
 constants-fit w (int_value n b) h x t e q = let m = int-made n t q in as-given w (int_value n b) x t (value-type t m.0) (subst (FitsType (int_value n b)) m.1 (refl, h)) e
-constants-fit w (time_value d) h x t e q = let m : time_type ≡ t = same_Some time_type t q in as-given w (time_value d) x t (subst IsValueType m tt) (subst (FitsType (time_value d)) m tt) e
+constants-fit w (time_value d) h x t e q = let m : time_type ≡ t = same_Some time_type t q in as-given w (time_value d) x t (subst IsTypeWithinLimits m tt) (subst (FitsType (time_value d)) m tt) e
 constants-fit w _ h x t e q = absurd (none-some t q)
 
 module _ (u : UnitText) (w : ℕ) (e : Env) (f : Fits u w e) where
@@ -70,7 +70,7 @@ module _ (u : UnitText) (w : ℕ) (e : Env) (f : Fits u w e) where
       as-given w (apply o ds) x t (value-type t k.0) (subst (FitsType (apply o ds)) k.1 (results_fit_lem o ds l.types l.gives l.data_types l.values_fit l.row)) g
 
   -- a step into a part of a signal
-  stepped-fits : (s : Step) (x : OperandText) (whole of : TypeTree) → IsOf u whole x.value → LeadsTo s whole of → GivenFits w (stepped (value_type u x.value) (part_at e x.value) (Some s)) (Some of)
+  stepped-fits : (s : Step) (x : OperandText) (whole of : TypeTree) → IsOf u whole x.value → StepLeadsTo s whole of → GivenFits w (stepped (value_type u x.value) (part_at e x.value) (Some s)) (Some of)
   stepped-fits s x (signal_type b) of is leads h t g q = by (part_at e x.value) refl (sym (ap (λ (o : Option TypeTree). stepped o (part_at e x.value) (Some s)) is) ∙ g)
     where
       by : (o : Option Range) → part_at e x.value ≡ o → stepped (Some (signal_type b)) o (Some s) ≡ Some h → FitsHeld w h t

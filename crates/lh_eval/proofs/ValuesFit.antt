@@ -23,7 +23,7 @@ use Rattle.lh_unit.specs.TypingRows.{class_row, shifts, selects, takes_part, put
 use Rattle.lh_unit.specs.Held.{Held, datum_held, Env, as_datum, datum_at, data_at, front, as_test}
 use Rattle.lh_unit.specs.Within.{Each}
 use Rattle.lh_verify_laws.specs.Operands.{IsOf, IsLike, IsWritten, OperationIs, RowIs}
-use Rattle.lh_eval.specs.Fitting.{IsValueType, Fits}
+use Rattle.lh_eval.specs.Fitting.{IsTypeWithinLimits, Fits}
 use Rattle.lh_eval.specs.Sound.{ClassHasOperands, HasOperands, OperandsFitRows}
 use Rattle.lh_eval.proofs.TypesMade.{array-made, tuple-made}
 
@@ -36,7 +36,7 @@ datum-held (Some _) d e = cc
 NoTime : TypeTree → Type 0
 NoTime t = t ≡ time_type → ⊥
 
-is-data : (t : TypeTree) → NoTime t → IsValueType t → IsData t
+is-data : (t : TypeTree) → NoTime t → IsTypeWithinLimits t → IsData t
 unfolding NoTime
 is-data time_type n v = absurd (n refl)
 is-data _ n v = v
@@ -104,7 +104,7 @@ module _ (u : UnitText) (w : ℕ) (e : Env) (f : Fits u w e) where
   Matches (o ∷ os) (t ∷ ts) = (IsOf u t o.value × NoTime t) × Matches os ts
   Matches _ _ = ⊥
 
-  datum-fits : (n : List ℕ) (d : Datum) (t : TypeTree) → datum_at e n ≡ Some d → IsOf u t n → IsValueType t × FitsType d t
+  datum-fits : (n : List ℕ) (d : Datum) (t : TypeTree) → datum_at e n ≡ Some d → IsOf u t n → IsTypeWithinLimits t × FitsType d t
   datum-fits n d t p q = f n _ t (datum-held (e n) d p) q
 
   fit-row : (os : List OperandText) (ts : List TypeTree) (ds : List Datum) → Matches os ts → data_at e os ≡ Some ds → FitsRow (data_row ds) (row_of ts) × AreData (row_of ts)
@@ -211,7 +211,7 @@ module _ (u : UnitText) (w : ℕ) (e : Env) (f : Fits u w e) where
   select (x ∷ s ∷ y ∷ more) t ds c l p = absurd l
 
   -- a value of a type that has the part
-  whole-part : (s : Step) (whole t : TypeTree) (d : Datum) → IsValueType whole → FitsType d whole → part_type s whole ≡ Some t → NoTime whole × PartHasType whole s t
+  whole-part : (s : Step) (whole t : TypeTree) (d : Datum) → IsTypeWithinLimits whole → FitsType d whole → part_type s whole ≡ Some t → NoTime whole × PartHasType whole s t
   whole-part s (signal_type x) t d v g h = absurd v
   whole-part s time_type t d v g h = absurd (none s h)
     where

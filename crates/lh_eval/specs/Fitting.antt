@@ -21,14 +21,14 @@ use Rattle.lh_unit.specs.declared.inst.Typed.{Typed}
 use Rattle.lh_eval.specs.Holding.{part_in, data_in}
 
 -- a type that a value may have, within its limits
-abbrev pub IsValueType : TypeTree → Type 0
-IsValueType time_type = Unit {0}
-IsValueType t = IsData t
+abbrev pub IsTypeWithinLimits : TypeTree → Type 0
+IsTypeWithinLimits time_type = Unit {0}
+IsTypeWithinLimits t = IsData t
 
--- what is held fits a type: a data value or a time, a variable with such a value, or a part of so many bits that has the type's width
+-- what is held fits a type: a data value or a time, a variable with such a value, or a part of this many bits that has the type's width
 abbrev pub FitsHeld : (width : ℕ) → Held → TypeTree → Type 0
-FitsHeld width (datum_held d) t = IsValueType t × FitsType d t
-FitsHeld width (cell_held d) (pointer_type t) = IsValueType t × FitsType d t
+FitsHeld width (datum_held d) t = IsTypeWithinLimits t × FitsType d t
+FitsHeld width (cell_held d) (pointer_type t) = IsTypeWithinLimits t × FitsType d t
 FitsHeld width (part_held r) (signal_type t) = IsData t × (r.len ≡ bit_count t) × (r.lo + r.len ≤ width)
 FitsHeld width _ t = ⊥
 

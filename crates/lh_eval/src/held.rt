@@ -63,7 +63,7 @@ impl Model for Slots {
 }
 
 impl Slots {
-    /// Slots for so many values, in which nothing is held.
+    /// Slots for this many values, in which nothing is held.
     pub fn new(alloc: Global, len: u32) -> Result<Slots, NoMemory>
         ensures { IfOk result (λ s. s ≡ replicate len None) }
     {

@@ -31,7 +31,7 @@ use Rattle.lh_verify_laws.specs.Operands.{IsOf, RowIs}
 use Rattle.lh_verify_laws.specs.KindsOf.{ArgsHaveKinds, HasTypeOfKind}
 use Rattle.lh_verify_laws.proofs.KindsLaw.{operands_have_types}
 use Rattle.lh_verify_laws.proofs.Sound.{site_in, at_site}
-use Rattle.lh_eval.specs.Fitting.{IsValueType, Fits}
+use Rattle.lh_eval.specs.Fitting.{IsTypeWithinLimits, Fits}
 use Rattle.lh_eval.specs.Sound.{InstIsSound}
 use Rattle.lh_eval.proofs.GivesFit.{value-type}
 use Rattle.lh_eval_laws.specs.Ranges.{RangesFit, arg_types, signal_types, InstanceFits}
@@ -93,7 +93,7 @@ module _ (u : UnitText) (now : List Bool) (memory : Option (List Bool)) (t : Ins
       → most ≡ suc (length (places u)) → InitialFound e i
   initial-found most (sig_text a) r row wr h q m =
       let same : wr.0 ≡ row.0 = same_Some wr.0 row.0 (sym wr.1 ∙ row.2.0) in
-      let v : IsValueType row.0 = value-type row.0 (subst IsData same wr.2) in
+      let v : IsTypeWithinLimits row.0 = value-type row.0 (subst IsData same wr.2) in
       let free : depends_on_probe most u a.value ≡ false = ap (λ k. depends_on_probe k u a.value) m ∙ q in
       let x = some-of (e a.value) (h.0 free row.0 row.2.1 v) in
       let d = value-held w x.0 row.0 v (f a.value x.0 row.0 x.1 row.2.1) in
@@ -267,8 +267,8 @@ module _ (a : Arena) (u : ℕ) (o : IsArena a) (h : u < unit_count a) (g : IsWel
         (nothing-fits here (length bits))
         sound.lines entity.0 (fit-lines lines entity.1 (lines-printed here sound.printable)) firsts kinds sigs-there) told.free
       where
-        no-signal : (b : TypeTree) (ty : TypeTree) → signal_type b ≡ ty → IsValueType ty → ⊥
-        no-signal b ty e v = let P : TypeTree → Type 0 = IsValueType in subst P (sym e) v
+        no-signal : (b : TypeTree) (ty : TypeTree) → signal_type b ≡ ty → IsTypeWithinLimits ty → ⊥
+        no-signal b ty e v = let P : TypeTree → Type 0 = IsTypeWithinLimits in subst P (sym e) v
 
         no-values : (n : List ℕ) → args_define n here.args ≡ true → (i : ℕ) → 0 ≤ i → FreeValue here bits None first_at i nothing_held n
         no-values n q i le d ty is v =

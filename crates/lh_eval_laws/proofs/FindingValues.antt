@@ -27,7 +27,7 @@ use Rattle.lh_unit.proofs.Lists.{Each-fails}
 use Rattle.lh_verify_laws.specs.Operands.{IsOf, RowIs}
 use Rattle.lh_verify_laws.specs.Parts.{HasPart}
 use Rattle.lh_verify_laws.specs.KindsOf.{HasTypeOfKind}
-use Rattle.lh_eval.specs.Fitting.{IsValueType, FitsHeld, Fits}
+use Rattle.lh_eval.specs.Fitting.{IsTypeWithinLimits, FitsHeld, Fits}
 use Rattle.lh_eval.specs.Sound.{IsWrittenRight, InstIsSound}
 use Rattle.lh_eval.proofs.GivesFit.{operations-fit}
 use Rattle.lh_eval.proofs.ValuesFit.{datum-held}
@@ -39,7 +39,7 @@ use Rattle.lh_eval_laws.proofs.FindingPass.{KnownNames, known_after, NamesKnown,
 use Rattle.lh_eval_laws.proofs.FindingStatic.{result-is, after, static_after, static-line-fits, static-stays}
 
 -- what fits a data type or a time is a value
-pub value-held : (w : ℕ) (h : Held) (t : TypeTree) → IsValueType t → FitsHeld w h t → (d : Datum) × (as_datum h ≡ Some d)
+pub value-held : (w : ℕ) (h : Held) (t : TypeTree) → IsTypeWithinLimits t → FitsHeld w h t → (d : Datum) × (as_datum h ≡ Some d)
 value-held w (datum_held d) t v f = (d, refl)
 value-held w (cell_held d) (pointer_type t) v f = absurd v
 value-held w (cell_held d) _ v f = absurd f
@@ -78,13 +78,13 @@ part-no-datum u e o (y ∷ []) x d g a = by (value_type u y.value) (part_at e y.
 module _ (u : UnitText) (now : List Bool) (memory : Option (List Bool)) (t : Instant) where
   -- a value that comes from no probe within k steps is held
   abbrev pub FreeValue : ℕ → Env → List ℕ → Type 0
-  FreeValue k e n = depends_on_probe k u n ≡ false → (ty : TypeTree) → IsOf u ty n → IsValueType ty → IsSome (e n)
+  FreeValue k e n = depends_on_probe k u n ≡ false → (ty : TypeTree) → IsOf u ty n → IsTypeWithinLimits ty → IsSome (e n)
 
   abbrev pub ValuesHeld : ℕ → KnownNames → Env → Type 0
   ValuesHeld j known e = (n : List ℕ) → known n ≡ true → (k : ℕ) → j ≤ k → FreeValue k e n
 
   module _ (w : ℕ) (p : Passed) (f : Fits u w p.held) (e : Env) (fe : Fits u w e) (k : ℕ) where
-    value-in : (n : List ℕ) (ty : TypeTree) → IsOf u ty n → IsValueType ty → IsSome (e n) → (d : Datum) × (datum_at e n ≡ Some d)
+    value-in : (n : List ℕ) (ty : TypeTree) → IsOf u ty n → IsTypeWithinLimits ty → IsSome (e n) → (d : Datum) × (datum_at e n ≡ Some d)
     value-in n ty i v h =
         let x = some-of (e n) h in
         let d = value-held w x.0 ty v (fe n x.0 ty x.1 i) in
@@ -123,15 +123,15 @@ module _ (u : UnitText) (now : List Bool) (memory : Option (List Bool)) (t : Ins
             absurd (part-no-datum u p.held o os x d s v)
 
   -- a `sig` gives a signal
-  sig-gives : (a : OperandText) (ty : TypeTree) → RowIs u (sig_text a) → result_type (sig_text a) ≡ Some ty → IsValueType ty → ⊥
+  sig-gives : (a : OperandText) (ty : TypeTree) → RowIs u (sig_text a) → result_type (sig_text a) ≡ Some ty → IsTypeWithinLimits ty → ⊥
   sig-gives a ty row res v =
       let made : option_and_then signal_of a.ty ≡ Some (signal_type row.0) = ap (option_and_then signal_of) row.2.0 ∙ ap (λ b. if b then Some (signal_type row.0) else None) row.1 in
       let same : signal_type row.0 ≡ ty = same_Some (signal_type row.0) ty (sym made ∙ res) in
-      let P : TypeTree → Type 0 = IsValueType in subst P (sym same) v
+      let P : TypeTree → Type 0 = IsTypeWithinLimits in subst P (sym same) v
 
   value-result : (w k : ℕ) (l : LineText) (p : Passed) (e : Env) → Fits u w p.held → Fits u w e → InstIsSound u l → IsFitLine l → IsFirst u.args (lines_of u.blocks) l
       → Each (HasTypeOfKind u) (uses l.inst) → FindsInPass u now t p l.inst
-      → Each (FreeValue k e) (values_named l.inst) → (n : List ℕ) → is_result_name n l.result ≡ true → depends_on_probe (suc k) u n ≡ false → (ty : TypeTree) → IsOf u ty n → IsValueType ty
+      → Each (FreeValue k e) (values_named l.inst) → (n : List ℕ) → is_result_name n l.result ≡ true → depends_on_probe (suc k) u n ≡ false → (ty : TypeTree) → IsOf u ty n → IsTypeWithinLimits ty
       → IsSome (static_after u now memory t e l n)
   value-result w k l p e f fe s a first c h b n q dep ty i v = at l.inst s.row s.part s.written (sym (s.gives n (result-is l.result n q)) ∙ i) a.0 a.1 c h b from
     where

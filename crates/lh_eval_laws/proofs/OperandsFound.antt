@@ -25,9 +25,9 @@ use Rattle.lh_unit.specs.Effects.{stepped, signal_part, step_of, operated, read_
 use Rattle.lh_unit.specs.Pass.{Passed, delay_of}
 use Rattle.lh_unit.specs.Within.{Each}
 use Rattle.lh_verify_laws.specs.Operands.{IsOf, MayBeOf, IsLike, TriggerIs, RowIs}
-use Rattle.lh_verify_laws.specs.Parts.{TakesPart, PutsPart, LeadsTo, HasPart}
+use Rattle.lh_verify_laws.specs.Parts.{TakesPart, PutsPart, StepLeadsTo, HasPart}
 use Rattle.lh_verify_laws.proofs.PartsLaw.{parts_have_ranges}
-use Rattle.lh_eval.specs.Fitting.{IsValueType, FitsHeld, Fits}
+use Rattle.lh_eval.specs.Fitting.{IsTypeWithinLimits, FitsHeld, Fits}
 use Rattle.lh_eval.specs.Sound.{HasOperands, IsWrittenRight}
 use Rattle.lh_eval_laws.specs.Finding.{TriggerFinds, FindsInPass}
 
@@ -42,7 +42,7 @@ data-is-value : (t : TypeTree) → is_data t ≡ true → is_value_type t ≡ tr
 data-is-value t h = rw h refl
 
 -- what fits a data type or time is a value of it
-pub as-value : (w : ℕ) (h : Held) (t : TypeTree) → is_value_type t ≡ true → FitsHeld w h t → (d : Datum) × (as_datum h ≡ Some d) × FitsType d t × IsValueType t
+pub as-value : (w : ℕ) (h : Held) (t : TypeTree) → is_value_type t ≡ true → FitsHeld w h t → (d : Datum) × (as_datum h ≡ Some d) × FitsType d t × IsTypeWithinLimits t
 as-value w (datum_held d) t v f = (d, refl, f.1, f.0)
 as-value w (cell_held d) (pointer_type t) v f = absurd cc
 as-value w (cell_held d) _ v f = absurd f
@@ -76,7 +76,7 @@ carries-value void_type d = absurd d
 carries-value (signal_type t) d = absurd d
 carries-value (pointer_type t) d = absurd d
 
-pub value-data : (t : TypeTree) → is_data t ≡ true → IsValueType t → IsData t
+pub value-data : (t : TypeTree) → is_data t ≡ true → IsTypeWithinLimits t → IsData t
 value-data (int_type n) h v = v
 value-data (array_type n t) h v = v
 value-data (tuple_type ts) h v = v
@@ -87,7 +87,7 @@ value-data (pointer_type t) h v = v
 
 module _ (u : UnitText) (w : ℕ) (e : Env) (fits : Fits u w e) where
   -- a value of its type is there
-  pub value-at : (n : List ℕ) (t : TypeTree) → IsOf u t n → is_value_type t ≡ true → IsSome (e n) → (d : Datum) × (datum_at e n ≡ Some d) × FitsType d t × IsValueType t
+  pub value-at : (n : List ℕ) (t : TypeTree) → IsOf u t n → is_value_type t ≡ true → IsSome (e n) → (d : Datum) × (datum_at e n ≡ Some d) × FitsType d t × IsTypeWithinLimits t
   value-at n t o v h =
       let x = some-of (e n) h in
       let d = as-value w x.0 t v (fits n x.0 t x.1 o) in
@@ -151,7 +151,7 @@ module _ (u : UnitText) (w : ℕ) (e : Env) (fits : Fits u w e) where
       of-value : (t : TypeTree) → IsOf u t k.operand.value → is_value_type t ≡ true → IsSome (operated u e o os)
       of-value t i v = operated-values o os (subst (Each HasValue) (sym k.operands) ((t, v, i), tt)) h
 
-      at : (t : TypeTree) → IsOf u t k.operand.value → LeadsTo s t k.of → IsSome (operated u e o os)
+      at : (t : TypeTree) → IsOf u t k.operand.value → StepLeadsTo s t k.of → IsSome (operated u e o os)
       at (signal_type t) i l =
           let r = part-at k.operand.value t i held in
           let q : range_of t (s ∷ []) ≡ Some _ = parts_have_ranges t s l.0 l.1 in

@@ -17,7 +17,7 @@ use Rattle.lh_unit.specs.declared.inst.ValueId.{ValueId}
 use Rattle.lh_unit.specs.declared.inst.Typed.{Typed}
 use Rattle.lh_verify_laws.specs.Operands.{RowIs, IsOf}
 use Rattle.lh_eval.specs.Holding.{Holds, slot_at, datum_in, part_in}
-use Rattle.lh_eval.specs.Fitting.{IsValueType, FitsHeld, Fits, PartFits, OperandsFit, ProbeFits, DriveFits}
+use Rattle.lh_eval.specs.Fitting.{IsTypeWithinLimits, FitsHeld, Fits, PartFits, OperandsFit, ProbeFits, DriveFits}
 use Rattle.lh_eval.specs.Sound.{HasOperands}
 use Rattle.lh_eval.proofs.HeldByIds.{same-held}
 use Rattle.lh_eval.proofs.ValuesFit.{datum-held, fits-row}
@@ -32,7 +32,7 @@ module _ (a : Arena) (u w : ℕ) (slots : List (Option Held)) (e : Env) (d : Hol
       × (x.len ≡ bit_count t) × (x.lo + x.len ≤ w)
   part-fits v x t l p g = held-fits v (part_held x) (signal_type t) l (part-held (slot_at slots v) x p) g
 
-  datum-fits : (v : ValueId) (x : Datum) (t : TypeTree) → v.0 < length slots → datum_in slots v ≡ Some x → value_type (unit_text_at a u) (value_text (naming a u) v) ≡ Some t → IsValueType t
+  datum-fits : (v : ValueId) (x : Datum) (t : TypeTree) → v.0 < length slots → datum_in slots v ≡ Some x → value_type (unit_text_at a u) (value_text (naming a u) v) ≡ Some t → IsTypeWithinLimits t
       × FitsType x t
   datum-fits v x t l p g = held-fits v (datum_held x) t l (datum-held (slot_at slots v) x p) g
 

@@ -9,24 +9,24 @@ is_filled [] = false
 is_filled (x ∷ more) = true
 
 -- the first instant of these, if there is one, is later
-abbrev pub IsBefore : Instant → List (Instant × List (ℕ × Bool)) → Type 0
-IsBefore t [] = Unit {0}
-IsBefore t (d ∷ more) = instant_lt t d.0 ≡ true
+abbrev pub FirstInstantIsLater : Instant → List (Instant × List (ℕ × Bool)) → Type 0
+FirstInstantIsLater t [] = Unit {0}
+FirstInstantIsLater t (d ∷ more) = instant_lt t d.0 ≡ true
 
 -- the bit of the first of these, if there is one, is above
-abbrev pub IsAbove : ℕ → List (ℕ × Bool) → Type 0
-IsAbove b [] = Unit {0}
-IsAbove b (w ∷ more) = b < w.0
+abbrev pub FirstBitIsAbove : ℕ → List (ℕ × Bool) → Type 0
+FirstBitIsAbove b [] = Unit {0}
+FirstBitIsAbove b (w ∷ more) = b < w.0
 
 -- the bits strictly rise, so that none is named twice
 abbrev pub BitsRise : List (ℕ × Bool) → Type 0
 BitsRise [] = Unit {0}
-BitsRise (w ∷ more) = IsAbove w.0 more × BitsRise more
+BitsRise (w ∷ more) = FirstBitIsAbove w.0 more × BitsRise more
 
 -- each instant is before the next, its list is not empty, and the bits of the list strictly rise
 abbrev pub IsGrouped : List (Instant × List (ℕ × Bool)) → Type 0
 IsGrouped [] = Unit {0}
-IsGrouped (d ∷ more) = (is_filled d.1 ≡ true) × BitsRise d.1 × IsBefore d.0 more × IsGrouped more
+IsGrouped (d ∷ more) = (is_filled d.1 ≡ true) × BitsRise d.1 × FirstInstantIsLater d.0 more × IsGrouped more
 
 -- no list is empty, and no two that follow each other are of one instant
 abbrev pub Apart : List (Instant × List (ℕ × Bool)) → Type 0

@@ -19,7 +19,7 @@ use std::mem;
 /// A map from instants and signal bits to bits: what is wished so far.
 #[derive(Drop)]
 pub struct Wishes {
-    // What was wished before the runs. A run that belongs far in front would be dear to insert, so it begins a list anew.
+    // What was wished before the runs. A run that belongs far in front would be expensive to insert, so it begins a new list.
     layers: Vec<Layer>,
     // In order of the instants, then of the bits; no two of them overlap, and none is empty.
     runs: Items<WishRun>,

@@ -23,7 +23,7 @@ use Rattle.lh_exec.specs.Standing.{scene_of}
 use Rattle.lh_exec.specs.States.{StandsBy, FitsBy, SlotsFit, HoldsThere}
 use Rattle.lh_unit.specs.World.{begun}
 use Rattle.lh_exec.specs.Sound.{UnitRight, PointFits, EndHolds}
-use Rattle.lh_exec.specs.Steady.{Reaches, IsSteady}
+use Rattle.lh_exec.specs.Steady.{InstructionsLead, IsSteady}
 use Rattle.lh_exec.proofs.Rights.{unit-right, functions-right, defined-value}
 use Rattle.lh_exec.proofs.Placed.{UnitSteady, FunctionsSteady, PlacesIn, places-of-items, unit-steady, functions-steady}
 use Rattle.lh_exec.proofs.Paths.{ControlHolds, entry-holds, line-in, edge-holds}
@@ -102,7 +102,7 @@ module _ (a : Arena) (u : ℕ) (o : IsArena a) (h : u < unit_count a) (process :
   -- at each point that it reaches nothing goes wrong
   pub activation-steady : (now : List Bool) (t : Instant) (args : List Range) → RangesFit (length now) args (arg_types (unit_text_at a u).args) → (s : declared.Stand) → FitsBy a u (length now) s
       → (p : ProcessState) → StandsBy a u args s p → (c : Control) → control_at (unit_text_at a u) p ≡ Some c
-      → (points : List Point) (q : Point) → Reaches (scene_of a now t) (start_point c) points q → IsSteady (scene_of a now t) (length now) q
+      → (points : List Point) (q : Point) → InstructionsLead (scene_of a now t) (start_point c) points q → IsSteady (scene_of a now t) (length now) q
   activation-steady now t args r s f p k c e points q x =
       reached (contents a) now t (functions-right a o g) functions-hold (unit_text_at a u) points (start_point c) q (begun-fits (length now) args r s f p k c e)
       (begun-holds (length now) args r s f p k c e) x

@@ -21,7 +21,7 @@ use Rattle.lh_unit.proofs.Within.{Each-more}
 use Rattle.lh_unit.proofs.Lists.{Each-of-map}
 use Rattle.lh_unit.proofs.ContentsLemmas.{Each-by_blocks}
 use Rattle.lh_text_laws.specs.ItemLines.{item_line}
-use Rattle.lh_text_laws.specs.Printable.{HasInstLine, IsLabelled, HasShape, IsPrintable, IsPrintableItem}
+use Rattle.lh_text_laws.specs.Printable.{HasInstLine, BlockIsLabelled, HasShape, IsPrintable, IsPrintableItem}
 use Rattle.lh_verify_laws.specs.Defined.{OperandsThere}
 use Rattle.lh_verify_laws.specs.Shape.{EndsRight, PhiIsRight}
 use Rattle.lh_verify_laws.proofs.Sound.{site_in}
@@ -93,9 +93,9 @@ Shaped bs = (b : BlockText) × (more : List BlockText) × (bs ≡ b ∷ more) ×
 shaped-by : (k : UnitKind) (bs : List BlockText) → in_entity k ≡ false → HasShape k bs → Shaped bs
 shaped-by kind.Entity bs e h = absurd cc
 shaped-by kind.Func [] e h = absurd h
-shaped-by kind.Func (b ∷ bs) e h = (b, bs, refl, Each-more IsLabelled (λ (x : BlockText). NotNil x.lines) (b ∷ bs) (λ x q. not-nil x.lines q.1) h)
+shaped-by kind.Func (b ∷ bs) e h = (b, bs, refl, Each-more BlockIsLabelled (λ (x : BlockText). NotNil x.lines) (b ∷ bs) (λ x q. not-nil x.lines q.1) h)
 shaped-by kind.Proc [] e h = absurd h
-shaped-by kind.Proc (b ∷ bs) e h = (b, bs, refl, Each-more IsLabelled (λ (x : BlockText). NotNil x.lines) (b ∷ bs) (λ x q. not-nil x.lines q.1) h)
+shaped-by kind.Proc (b ∷ bs) e h = (b, bs, refl, Each-more BlockIsLabelled (λ (x : BlockText). NotNil x.lines) (b ∷ bs) (λ x q. not-nil x.lines q.1) h)
 
 pub unit-steady : (u : UnitText) → in_entity u.kind ≡ false → IsPrintable u → Each (PlaceRight u) (places u) → UnitSteady u
 unit-steady u e p s =

@@ -15,7 +15,7 @@ use Rattle.lh_unit.specs.Held.{Held, datum_held, cell_held, Env, datum_at, cell_
 use Rattle.lh_unit.specs.Effects.{operated, probed, driven}
 use Rattle.lh_unit.specs.Activation.{Scene, Stand, Control, Caller, Point, Activated, Next, goes, ends, no_step, entered, gives, jumps, wishes, tells, stores, opens, asserted, called, given_back, goes_back, returns, chosen, ends_at, wake_at, waiting, executes, steps_by, step, run, went, functions, max_calls}
 use Rattle.lh_exec.specs.Sound.{FunctionsRight, PointFits, StandHolds}
-use Rattle.lh_exec.specs.Steady.{FindsOperands, FindsFirst, CallsFirst, IsSteady, Reaches}
+use Rattle.lh_exec.specs.Steady.{FindsOperands, FindsFirst, CallsFirst, IsSteady, InstructionsLead}
 use Rattle.lh_exec.proofs.KeepsFit.{NextFits, step-fits}
 use Rattle.lh_exec.proofs.Placed.{FunctionsSteady, NotNil}
 use Rattle.lh_exec.proofs.Steady.{PointHolds, NextHolds}
@@ -134,7 +134,7 @@ module _ (items : List ItemText) (now : List Bool) (t : Instant) (fs : Functions
   next-point v x q e f k = (subst (NextFits items (length now) t u v) e f, subst (NextHolds v) e k)
 
   -- at each point that is reached
-  pub reached : (points : List Point) (p q : Point) → PointFits items (length now) u p → PointHolds p → Reaches scene p points q → IsSteady scene (length now) q
+  pub reached : (points : List Point) (p q : Point) → PointFits items (length now) u p → PointHolds p → InstructionsLead scene p points q → IsSteady scene (length now) q
   reached [] p q f k r = subst (IsSteady scene (length now)) r (is-steady p f k)
   reached (x ∷ points) p q f k r =
       let n = next-point p.control.unit (step scene p) x r.0 (step-fits items now t fs u p f) (step-holds items now t fs ss u p f k) in

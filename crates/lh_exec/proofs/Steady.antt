@@ -25,7 +25,7 @@ use Rattle.lh_verify_laws.specs.Calls.{ArgumentsAre}
 use Rattle.lh_verify_laws.specs.Defined.{IsThere}
 use Rattle.lh_verify_laws.specs.KindsOf.{HasTypeOfKind}
 use Rattle.lh_verify_laws.specs.Operands.{IsOf, MayBeOf}
-use Rattle.lh_eval.specs.Fitting.{IsValueType, FitsHeld, Fits}
+use Rattle.lh_eval.specs.Fitting.{IsTypeWithinLimits, FitsHeld, Fits}
 use Rattle.lh_verify_laws.proofs.EachItem.{each-split}
 use Rattle.lh_verify_laws.proofs.AtPlaces.{place-at}
 use Rattle.lh_verify_laws.proofs.There.{there-before}
@@ -80,12 +80,12 @@ kind-datum w (part_held r) (signal_type t) a_time e g f = absurd cc
 kind-datum w (part_held r) (signal_type t) a_pointer e g f = absurd cc
 kind-datum w (part_held r) _ k e g f = absurd f
 
-cell-of : (w : ℕ) (h : Held) (t : TypeTree) → FitsHeld w h (pointer_type t) → (d : Datum) × (as_cell h ≡ Some d) × IsValueType t
+cell-of : (w : ℕ) (h : Held) (t : TypeTree) → FitsHeld w h (pointer_type t) → (d : Datum) × (as_cell h ≡ Some d) × IsTypeWithinLimits t
 cell-of w (datum_held d) t f = absurd f.0
 cell-of w (cell_held d) t f = (d, refl, f.0)
 cell-of w (part_held r) t f = absurd f
 
-pub value-is : (t : TypeTree) → IsValueType t → is_value_type t ≡ true
+pub value-is : (t : TypeTree) → IsTypeWithinLimits t → is_value_type t ≡ true
 value-is time_type v = refl
 value-is t v = carries-value t v
 
@@ -96,7 +96,7 @@ module _ (u : UnitText) (w : ℕ) (e : Env) (f : Fits u w e) where
       let d = kind-datum w x.0 k.0 k.1 k.3 k.4 (f n x.0 k.0 x.1 k.2) in
       (d.0, ap (option_and_then as_datum) x.1 ∙ d.1)
 
-  pub cell-there : (n : List ℕ) (t : TypeTree) → IsOf u (pointer_type t) n → IsSome (e n) → (d : Datum) × (cell_at e n ≡ Some d) × IsValueType t
+  pub cell-there : (n : List ℕ) (t : TypeTree) → IsOf u (pointer_type t) n → IsSome (e n) → (d : Datum) × (cell_at e n ≡ Some d) × IsTypeWithinLimits t
   cell-there n t o h =
       let x = some-of (e n) h in
       let d = cell-of w x.0 t (f n x.0 (pointer_type t) x.1 o) in

@@ -7,7 +7,7 @@ use Rattle.lh_unit.specs.World.{waited, wake_at}
 use Rattle.lh_unit.specs.Arena.{Arena}
 use Rattle.lh_exec.specs.declared.state.WaitOn.{WaitOn}
 use Rattle.lh_exec.specs.declared.state.ProcState.{ProcState}
-use Rattle.lh_exec.specs.States.{StandsForState, StateFits, PartsWithin, waited_on}
+use Rattle.lh_exec.specs.States.{StandsForState, ProcStateFits, PartsWithin, waited_on}
 
 -- the parts for which a process waits, none where it does not wait
 abbrev pub parts_of : Option WaitOn → List Range
@@ -21,7 +21,7 @@ wake_of (Some on) = on.wake
 
 -- Each state that fits stands for some state.
 abbrev pub FittingStands : Type 0
-FittingStands = (a : Arena) (u width : ℕ) (args : List Range) (s : ProcState) → StateFits a u width s → (p : ProcessState) × StandsForState a u args s p
+FittingStands = (a : Arena) (u width : ℕ) (args : List Range) (s : ProcState) → ProcStateFits a u width s → (p : ProcessState) × StandsForState a u args s p
 
 -- A state waits for the parts, and until the instant, for which what it stands for does.
 abbrev pub WaitsAsHeld : Type 0
@@ -30,4 +30,4 @@ WaitsAsHeld = (a : Arena) (u : ℕ) (args : List Range) (s : ProcState) (p : Pro
 
 -- A state that fits waits for parts within the signals.
 abbrev pub WaitsWithin : Type 0
-WaitsWithin = (a : Arena) (u width : ℕ) (s : ProcState) → StateFits a u width s → PartsWithin width (parts_of (waited_on s))
+WaitsWithin = (a : Arena) (u width : ℕ) (s : ProcState) → ProcStateFits a u width s → PartsWithin width (parts_of (waited_on s))

@@ -62,7 +62,7 @@ pub record SlotsFit (a : Arena) (u : ℕ) (width : ℕ) (slots : List (Option He
   pub holds : Holds a u slots env
   pub fits : Fits (unit_text_at a u) width env
 
--- the parts lie within so many bits
+-- the parts lie within this many bits
 abbrev pub PartsWithin : (width : ℕ) → List Range → Type 0
 PartsWithin width parts = Each (λ (r : Range). r.lo + r.len ≤ width) parts
 
@@ -87,8 +87,8 @@ FitsBy a u width (stand.Waits w) = PauseFits a u width w
 FitsBy a u width stand.Halted = Unit {0}
 
 -- the same of a state
-abbrev pub StateFits : Arena → ℕ → (width : ℕ) → ProcState → Type 0
-StateFits a u width s = FitsBy a u width s.stand
+abbrev pub ProcStateFits : Arena → ℕ → (width : ℕ) → ProcState → Type 0
+ProcStateFits a u width s = FitsBy a u width s.stand
 
 -- where a process waits, it wakes by itself only later than at this instant
 abbrev pub WakesLaterBy : Instant → Stand → Type 0
@@ -104,7 +104,7 @@ WakesLater at s = WakesLaterBy at s.stand
 -- instants strictly rise, none is empty and none names a bit twice, and each names only bits of the signals; and the outcomes are the same.
 pub record GivesActivation (a : Arena) (u : ℕ) (args : List Range) (width : ℕ) (act : Act) (done : Activated) : Type 0 where
   pub next : StandsForState a u args act.next done.state
-  pub fits : StateFits a u width act.next
+  pub fits : ProcStateFits a u width act.next
   pub wish : writes_wish act.wishes ≡ done.wish
   pub grouped : IsGrouped act.wishes
   pub within : Each (λ (d : Instant × List (ℕ × Bool)). BitsWithin width d.1) act.wishes

@@ -18,7 +18,7 @@ use Rattle.lh_eval.specs.Fitting.{Fits}
 use Rattle.lh_eval_laws.specs.Ranges.{RangesFit, arg_types}
 use Rattle.lh_exec.specs.declared.state.ProcState.{ProcState}
 use Rattle.lh_exec.specs.Standing.{scene_of}
-use Rattle.lh_exec.specs.States.{StandsForState, StateFits}
+use Rattle.lh_exec.specs.States.{StandsForState, ProcStateFits}
 
 -- An instruction finds what it looks for: its operands, the block to which it leads with the values of its `phi`, the function that it calls, and what it ends. Those of entities do not come.
 abbrev pub FindsOperands : Scene → Point → InstText → Type 0
@@ -59,9 +59,9 @@ pub record IsSteady (s : Scene) (width : ℕ) (p : Point) : Type 0 where
   pub stops : step s p ≡ no_step → CallsFirst p.control.rest × (max_calls ≤ length p.callers)
 
 -- executed instructions lead from one point to another, by the points after each of them
-abbrev pub Reaches : Scene → Point → List Point → Point → Type 0
-Reaches s p [] q = p ≡ q
-Reaches s p (x ∷ more) q = (step s p ≡ goes x) × Reaches s x more q
+abbrev pub InstructionsLead : Scene → Point → List Point → Point → Type 0
+InstructionsLead s p [] q = p ≡ q
+InstructionsLead s p (x ∷ more) q = (step s p ≡ goes x) × InstructionsLead s x more q
 
 -- an activation of the process u of the module begins in this state, with arguments and signals that fit
 pub record BeginsActivation (a : Arena) (u : ℕ) (args : List Range) (width : ℕ) (s : ProcState) (p : ProcessState) : Type 0 where
@@ -70,7 +70,7 @@ pub record BeginsActivation (a : Arena) (u : ℕ) (args : List Range) (width : �
   pub process : kind_at a u ≡ Some kind.Proc
   pub formed : IsWellFormed (contents a)
   pub ranges : RangesFit width args (arg_types (unit_text_at a u).args)
-  pub fits : StateFits a u width s
+  pub fits : ProcStateFits a u width s
   pub stands : StandsForState a u args s p
 
 -- Each activation has a place to begin, but that of a process that has halted.
@@ -82,4 +82,4 @@ ActivationsBegin = (a : Arena) (u : ℕ) (args : List Range) (width : ℕ) (s : 
 abbrev pub ActivationsAreSteady : Type 0
 ActivationsAreSteady = (a : Arena) (u : ℕ) (args : List Range) (now : List Bool) (t : Instant) (s : ProcState) (p : ProcessState) → BeginsActivation a u args (length now) s p → (c : Control)
     → control_at (unit_text_at a u) p ≡ Some c → (points : List Point) (q : Point)
-    → Reaches (scene_of a now t) (start_point c) points q → IsSteady (scene_of a now t) (length now) q
+    → InstructionsLead (scene_of a now t) (start_point c) points q → IsSteady (scene_of a now t) (length now) q

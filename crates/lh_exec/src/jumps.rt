@@ -246,7 +246,7 @@ fn parts_in(
     Ok(Some(parts))
 }
 
-/// An empty list with room for so many parts. Most processes wait for one, which takes no memory of its own.
+/// An empty list with room for this many parts. Most processes wait for one, which takes no memory of its own.
 fn room_for(alloc: Global, count: usize) -> Result<MostlyOne<Range>, NoMemory>
     ensures { IfOk result (λ parts. parts ≡ []) }
 {

@@ -8,7 +8,7 @@ ghost use Rattle.lh_unit.specs.Arena.{Arena, IsArena, unit_count, kind_at, conte
 ghost use Rattle.lh_unit.specs.WellFormed.{IsWellFormed};
 ghost use Rattle.lh_eval_laws.specs.Ranges.{RangesFit, arg_types};
 ghost use Rattle.lh_exec.specs.Standing.{scene_of};
-ghost use Rattle.lh_exec.specs.States.{StandsForState, StandsBy, StateFits, FitsBy, ActivationOrRunaway, GivesMaybe, WakesLater};
+ghost use Rattle.lh_exec.specs.States.{StandsForState, StandsBy, ProcStateFits, FitsBy, ActivationOrRunaway, GivesMaybe, WakesLater};
 ghost use Rattle.lh_exec.specs.Sound.{Finishes, EndHolds, stood};
 
 use crate::begin::begin;
@@ -81,7 +81,7 @@ pub fn activate<T: Tally>(
     requires unit { i.now.unit.0 < unit_count m.now }
     requires process { kind_at m.now i.now.unit.0 ≡ Some UnitKind.Proc }
     requires args { RangesFit (length now.now) i.now.args (arg_types (unit_text_at m.now i.now.unit.0).args) }
-    requires fits { StateFits m.now i.now.unit.0 (length now.now) s.now }
+    requires fits { ProcStateFits m.now i.now.unit.0 (length now.now) s.now }
     ensures act { (p : ProcessState) → StandsForState m.now i.now.unit.0 i.now.args s.now p → ActivationOrRunaway m.now i.now.unit.0 i.now.args (length now.now) result (activation 1000000 (scene_of m.now now.now at) (unit_text_at m.now i.now.unit.0) p) }
     ensures late { IfOk result (λ act. WakesLater at act.next) }
     ensures tick { T.count tally.new ≡ raised (T.count tally.old) 1 }

@@ -25,7 +25,7 @@ use Rattle.lh_unit.proofs.ModuleLaws.{line-placed}
 use Rattle.lh_verify_laws.proofs.CallsLaw.{calls_are_right}
 use Rattle.lh_verify_laws.proofs.ShapeLaw.{labels_are_blocks, all_allowed}
 use Rattle.lh_flat.specs.Graph.{callee_of}
-use Rattle.lh_flat.specs.Agrees.{IsBlockOf, IsCode}
+use Rattle.lh_flat.specs.Agrees.{IsOneOfBlocks, IsCode}
 use Rattle.lh_flat.specs.Building.{line_of}
 use Rattle.lh_flat.specs.CopyNames.{IsCallable, InstIsRight, BlockIsRight, UnitsAreRight}
 use Rattle.lh_flat.proofs.CallGraph.{CalleeIn, callee-in}
@@ -56,7 +56,7 @@ code-in (Some kind.Func) f _ h e = tt
 code-in (Some kind.Proc) f _ h e = tt
 
 module _ (a : Arena) (u : ℕ) (o : IsArena a) (l : u < unit_count a) (k : HasBlocks (kind_at a u)) where
-  is-block : (b : BlockId) → b.0 < label_count a u → (x : BlockText) × (block_of (label_name_at a u b.0) (unit_text_at a u).blocks ≡ Some x) → IsBlockOf (blocks_at a u) b
+  is-block : (b : BlockId) → b.0 < label_count a u → (x : BlockText) × (block_of (label_name_at a u b.0) (unit_text_at a u).blocks ≡ Some x) → IsOneOfBlocks (blocks_at a u) b
   is-block b h x = by (is_block (blocks_at a u) b.0) (sym (block_of-by_id a u o l b.0 k h) ∙ x.1)
     where
       by : (y : Bool) → (if y then Some (block_text (naming a u) (table_at a u) b) else None) ≡ Some x.0 → y ≡ true
@@ -65,7 +65,7 @@ module _ (a : Arena) (u : ℕ) (o : IsArena a) (l : u < unit_count a) (k : HasBl
 
   edges-blocks : (es : List PhiEdge) → Each (λ (e : PhiEdge). e.block.0 < label_count a u) es
       → Each (λ n. (b : BlockText) × (block_of n (unit_text_at a u).blocks ≡ Some b)) (map (λ (e : EdgeText). e.block) (map (edge_text (naming a u)) es))
-      → Each (IsBlockOf (blocks_at a u)) (map (λ (e : PhiEdge). e.block) es)
+      → Each (IsOneOfBlocks (blocks_at a u)) (map (λ (e : PhiEdge). e.block) es)
   edges-blocks [] h w = tt
   edges-blocks (e ∷ es) h w = (is-block e.block h.0 w.0, edges-blocks es h.1 w.1)
 
@@ -74,7 +74,7 @@ module _ (a : Arena) (u : ℕ) (o : IsArena a) (l : u < unit_count a) (k : HasBl
   second (e ∷ es) h = (h.0.1, second es h.1)
 
   named-blocks : (i : Inst) → InstPlaced a u i → Each (λ n. (b : BlockText) × (block_of n (unit_text_at a u).blocks ≡ Some b)) (labels_named (inst_text (naming a u) i))
-      → Each (IsBlockOf (blocks_at a u)) (blocks_named i)
+      → Each (IsOneOfBlocks (blocks_at a u)) (blocks_named i)
   named-blocks (inst.Phi ty edges) p w = edges-blocks edges (second edges p) w
   named-blocks (inst.Br to) p w = (is-block to p w.0, tt)
   named-blocks (inst.Branch cond zero one) p w = (is-block zero p.1 w.0, (is-block one p.2 w.1.0, tt))

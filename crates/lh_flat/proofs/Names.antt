@@ -14,7 +14,7 @@ use Rattle.lh_unit.specs.declared.inst.Inst.TheVariants as inst
 use Rattle.lh_flat.specs.declared.rename.Renaming.{Renaming}
 use Rattle.lh_flat.specs.Copies.{Copy, copied_operand, copied_edge}
 use Rattle.lh_flat.specs.Renames.{value_in, last_in, operand_in, edge_in, sizes_in}
-use Rattle.lh_flat.specs.Agrees.{IsBlockOf, Agrees, RenamesAsCopied}
+use Rattle.lh_flat.specs.Agrees.{IsOneOfBlocks, Agrees, RenamesAsCopied}
 
 abbrev typed : Option TypeTree → List ℕ → OperandText
 typed t n = record { value = n; ty = t }
@@ -32,12 +32,12 @@ operands-same f g fs bs y c r n a [] l = refl
 operands-same f g fs bs y c r n a (o ∷ os) l = cc (operand-same f g fs bs y c r n a o l.0, operands-same f g fs bs y c r n a os l.1)
 
 edge-same : (f g : Naming) (fs : List UnitText) (bs : List BlockId) (y : Bool) (c : Copy) (r : Renaming) (n : ℕ) → Agrees f g fs bs y c r → (e : PhiEdge) → EdgeWithin (sizes_in n r) e
-    → IsBlockOf bs e.block → edge_text g (edge_in r e) ≡ copied_edge fs c (edge_text f e)
+    → IsOneOfBlocks bs e.block → edge_text g (edge_in r e) ≡ copied_edge fs c (edge_text f e)
 edge-same f g fs bs y c r n a e l q =
     ap (λ v. edged v (g.label_name (last_in r e.block).0)) (a.values e.value l.0) ∙ ap (edged (c.value (value_text f e.value))) (a.lasts e.block q)
 
 edges-same : (f g : Naming) (fs : List UnitText) (bs : List BlockId) (y : Bool) (c : Copy) (r : Renaming) (n : ℕ) → Agrees f g fs bs y c r → (es : List PhiEdge) → Each (EdgeWithin (sizes_in n r)) es
-    → Each (IsBlockOf bs) (map (λ (x : PhiEdge). x.block) es) → map (edge_text g) (map (edge_in r) es) ≡ map (copied_edge fs c) (map (edge_text f) es)
+    → Each (IsOneOfBlocks bs) (map (λ (x : PhiEdge). x.block) es) → map (edge_text g) (map (edge_in r) es) ≡ map (copied_edge fs c) (map (edge_text f) es)
 edges-same f g fs bs y c r n a [] l q = refl
 edges-same f g fs bs y c r n a (e ∷ es) l q = cc (edge-same f g fs bs y c r n a e l.0 q.0, edges-same f g fs bs y c r n a es l.1 q.1)
 

@@ -28,7 +28,7 @@ use Rattle.lh_flat.specs.Copies.{Copy, copy_at, argument_or, first_piece, last_p
 use Rattle.lh_flat.specs.Flat.{FlatBlockText, merge_of, given_in, given_by, first_label, branch_into, flat_block, flat_copy}
 use Rattle.lh_flat.specs.Reads.{merge_edge_text, merge_text, flat_line_text}
 use Rattle.lh_flat.specs.Renames.{no_span, last_in, sizes_in}
-use Rattle.lh_flat.specs.Agrees.{IsBlockOf}
+use Rattle.lh_flat.specs.Agrees.{IsOneOfBlocks}
 use Rattle.lh_flat.specs.Fits.{IdsFit}
 use Rattle.lh_flat.specs.Building.{line_of, unit_room, call_room, spans_of, new_ids, bound, ids_for, call_args, call_ids, blocks_give, merge_in, taken, branch_to, entering, blocks_added, call_added}
 use Rattle.lh_flat.specs.CopyNames.{own_names, blocks_names, copy_names, NamedFrom, IsCallable, UnitsAreRight}
@@ -111,7 +111,7 @@ module _ (a : Arena) (o : IsArena a) (fs : List UnitText) (formed : UnitsAreRigh
       ∙ blocks-room a fs (flat_copy depth fs) (call_room depth a) (nests_below depth fs) (no_room depth a) (room-is depth) u c (blocks_at a u) k (formed u l k) n
 
   -- the pieces of each block have their labels
-  pieces-named : (depth u : ℕ) (c : Copy) (at from : ℕ) → CopyStarts a fs g depth u c at from → (b : BlockId) → IsBlockOf (blocks_at a u) b
+  pieces-named : (depth u : ℕ) (c : Copy) (at from : ℕ) → CopyStarts a fs g depth u c at from → (b : BlockId) → IsOneOfBlocks (blocks_at a u) b
       → SpanIsRight a fs g u c (spans_of (call_room depth a) a u at) b
   pieces-named depth u c at from s b h =
       spans-right a fs (flat_copy depth fs) (call_room depth a) (nests_below depth fs) (no_room depth a) (room-is depth) g u c b s.blocks
@@ -120,7 +120,7 @@ module _ (a : Arena) (o : IsArena a) (fs : List UnitText) (formed : UnitsAreRigh
       (subst (λ (x : UnitText). NamedFrom g.label_name at (labels (flat_map (flat_block (flat_copy depth fs) fs c) x.blocks))) s.unit s.labels) (inl h)
 
   -- the last piece of a block by its label
-  last-named : (u : ℕ) (c : Copy) (b : BlockId) → u < unit_count a → HasBlocks (kind_at a u) → c.unit ≡ unit_text_at a u → IsBlockOf (blocks_at a u) b
+  last-named : (u : ℕ) (c : Copy) (b : BlockId) → u < unit_count a → HasBlocks (kind_at a u) → c.unit ≡ unit_text_at a u → IsOneOfBlocks (blocks_at a u) b
       → last_piece fs c (block_text (naming a u) (table_at a u) b) ≡ last_piece_of fs c (label_name_at a u b.0)
   last-named u c b l k e h =
       let found : block_of (label_name_at a u b.0) (unit_text_at a u).blocks ≡ Some (block_text (naming a u) (table_at a u) b) =

@@ -14,15 +14,15 @@ use Rattle.lh_flat.specs.Copies.{Copy, first_piece, last_piece_of, copied}
 use Rattle.lh_flat.specs.Renames.{value_in, first_in, last_in, renamed, sizes_in}
 
 -- the block is one of these
-abbrev pub IsBlockOf : List BlockId → BlockId → Type 0
-IsBlockOf blocks b = is_block blocks b.0 ≡ true
+abbrev pub IsOneOfBlocks : List BlockId → BlockId → Type 0
+IsOneOfBlocks blocks b = is_block blocks b.0 ≡ true
 
 -- The names f of the ids of a unit with these blocks, and the names g of a flat text's: each new id has the name that the copy gives. A function returns.
 pub record Agrees (f g : Naming) (functions : List UnitText) (blocks : List BlockId) (returns : Bool) (c : Copy) (r : Renaming) : Type 0 where
   pub units : g.unit_name ≡ f.unit_name
   pub values : (v : ValueId) → v.0 < length r.values → value_text g (value_in r v) ≡ c.value (value_text f v)
-  pub firsts : (b : BlockId) → IsBlockOf blocks b → g.label_name (first_in r b).0 ≡ first_piece c (f.label_name b.0)
-  pub lasts : (b : BlockId) → IsBlockOf blocks b → g.label_name (last_in r b).0 ≡ last_piece_of functions c (f.label_name b.0)
+  pub firsts : (b : BlockId) → IsOneOfBlocks blocks b → g.label_name (first_in r b).0 ≡ first_piece c (f.label_name b.0)
+  pub lasts : (b : BlockId) → IsOneOfBlocks blocks b → g.label_name (last_in r b).0 ≡ last_piece_of functions c (f.label_name b.0)
   pub back : returns ≡ true → g.label_name r.back.0 ≡ c.path
 
 -- it may stand in a function, which returns, or in a process
@@ -36,5 +36,5 @@ IsCode returns _ = Unit {0}
 -- Where each new id has the name that a copy gives, an instruction with new ids says what the copy of its text says.
 abbrev pub RenamesAsCopied : Type 0
 RenamesAsCopied = (f g : Naming) (functions : List UnitText) (blocks : List BlockId) (returns : Bool) (c : Copy) (r : Renaming) (units : ℕ) → Agrees f g functions blocks returns c r → (i : Inst)
-    → IsCode returns i → InstWithin (sizes_in units r) i → Each (IsBlockOf blocks) (blocks_named i) →
+    → IsCode returns i → InstWithin (sizes_in units r) i → Each (IsOneOfBlocks blocks) (blocks_named i) →
     inst_text g (renamed r i) ≡ copied functions c (inst_text f i)

@@ -12,7 +12,7 @@ use Rattle.lh_unit.specs.declared.inst.BlockId.{BlockId}
 use Rattle.lh_unit.specs.declared.inst.InstId.{InstId}
 use Rattle.lh_unit.specs.declared.inst.Inst.{Inst}
 use Rattle.lh_flat.specs.Graph.{callee_of}
-use Rattle.lh_flat.specs.Agrees.{IsBlockOf, IsCode}
+use Rattle.lh_flat.specs.Agrees.{IsOneOfBlocks, IsCode}
 use Rattle.lh_flat.specs.Building.{line_of}
 
 -- the names of the values of a copy with this path
@@ -53,7 +53,7 @@ pub record IsCallable (a : Arena) (fs : List UnitText) (f : UnitId) : Type 0 whe
 -- an instruction of a function or a process: it may stand there, the labels that it names are those of blocks, and what it calls is a function
 pub record InstIsRight (a : Arena) (fs : List UnitText) (u : ℕ) (i : Inst) : Type 0 where
   pub code : IsCode (is_function (kind_text (kind_at a u))) i
-  pub blocks : Each (IsBlockOf (blocks_at a u)) (blocks_named i)
+  pub blocks : Each (IsOneOfBlocks (blocks_at a u)) (blocks_named i)
   pub called : (f : UnitId) → callee_of a i ≡ Some f → IsCallable a fs f
 
 -- each instruction of a block

@@ -11,7 +11,7 @@ use Rattle.lh_unit.specs.declared.inst.Inst.{Inst}
 use Rattle.lh_unit.specs.declared.inst.Inst.TheVariants as inst
 use Rattle.lh_flat.specs.declared.calls.CallNode.{CallNode}
 
--- a count stands still here
+-- a count saturates here
 abbrev pub max_counted : ℕ
 max_counted = 4294967295
 

@@ -5,7 +5,7 @@ use crate::calls::{CallNode, counted};
 use lh_unit::inst::UnitId;
 use lh_unit_graph::Measured;
 
-/// What is counted of copies of units: of one with all that is copied into it, or of some beside each other. Each number stands still
+/// What is counted of copies of units: of one with all that is copied into it, or of some beside each other. Each number saturates
 /// at its type's end.
 #[derive(Clone, Copy)]
 pub struct CallMeasure {

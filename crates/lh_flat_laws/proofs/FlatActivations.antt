@@ -18,7 +18,7 @@ use Rattle.lh_flat.specs.Copies.{Copy, top_copy, call_path, copy_at, opened, fir
 use Rattle.lh_flat.specs.Flat.{FlatText, flattened, flattened_by, flat_in, flat_unit, text_of, inst_count, max_nested, max_flat, with_line, pieces_from, flat_block, flat_copy, as_block}
 use Rattle.lh_flat.specs.Marks.{IsPlain}
 use Rattle.lh_flat_laws.specs.Tidy.{ArgsOnce, LineTidy, BlockTidy, UnitTidy, FunctionsTidy}
-use Rattle.lh_flat_laws.specs.Activates.{GoesOn, Proceeds, flat_stand, StandIsPlain, HoldsMore, StandsAlike, EndsAlike, ActivatesAlike, BeginsAlike}
+use Rattle.lh_flat_laws.specs.Activates.{ActivationGoesOn, Proceeds, flat_stand, StandIsPlain, FlatHoldsMore, StandsAlike, EndsAlike, ActivatesAlike, BeginsAlike}
 use Rattle.lh_flat.proofs.Marks.{Names, one, two, names}
 use Rattle.lh_flat_laws.proofs.HeldValues.{Holds}
 use Rattle.lh_flat_laws.proofs.LastPieces.{each-middle, ends-last}
@@ -54,11 +54,11 @@ run-longer (suc n) (suc m) s p d l e = by (step s p) (λ q. run-longer n m s q d
     by (ends y) go h = h
     by no_step go h = h
 
-goes-less : (n : ℕ) (s : Scene) (p : Point) → GoesOn (suc n) s p → GoesOn n s p
+goes-less : (n : ℕ) (s : Scene) (p : Point) → ActivationGoesOn (suc n) s p → ActivationGoesOn n s p
 goes-less zero s p g = tt
 goes-less (suc n) s p g = (g.0, λ q e. goes-less n s q (g.1 q e))
 
-pub goes-fewer : (n m : ℕ) (s : Scene) (p : Point) → n ≤ m → GoesOn m s p → GoesOn n s p
+pub goes-fewer : (n m : ℕ) (s : Scene) (p : Point) → n ≤ m → ActivationGoesOn m s p → ActivationGoesOn n s p
 goes-fewer zero m s p l g = tt
 goes-fewer (suc n) zero s p l g = absurd (omega (arith, l))
 goes-fewer (suc n) (suc m) s p l g = (g.0, λ q e. goes-fewer n m s q (omega (arith, l)) (g.1 q e))
@@ -193,7 +193,7 @@ module _ (s : Scene) (u : UnitText) (name : UnitName) (top : ℕ) (w : Functions
       let c = other m h refl a (sym (ap (λ y. went y (run m s)) x) ∙ r) in record { end = c.end; comes = ap (λ y. went y (run (suc m) s)) e ∙ run-more m s q c.end c.comes; alike = c.alike }
 
   -- in no more than so many instructions
-  run-within : (limit n : ℕ) (p f : Point) (done : Activated) → n ≤ limit → top < 256 → Alike s u name top w p f → GoesOn n s p → run n s f ≡ Some done → Comes n p done
+  run-within : (limit n : ℕ) (p f : Point) (done : Activated) → n ≤ limit → top < 256 → Alike s u name top w p f → ActivationGoesOn n s p → run n s f ≡ Some done → Comes n p done
   run-within limit zero p f done m l a g r = absurd (none-some done r)
   run-within zero (suc n) p f done m l a g r = absurd (omega (arith, m))
   run-within (suc limit) (suc n) p f done m l a g r =
@@ -212,7 +212,7 @@ module _ (s : Scene) (u : UnitText) (name : UnitName) (top : ℕ) (w : Functions
       by (ends d) e (goes h) z t go other = absurd t
       by (ends d) e no_step z t go other = absurd t
 
-  pub run-follows : (n : ℕ) (p f : Point) (done : Activated) → top < 256 → Alike s u name top w p f → GoesOn n s p → run n s f ≡ Some done → Comes n p done
+  pub run-follows : (n : ℕ) (p f : Point) (done : Activated) → top < 256 → Alike s u name top w p f → ActivationGoesOn n s p → run n s f ≡ Some done → Comes n p done
   run-follows n p f done l a g r = run-within n n p f done (omega arith) l a g r
 
   -- ---- the beginning
@@ -221,7 +221,7 @@ module _ (s : Scene) (u : UnitText) (name : UnitName) (top : ℕ) (w : Functions
     top-place : InPlace s u name top w top (top_copy u)
     top-place = record { tidy = t; stands = record { at = λ z x h e. e }; nests = n; fits = record { own = λ m e. refl; low = λ m. inl refl } }
 
-    top-holds : (e f : Env) → HoldsMore e f → Holds u (top_copy u) e f
+    top-holds : (e f : Env) → FlatHoldsMore e f → Holds u (top_copy u) e f
     top-holds e f h = record { plain = λ m g q. (h m g q).0; same = λ m g q. (h m g q).1; cells = λ m d q. refl; parts = λ m r q. refl }
 
     zero_first : (m : ℕ) → 0 + m ≡ m
@@ -249,7 +249,7 @@ module _ (s : Scene) (u : UnitText) (name : UnitName) (top : ℕ) (w : Functions
       pub begins : y ≡ Some control
       pub alike : Alike s u name top w (start_point c) (start_point control)
 
-    new-begun : (e f : Env) (c : Control) → HoldsMore e f → entry u e ≡ Some c → Begun c (entry (flat s u name top w) f)
+    new-begun : (e f : Env) (c : Control) → FlatHoldsMore e f → entry u e ≡ Some c → Begun c (entry (flat s u name top w) f)
     new-begun e f c h q = by u.blocks refl q
       where
         by : (bs : List BlockText) → u.blocks ≡ bs → at_first u e bs ≡ Some c
@@ -272,13 +272,13 @@ module _ (s : Scene) (u : UnitText) (name : UnitName) (top : ℕ) (w : Functions
               alike = begin-alike k g refl (first-runs s u name top w top (top_copy u) (label_or b.label) b e found) (top-holds e f h);
             }
 
-    waits-begun : (e f : Env) (c : Control) (block to : List ℕ) → HoldsMore e f → IsPlain block → entered u e block to ≡ Some c
+    waits-begun : (e f : Env) (c : Control) (block to : List ℕ) → FlatHoldsMore e f → IsPlain block → entered u e block to ≡ Some c
         → Begun c (entered (flat s u name top w) f (last_piece_of s.functions (top_copy u) block) to)
     waits-begun e f c block to h p q =
         let x = enters s u name top w top (top_copy u) e f block to c top-place (top-holds e f h) p q in
         record { control = x.control; begins = x.enters; alike = begin-alike c x.control x.unit x.runs x.gives.holds }
 
-    stand-begun : (v : Stand) (e f : Env) (c : Control) → HoldsMore e f → StandIsPlain v → control_from u e v ≡ Some c → Begun c (control_from (flat s u name top w) f (flat_stand s.functions u v))
+    stand-begun : (v : Stand) (e f : Env) (c : Control) → FlatHoldsMore e f → StandIsPlain v → control_from u e v ≡ Some c → Begun c (control_from (flat s u name top w) f (flat_stand s.functions u v))
     stand-begun is_new e f c h p q = new-begun e f c h q
     stand-begun (waits block to on wake) e f c h p q = waits-begun e f c block to h p q
     stand-begun halted e f c h p q = absurd (none-some c q)

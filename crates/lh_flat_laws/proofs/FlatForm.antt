@@ -20,7 +20,7 @@ use Rattle.lh_unit.specs.Within.{Each}
 use Rattle.lh_unit.specs.WellFormed.{in_entity, is_phi, labels_named, edges_naming}
 use Rattle.lh_unit.proofs.Lists.{Each-append}
 use Rattle.lh_trace_laws.proofs.Labelled.{block_of-in}
-use Rattle.lh_text_laws.specs.Printable.{HasShape, IsLabelled, labels_repeat, results_repeat}
+use Rattle.lh_text_laws.specs.Printable.{HasShape, BlockIsLabelled, labels_repeat, results_repeat}
 use Rattle.lh_verify_laws.specs.Calls.{AssertIsRight, NamedIsRight}
 use Rattle.lh_verify_laws.specs.Defined.{OperandsThere}
 use Rattle.lh_verify_laws.specs.KindsOf.{ArgsHaveKinds, HasTypeOfKind}
@@ -109,14 +109,14 @@ one-of (x ∷ es) e (inl q) = inl q
 one-of (x ∷ es) e (inr a) = inr (one-of es e a)
 
 -- the blocks of a unit that is no entity have lines
-filled-blocks : (bs : List BlockText) → Each IsLabelled bs → (b : BlockText) → Among bs b → (l : LineText) × (ls : List LineText) × (b.lines ≡ l ∷ ls)
-filled-blocks bs h b a = some b.lines (each-among IsLabelled bs b h a).1
+filled-blocks : (bs : List BlockText) → Each BlockIsLabelled bs → (b : BlockText) → Among bs b → (l : LineText) × (ls : List LineText) × (b.lines ≡ l ∷ ls)
+filled-blocks bs h b a = some b.lines (each-among BlockIsLabelled bs b h a).1
   where
     some : (ls : List LineText) → has_lines ls ≡ true → (l : LineText) × (more : List LineText) × (ls ≡ l ∷ more)
     some [] e = absurd cc
     some (l ∷ more) e = (l, more, refl)
 
-shape-labelled : (k : UnitKind) (bs : List BlockText) → in_entity k ≡ false → HasShape k bs → Each IsLabelled bs
+shape-labelled : (k : UnitKind) (bs : List BlockText) → in_entity k ≡ false → HasShape k bs → Each BlockIsLabelled bs
 shape-labelled kind.Entity bs e h = absurd cc
 shape-labelled kind.Func [] e h = tt
 shape-labelled kind.Func (b ∷ bs) e h = h

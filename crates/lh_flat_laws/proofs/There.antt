@@ -41,7 +41,7 @@ module _ (fs : List UnitText) (u x : UnitText) (args : x.args ≡ u.args)
     (no_ret : (b : BlockText) (before after : List LineText) (l : LineText) → Among u.blocks b → b.lines ≡ before ++ l ∷ after → (o : Option OperandText) → l.inst ≡ ret_text o → ⊥)
     (code : (k : ℕ) (c : Copy) → Nested fs u k c → (b : BlockText) (before after : List LineText) (l : LineText) → Among c.unit.blocks b → b.lines ≡ before ++ l ∷ after → IsCode l.inst) where
   module _ (y : BlockText) (earlier : List BlockText) (at : Located fs u x args y earlier) where
-    -- a line in the midst of a piece is a line of the block
+    -- a line in the middle of a piece is a line of the block
     midst : (start rest : List LineText) (k : LineText) → next_lines fs at.copy at.piece ≡ start ++ k ∷ rest
         → at.piece.block.lines ≡ (at.piece.before ++ start) ++ k ∷ (rest ++ behind fs at.copy (label_or at.piece.block.label) (next_cut fs at.copy at.piece))
     midst start rest k e =

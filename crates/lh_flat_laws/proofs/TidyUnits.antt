@@ -36,7 +36,7 @@ use Rattle.lh_verify_laws.specs.Operands.{RowIs, ReturnIs}
 use Rattle.lh_verify_laws.specs.Shape.{EndsOnce, EachUnit}
 use Rattle.lh_verify_laws.proofs.ShapeLaw.{blocks_end_once}
 use Rattle.lh_text_laws.specs.ItemLines.{item_line}
-use Rattle.lh_text_laws.specs.Printable.{HasLine, HasInstLine, HasLabelLine, IsLabelled, HasShape, result_repeats, results_repeat}
+use Rattle.lh_text_laws.specs.Printable.{HasLine, HasInstLine, HasLabelLine, BlockIsLabelled, HasShape, result_repeats, results_repeat}
 use Rattle.lh_trace_laws.proofs.Labelled.{read-labelled}
 use Rattle.lh_eval.specs.Sound.{InstIsSound}
 use Rattle.lh_eval_laws.proofs.SoundLines.{rows-of-items, items-printable}
@@ -217,14 +217,14 @@ module _ (items : List ItemText) (all : (n : UnitName) (d : UnitText) → functi
   abbrev LabelRight : BlockText → Type 0
   LabelRight b = IsName (label_or b.label)
 
-  label-right : (b : BlockText) → IsLabelled b → LabelRight b
+  label-right : (b : BlockText) → BlockIsLabelled b → LabelRight b
   label-right b h = by b.label h.0
     where
       by : (o : Option (List ℕ)) → HasLabelLine o → IsName (label_or o)
       by None x = absurd x
       by (Some n) x = label-named n x
 
-  shaped : (k : UnitKind) (bs : List BlockText) → in_entity k ≡ false → HasShape k bs → Each IsLabelled bs
+  shaped : (k : UnitKind) (bs : List BlockText) → in_entity k ≡ false → HasShape k bs → Each BlockIsLabelled bs
   shaped kind.Func [] e h = absurd h
   shaped kind.Func (b ∷ bs) e h = h
   shaped kind.Proc [] e h = absurd h
@@ -232,7 +232,7 @@ module _ (items : List ItemText) (all : (n : UnitName) (d : UnitText) → functi
   shaped kind.Entity bs e h = absurd cc
 
   labels : Each LabelRight v.blocks
-  labels = Each-more IsLabelled LabelRight v.blocks label-right (shaped v.kind v.blocks f.runs f.printable.shaped)
+  labels = Each-more BlockIsLabelled LabelRight v.blocks label-right (shaped v.kind v.blocks f.runs f.printable.shaped)
 
   found-label : (n : List ℕ) (b : BlockText) → block_of n v.blocks ≡ Some b → IsName n
   found-label n b e = subst IsName (label-found n v.blocks b e) (block-each LabelRight n v.blocks b e labels)

@@ -12,15 +12,15 @@ use Rattle.lh_flat.specs.Marks.{IsPlain}
 use Rattle.lh_flat_laws.specs.Tidy.{UnitTidy, FunctionsTidy}
 
 -- In so many instructions nothing but too many open calls stops the activation.
-abbrev pub GoesOn : (steps : ℕ) → Scene → Point → Type 0
-GoesOn zero s p = Unit {0}
-GoesOn (suc n) s p = (step s p ≡ no_step → max_calls ≤ length p.callers) × ((q : Point) → step s p ≡ goes q → GoesOn n s q)
+abbrev pub ActivationGoesOn : (steps : ℕ) → Scene → Point → Type 0
+ActivationGoesOn zero s p = Unit {0}
+ActivationGoesOn (suc n) s p = (step s p ≡ no_step → max_calls ≤ length p.callers) × ((q : Point) → step s p ≡ goes q → ActivationGoesOn n s q)
 
 -- an activation of the process begins, and nothing stops it
 pub record Proceeds (bound : ℕ) (s : Scene) (u : UnitText) (p : ProcessState) : Type 0 where
   pub control : Control
   pub begins : control_at u p ≡ Some control
-  pub goes_on : GoesOn bound s (start_point control)
+  pub goes_on : ActivationGoesOn bound s (start_point control)
 
 -- where the flat text stands while the process stands so: a process that waits does so at the end of a block, in the last piece of which the flat text waits
 abbrev pub flat_stand : List UnitText → UnitText → Stand → Stand
@@ -34,14 +34,14 @@ StandIsPlain (waits block to on wake) = IsPlain block
 StandIsPlain _ = Unit {0}
 
 -- What the process holds, the flat text holds under the same name. It may hold more, under the names of copies.
-abbrev pub HoldsMore : (process flat : Env) → Type 0
-HoldsMore e f = (n : List ℕ) (h : Held) → e n ≡ Some h → IsPlain n × (f n ≡ Some h)
+abbrev pub FlatHoldsMore : (process flat : Env) → Type 0
+FlatHoldsMore e f = (n : List ℕ) (h : Held) → e n ≡ Some h → IsPlain n × (f n ≡ Some h)
 
 -- a process and its flat text between two activations
 pub record StandsAlike (functions : List UnitText) (u : UnitText) (process flat : ProcessState) : Type 0 where
   pub stand : flat.stand ≡ flat_stand functions u process.stand
   pub plain : StandIsPlain process.stand
-  pub held : HoldsMore process.held flat.held
+  pub held : FlatHoldsMore process.held flat.held
 
 -- the ends of an activation of each
 pub record EndsAlike (functions : List UnitText) (u : UnitText) (process flat : Activated) : Type 0 where

@@ -20,13 +20,13 @@ use Rattle.lh_flat.specs.declared.flat.Flat.{Flat}
 use Rattle.lh_flat_parts.specs.declared.step.PartStep.{PartStep}
 use Rattle.lh_flat_parts.specs.declared.table.PartTable.{PartTable}
 use Rattle.lh_flat_parts.specs.Steps.{step_in, if_result, step_giving, step_results, insts_in, argument_of, range_by, part_within, stepped, part_by, part_found, IsFound, type_carried, StepWithin, HasSteps, step_at, part_at, IsPartTable}
-use Rattle.lh_flat_parts.specs.Resolving.{with_steps, with_args, part_by_step, is_met, InPlace, StepsCarry, PartsCarry, CanStep, AreFound, AreSteps, Steppable, IsResolved, IsSettled, StepsAreFollowed}
+use Rattle.lh_flat_parts.specs.Resolving.{with_steps, with_args, part_by_step, is_met, StepsAreInPlace, StepsCarry, PartsCarry, CanStep, AreFound, AreSteps, Steppable, IsResolved, StepsAreSettled, StepsAreFollowed}
 use Rattle.lh_flat_parts.proofs.Tables.{at-none, length-steps, steps-with, length-args, args-with}
 
 -- ---- the values so far
 
 pub record SoFar (steps : List (Option PartStep)) (base ps : List (Option Part)) (met : List Bool) (k : ℕ) : Type 0 where
-  pub settled : IsSettled steps base ps met
+  pub settled : StepsAreSettled steps base ps met
   pub done : (v : ℕ) → v < k → (step_at steps v ≡ None) ⊎ (is_met met v ≡ true)
 
 -- an argument is found at once
@@ -37,7 +37,7 @@ found-base steps base a v p e = by (step_at steps v) refl
     by None f = (1, ap (λ (o : Option PartStep). part_by (part_found 0 (step_at steps) (part_at base)) o (part_at base v)) f ∙ e)
     by (Some s) f = let n : part_at base v ≡ None = a v s f in absurd cc
 
-pub SoFar-none : (steps : List (Option PartStep)) (base : List (Option Part)) (n : ℕ) → n ≡ length steps → InPlace steps base → AreSteps steps base → SoFar steps base base (replicate n false) 0
+pub SoFar-none : (steps : List (Option PartStep)) (base : List (Option Part)) (n : ℕ) → n ≡ length steps → StepsAreInPlace steps base → AreSteps steps base → SoFar steps base base (replicate n false) 0
 SoFar-none steps base n e i a = record {
   settled = record {
     long = i.long;
@@ -74,8 +74,8 @@ SoFar-end steps base ps ms k e s = record {
     by v t f (inl g) = absurd cc
     by v t f (inr m) = s.settled.stepped v t f m
 
-pub SoFar-in_place : (steps now : List (Option PartStep)) (base ps : List (Option Part)) (ms : List Bool) (k : ℕ) → now ≡ steps → InPlace steps base → SoFar steps base ps ms k → InPlace now ps
-SoFar-in_place steps now base ps ms k e i s = subst (λ (x : List (Option PartStep)). InPlace x ps) (sym e) (record { long = s.settled.long; within = i.within })
+pub SoFar-in_place : (steps now : List (Option PartStep)) (base ps : List (Option Part)) (ms : List Bool) (k : ℕ) → now ≡ steps → StepsAreInPlace steps base → SoFar steps base ps ms k → StepsAreInPlace now ps
+SoFar-in_place steps now base ps ms k e i s = subst (λ (x : List (Option PartStep)). StepsAreInPlace x ps) (sym e) (record { long = s.settled.long; within = i.within })
 
 pub SoFar-steppable : (steps now : List (Option PartStep)) (base ps : List (Option Part)) (ms : List Bool) (k : ℕ) → now ≡ steps → CanStep steps base → SoFar steps base ps ms k → Steppable now ps
 SoFar-steppable steps now base ps ms k e c s = subst (λ (x : List (Option PartStep)). Steppable x ps) (sym e) (record { base = base; can_step = c; found = s.settled.found })
@@ -205,7 +205,7 @@ made-arg t steps base m v =
 pub made-long : (t : Flat) (steps : List (Option PartStep)) (base : List (Option Part)) → Made t steps base → length steps ≡ t.values
 made-long t steps base m = ap length m.given ∙ length-steps (replicate t.values None) (insts_in t.blocks) ∙ length-replicate t.values None
 
-pub made-in_place : (t : Flat) (steps : List (Option PartStep)) (base : List (Option Part)) → Made t steps base → InPlace steps base
+pub made-in_place : (t : Flat) (steps : List (Option PartStep)) (base : List (Option Part)) → Made t steps base → StepsAreInPlace steps base
 made-in_place t steps base m = record {
   long = ap length m.args ∙ length-args (replicate t.values None) 0 t.args ∙ length-replicate t.values None ∙ sym (made-long t steps base m);
   within = λ v s e. subst (λ (n : ℕ). s.from.0 < n) (sym (made-long t steps base m)) (giving-within t.values (insts_in t.blocks) v s m.text.within (sym (made-step t steps base m v) ∙ e));

@@ -9,7 +9,7 @@ use Rattle.lh_unit.proofs.Lists.{Same, same, other, same_or, nat_eq-refl, nat_eq
 use Rattle.lh_term.specs.declared.part.Part.{Part}
 use Rattle.lh_flat_parts.specs.declared.step.PartStep.{PartStep}
 use Rattle.lh_flat_parts.specs.Steps.{stepped, part_by, part_found, IsFound, step_at, part_at}
-use Rattle.lh_flat_parts.specs.Resolving.{part_by_step, settled, is_met, is_on, comes_from, InPlace, StepsFrom, CanStep, AreFound, Steppable, StepsLeadAlong, AreNew, GoesBack, IsSettled, StepsAreFollowed}
+use Rattle.lh_flat_parts.specs.Resolving.{part_by_step, settled, is_met, is_on, comes_from, StepsAreInPlace, StepsFrom, CanStep, AreFound, Steppable, StepsLeadAlong, AreNew, GoesBack, StepsAreSettled, StepsAreFollowed}
 use Rattle.lh_flat.specs.Below.{ValuesBelow}
 use Rattle.lh_types.proofs.Tests.{or_false_left, or_false_right, not_both}
 
@@ -193,7 +193,7 @@ within-last n (x ∷ more) w h = let r = within-last n more w h.1 in ((h.0, r.0)
 
 -- the parts while the way forth is gone
 pub record Forth (steps : List (Option PartStep)) (start parts : List (Option Part)) (all way : List ValueId) : Type 0 where
-  pub in_place : InPlace steps parts
+  pub in_place : StepsAreInPlace steps parts
   pub found : Steppable steps parts
   pub within : ValuesBelow (length steps) way
   pub made : settled steps parts way ≡ settled steps start all
@@ -339,7 +339,7 @@ each-of P (w ∷ more) f = (f w (on_itself w more), each-of P more (λ u on. f u
 
 -- what is known where the way back is right
 record Back (steps : List (Option PartStep)) (base ps : List (Option Part)) (ms ns : List Bool) (v : ℕ) (way : List ValueId) : Type 0 where
-  settled_so_far : IsSettled steps base ps ms
+  settled_so_far : StepsAreSettled steps base ps ms
   back : GoesBack steps ms v ns way
   within : ValuesBelow (length ps) way
 
@@ -465,11 +465,11 @@ Walking-next steps old from now was way x n new longer within long at l w e p q 
 pub follow-found : (ss ts : List (Option PartStep)) (ps qs : List (Option Part)) → ts ≡ ss → qs ≡ ps → Steppable ss ps → Steppable ts qs
 follow-found ss ts ps qs e f s = subst (λ (x : List (Option PartStep)). Steppable x qs) (sym e) (subst (Steppable ss) (sym f) s)
 
-pub follow-within : (ss ts : List (Option PartStep)) (v : ℕ) (ps : List (Option Part)) (ms ns : List Bool) (way : List ValueId) → ts ≡ ss → InPlace ss ps → v < length ss → GoesBack ss ms v ns way
+pub follow-within : (ss ts : List (Option PartStep)) (v : ℕ) (ps : List (Option Part)) (ms ns : List Bool) (way : List ValueId) → ts ≡ ss → StepsAreInPlace ss ps → v < length ss → GoesBack ss ms v ns way
     → ValuesBelow (length ts) way
 follow-within ss ts v ps ms ns way e p l g = subst (λ (x : List (Option PartStep)). ValuesBelow (length x) way) (sym e) (within-way ss v way g.end p.within l g.leads)
 
-pub follow-follows : (ss ts : List (Option PartStep)) (v : ℕ) (ps qs rs : List (Option Part)) (ms ns os : List Bool) (way : List ValueId) → ts ≡ ss → InPlace ss ps → v < length ss
+pub follow-follows : (ss ts : List (Option PartStep)) (v : ℕ) (ps qs rs : List (Option Part)) (ms ns os : List Bool) (way : List ValueId) → ts ≡ ss → StepsAreInPlace ss ps → v < length ss
     → GoesBack ss ms v ns way → qs ≡ ps → rs ≡ settled ts qs way → os ≡ ns → StepsAreFollowed ss v ps rs ms os
 follow-follows ss ts v ps qs rs ms ns os way e p l g f r o =
     subst (λ (x : List Bool). StepsAreFollowed ss v ps rs ms x) (sym o)

@@ -68,7 +68,7 @@ abbrev pub is_on : List ValueId → ℕ → Bool
 is_on way v = list_any (λ (w : ValueId). nat_eq w.0 v) way
 
 -- steps and parts are of as many values, and each step comes from one of these
-pub record InPlace (steps : List (Option PartStep)) (parts : List (Option Part)) : Type 0 where
+pub record StepsAreInPlace (steps : List (Option PartStep)) (parts : List (Option Part)) : Type 0 where
   pub long : length parts ≡ length steps
   pub within : (v : ℕ) (s : PartStep) → step_at steps v ≡ Some s → s.from.0 < length steps
 
@@ -122,7 +122,7 @@ pub record IsResolved (steps : List (Option PartStep)) (base parts : List (Optio
   pub found : AreFound steps base parts
 
 -- what is right once the steps of some values were followed, and no way is open
-pub record IsSettled (steps : List (Option PartStep)) (base parts : List (Option Part)) (met : List Bool) : Type 0 where
+pub record StepsAreSettled (steps : List (Option PartStep)) (base parts : List (Option Part)) (met : List Bool) : Type 0 where
   pub long : length parts ≡ length steps
   pub long_met : length met ≡ length steps
   pub closed : (v : ℕ) (s : PartStep) → step_at steps v ≡ Some s → is_met met v ≡ true → (step_at steps s.from.0 ≡ None) ⊎ (is_met met s.from.0 ≡ true)
@@ -133,5 +133,5 @@ pub record IsSettled (steps : List (Option PartStep)) (base parts : List (Option
 
 -- the steps of a value are followed
 abbrev pub StepsAreFollowed : List (Option PartStep) → (v : ℕ) → (old_parts new_parts : List (Option Part)) → (old_met new_met : List Bool) → Type 0
-StepsAreFollowed steps v ps qs ms ns = (base : List (Option Part)) → IsSettled steps base ps ms → IsSettled steps base qs ns × ((step_at steps v ≡ None) ⊎ (is_met ns v ≡ true))
+StepsAreFollowed steps v ps qs ms ns = (base : List (Option Part)) → StepsAreSettled steps base ps ms → StepsAreSettled steps base qs ns × ((step_at steps v ≡ None) ⊎ (is_met ns v ≡ true))
     × ((u : ℕ) → is_met ms u ≡ true → is_met ns u ≡ true)

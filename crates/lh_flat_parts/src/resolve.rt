@@ -1,8 +1,8 @@
-//! Which part each value is: its steps are followed back to an argument, and the parts are made on the way forth. A value is met once,
+//! Which part each value is: its steps are followed back to an argument, and the parts are made from there down again. A value is met once,
 //! however many steps come from it.
 ghost use Rattle.std.specs.Prelude.{◌≡◌, ◌<◌, ◌++◌, ◌∷◌, [], length, replicate, true, false, slice_set, IfOk, OnOk};
 ghost use Rattle.lh_flat_parts.specs.Steps.{step_at, part_at};
-ghost use Rattle.lh_flat_parts.specs.Resolving.{part_by_step, settled, is_met, comes_from, InPlace, StepsFrom, CanStep, Steppable, AreSteps, GoesBack, IsResolved, StepsAreFollowed};
+ghost use Rattle.lh_flat_parts.specs.Resolving.{part_by_step, settled, is_met, comes_from, StepsAreInPlace, StepsFrom, CanStep, Steppable, AreSteps, GoesBack, IsResolved, StepsAreFollowed};
 ghost use Rattle.lh_flat.specs.Below.{ValuesBelow};
 
 use crate::step::{PartStep, stepped};
@@ -29,7 +29,7 @@ pub fn resolved(
     parts: Vec<Option<Part>>,
 ) -> Result<Vec<Option<Part>>, NoMemory>
     requires all { length steps.now.given.items ≡ values }
-    requires in_place { InPlace steps.now.given.items parts.items }
+    requires in_place { StepsAreInPlace steps.now.given.items parts.items }
     requires can_step { CanStep steps.now.given.items parts.items }
     requires apart { AreSteps steps.now.given.items parts.items }
     ensures { IfOk result (λ found. IsResolved steps.now.given.items parts.items found.items) }
@@ -56,7 +56,7 @@ impl Resolver<'_> {
     /// Follows the steps of a value, as far as no other has met them.
     fn follow(&mut self, value: ValueId) -> Result<(), NoMemory>
         requires is_in { value.0 < length self.old.steps.now }
-        requires in_place { InPlace self.old.steps.now self.old.parts.items }
+        requires in_place { StepsAreInPlace self.old.steps.now self.old.parts.items }
         requires found { Steppable self.old.steps.now self.old.parts.items }
         requires met { length self.old.met.items ≡ length self.old.steps.now }
         requires empty { self.old.way.items ≡ [] }
@@ -72,7 +72,7 @@ impl Resolver<'_> {
     /// Goes back along steps that were not met, and notes their results.
     fn go_back(&mut self, from: ValueId) -> Result<(), NoMemory>
         requires is_in { from.0 < length self.old.steps.now }
-        requires in_place { InPlace self.old.steps.now self.old.parts.items }
+        requires in_place { StepsAreInPlace self.old.steps.now self.old.parts.items }
         requires met { length self.old.met.items ≡ length self.old.steps.now }
         requires empty { self.old.way.items ≡ [] }
         ensures steps { self.new.steps.now ≡ self.old.steps.now }
@@ -116,7 +116,7 @@ impl Resolver<'_> {
 
     /// Makes the parts of the noted values, from the last one on.
     fn go_forth(&mut self) -> Result<(), NoMemory>
-        requires in_place { InPlace self.old.steps.now self.old.parts.items }
+        requires in_place { StepsAreInPlace self.old.steps.now self.old.parts.items }
         requires found { Steppable self.old.steps.now self.old.parts.items }
         requires within { ValuesBelow (length self.old.steps.now) self.old.way.items }
         ensures steps { OnOk result (self.new.steps.now ≡ self.old.steps.now) }
@@ -144,7 +144,7 @@ impl Resolver<'_> {
     /// The part to which the step of a value leads.
     fn part_of(&self, value: ValueId) -> Result<Option<Part>, NoMemory>
         requires is_in { value.0 < length self.now.steps.now }
-        requires in_place { InPlace self.now.steps.now self.now.parts.items }
+        requires in_place { StepsAreInPlace self.now.steps.now self.now.parts.items }
         requires found { Steppable self.now.steps.now self.now.parts.items }
         ensures { IfOk result (λ p. p ≡ part_by_step self.now.parts.items (step_at self.now.steps.now value.0)) }
     {

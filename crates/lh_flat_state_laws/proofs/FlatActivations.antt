@@ -6,19 +6,19 @@ use Rattle.lh_unit.specs.Contents.{UnitText}
 use Rattle.lh_unit.specs.Activation.{Scene, Stand, is_new, waits, halted, ProcessState, Point, Activated, run, control_from, start_point, activate, functions}
 use Rattle.lh_unit.specs.Arena.{contents, unit_text_at}
 use Rattle.lh_exec.specs.Standing.{scene_of}
-use Rattle.lh_exec.specs.Steady.{IsSteady, Reaches}
+use Rattle.lh_exec.specs.Steady.{IsSteady, InstructionsLead}
 use Rattle.lh_exec.proofs.BeginsHeld.{begin-holds, activation-steady}
 use Rattle.lh_flat.specs.Flat.{flat_unit}
-use Rattle.lh_flat_laws.specs.Activates.{GoesOn, flat_stand, EndsAlike}
+use Rattle.lh_flat_laws.specs.Activates.{ActivationGoesOn, flat_stand, EndsAlike}
 use Rattle.lh_flat_laws.proofs.FlatActivations.{activates_alike}
 use Rattle.lh_flat_laws.proofs.TidyUnits.{functions_are_tidy, processes_are_tidy}
 use Rattle.lh_flat_state_laws.specs.Acts.{FlatTextsAct}
 
 -- each point that is reached is steady
 abbrev pub AllSteady : Scene → (width : ℕ) → Point → Type 0
-AllSteady s width p = (points : List Point) (q : Point) → Reaches s p points q → IsSteady s width q
+AllSteady s width p = (points : List Point) (q : Point) → InstructionsLead s p points q → IsSteady s width q
 
-pub goes-on : (n : ℕ) (s : Scene) (width : ℕ) (p : Point) → AllSteady s width p → GoesOn n s p
+pub goes-on : (n : ℕ) (s : Scene) (width : ℕ) (p : Point) → AllSteady s width p → ActivationGoesOn n s p
 goes-on zero s width p h = tt
 goes-on (suc n) s width p h = (λ e. ((h [] p refl).stops e).1, λ q e. goes-on n s width q (λ points r k. h (q ∷ points) r (e, k)))
 

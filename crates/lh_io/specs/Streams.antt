@@ -1,7 +1,7 @@
 -- What a read takes, what a write appends, and when a count rose.
 use Rattle.std.specs.Prelude.{◌≡◌, ℕ, ◌<◌, ◌≤◌, List, ◌++◌, Option, Some, IfSome, length, take, drop}
 
--- the count is greater than before, or stands at 2^64 - 1
+-- the count is greater than before, or is 2^64 - 1
 abbrev pub Rose : ℕ → ℕ → Type 0
 Rose old new = new < 18446744073709551615 → old < new
 

@@ -20,7 +20,7 @@ use Rattle.lh_kernel_wakes.specs.Sensed.{Senses}
 use Rattle.lh_kernel_wakes.specs.Waking.{IsNoted}
 use Rattle.lh_design.specs.declared.Signal.{Signal}
 use Rattle.lh_queue.proofs.Entries.{at_one}
-use Rattle.lh_kernel_changes.specs.Touched.{Touches, HasBit}
+use Rattle.lh_kernel_changes.specs.Touched.{Touches, SignalHasBit}
 use Rattle.lh_elab.specs.Probed.{probed_by, AreProbes}
 use Rattle.lh_kernel_states.specs.declared.state.InstState.{InstState}
 use Rattle.lh_kernel_states.specs.States.{parts_sensed, wake_kept}
@@ -52,7 +52,7 @@ wake_or (Some u) t = elim (instant_or u t) [ inl e ↦ inl (ap (λ (x : Instant)
     same : Some u ≡ Some t → u ≡ t
     same e = cc
 
-bit_or_not : (ss : List Signal) (k b : ℕ) → HasBit ss k b ⊎ (HasBit ss k b → ⊥)
+bit_or_not : (ss : List Signal) (k b : ℕ) → SignalHasBit ss k b ⊎ (SignalHasBit ss k b → ⊥)
 bit_or_not [] zero b = inr (λ h. h)
 bit_or_not [] (suc k) b = inr (λ h. h)
 bit_or_not (s ∷ ss) zero b = elim (cases_lt b s.lo) [
@@ -71,8 +71,8 @@ touches_or ss (b ∷ bits) k = elim (bit_or_not ss k b) [
   ]
 ]
   where
-    neither : (HasBit ss k b → ⊥) → (Touches ss bits k → ⊥) → (x : ℕ) → IsOneOf x (b ∷ bits) → HasBit ss k x → ⊥
-    neither n m x (inl p) h = n (let P : ℕ → Type 0 = HasBit ss k in subst P (sym p) h)
+    neither : (SignalHasBit ss k b → ⊥) → (Touches ss bits k → ⊥) → (x : ℕ) → IsOneOf x (b ∷ bits) → SignalHasBit ss k x → ⊥
+    neither n m x (inl p) h = n (let P : ℕ → Type 0 = SignalHasBit ss k in subst P (sym p) h)
     neither n m x (inr g) h = m (record { bit = x; among = g; has = h })
 
 flip : {P Q : Type 0} → (P ↔ Q) → (Q ↔ P)

@@ -11,9 +11,9 @@ use Rattle.lh_queue.proofs.KeptWishes.{more_within, more_names, more_apart}
 use Rattle.std.proofs.Math.ListN.{length-set}
 use Rattle.lh_kernel_states.specs.declared.state.InstState.{InstState}
 use Rattle.lh_kernel.specs.declared.run.Activation.{Activation}
-use Rattle.lh_kernel.specs.Puts.{wishes_by, wishes_ran, WasPut, WerePut, AreApart, CanBePut}
+use Rattle.lh_kernel.specs.Puts.{wishes_by, wishes_ran, WasPut, WerePut, WishesAreApart, CanBePut}
 
-pub apart_front : (w : Wish) (xs ys : List Wish) → AreApart w (xs ++ ys) → AreApart w xs
+pub apart_front : (w : Wish) (xs ys : List Wish) → WishesAreApart w (xs ++ ys) → WishesAreApart w xs
 apart_front w [] ys h = tt
 apart_front w (x ∷ xs) ys h = (h.0, apart_front w xs ys h.1)
 
@@ -23,7 +23,7 @@ can_front held [] ys h = tt
 can_front held (x ∷ xs) ys h = (h.0, h.1, apart_front x xs ys h.2, can_front held xs ys h.3)
 
 -- where one is put, those apart from it can still be put
-pub can_rest : (held : List QueuedWish) (w : Wish) (mid : List QueuedWish) (ws : List Wish) → CanBePut held ws → AreApart w ws → WasPut held w mid → CanBePut mid ws
+pub can_rest : (held : List QueuedWish) (w : Wish) (mid : List QueuedWish) (ws : List Wish) → CanBePut held ws → WishesAreApart w ws → WasPut held w mid → CanBePut mid ws
 can_rest held w mid [] c a p = tt
 can_rest held w mid (v ∷ vs) c a p =
     (subst (NoneCompetes v) (sym p.adds) (more_apart v held (record { key = p.key; wish = w }) c.0 a.0), c.1, c.2, can_rest held w mid vs c.3 a.1 p)

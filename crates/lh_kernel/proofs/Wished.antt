@@ -18,22 +18,22 @@ use Rattle.lh_kernel_wakes.specs.Rising.{AreAbove, IsRising}
 use Rattle.lh_kernel.specs.declared.run.Activation.{Activation}
 use Rattle.lh_unit.specs.Within.{Each}
 use Rattle.lh_unit.proofs.Lists.{Each-append}
-use Rattle.lh_eval.specs.Grouped.{is_filled, IsBefore, IsAbove, BitsRise, IsGrouped}
+use Rattle.lh_eval.specs.Grouped.{is_filled, FirstInstantIsLater, FirstBitIsAbove, BitsRise, IsGrouped}
 use Rattle.lh_queue.specs.declared.wish.Wish.{Wish}
 use Rattle.lh_queue.specs.Queued.{QueuedWish, NoneCompetes, NamesOnce, IsUnnamed, BitsWithin, due_later}
 use Rattle.lh_queue.proofs.KeptWishes.{different_apart}
-use Rattle.lh_kernel.specs.Puts.{wishes_by, wishes_ran, AreApart, CanBePut}
+use Rattle.lh_kernel.specs.Puts.{wishes_by, wishes_ran, WishesAreApart, CanBePut}
 use Rattle.lh_trace_laws.proofs.Instants.{lt_self}
 
 -- what is later is another one
 lt_other : (a b : Instant) → instant_lt a b ≡ true → b ≢ a
 lt_other a b h e = lt_self a (subst (λ (x : Instant). instant_lt a x ≡ true) e h)
 
-unnamed_above : (b : ℕ) (ws : List (ℕ × Bool)) → IsAbove b ws → BitsRise ws → IsUnnamed b ws
+unnamed_above : (b : ℕ) (ws : List (ℕ × Bool)) → FirstBitIsAbove b ws → BitsRise ws → IsUnnamed b ws
 unnamed_above b [] a r = tt
 unnamed_above b (w ∷ ws) a r = (λ e. omega (arith, a, e), above_rest b w.0 ws a r.0 r.1)
   where
-    above_rest : (b c : ℕ) (ws : List (ℕ × Bool)) → b < c → IsAbove c ws → BitsRise ws → IsUnnamed b ws
+    above_rest : (b c : ℕ) (ws : List (ℕ × Bool)) → b < c → FirstBitIsAbove c ws → BitsRise ws → IsUnnamed b ws
     above_rest b c [] l a r = tt
     above_rest b c (v ∷ vs) l a r = (λ e. omega (arith, l, a, e), above_rest b v.0 vs (omega (arith, l, a)) r.0 r.1)
 
@@ -43,25 +43,25 @@ rising_once [] r = tt
 rising_once (w ∷ ws) r = (unnamed_above w.0 ws r.0 r.1, rising_once ws r.1)
 
 -- the instants of a grouped list are later than one before its first
-grouped_later : (t : Instant) (ds : List (Instant × List (ℕ × Bool))) → IsBefore t ds → IsGrouped ds → Each (λ (d : Instant × List (ℕ × Bool)). instant_lt t d.0 ≡ true) ds
+grouped_later : (t : Instant) (ds : List (Instant × List (ℕ × Bool))) → FirstInstantIsLater t ds → IsGrouped ds → Each (λ (d : Instant × List (ℕ × Bool)). instant_lt t d.0 ≡ true) ds
 grouped_later t [] b g = tt
 grouped_later t (d ∷ ds) b g = (b, later_rest t d.0 ds b g.2 g.3)
   where
-    later_rest : (t u : Instant) (ds : List (Instant × List (ℕ × Bool))) → instant_lt t u ≡ true → IsBefore u ds → IsGrouped ds → Each (λ (d : Instant × List (ℕ × Bool)). instant_lt t d.0 ≡ true) ds
+    later_rest : (t u : Instant) (ds : List (Instant × List (ℕ × Bool))) → instant_lt t u ≡ true → FirstInstantIsLater u ds → IsGrouped ds → Each (λ (d : Instant × List (ℕ × Bool)). instant_lt t d.0 ≡ true) ds
     later_rest t u [] l b g = tt
     later_rest t u (d ∷ ds) l b g = let m : instant_lt t d.0 ≡ true = instant_lt-trans t u d.0 l b in (m, later_rest t d.0 ds m g.2 g.3)
 
 -- the wishes of an instance that are due later than one do not compete with it
-apart_later : (w : Wish) (t : Instant) (k : ℕ) (ds : List (Instant × List (ℕ × Bool))) → Each (λ (d : Instant × List (ℕ × Bool)). instant_lt w.due d.0 ≡ true) ds → AreApart w (wishes_by t k ds)
+apart_later : (w : Wish) (t : Instant) (k : ℕ) (ds : List (Instant × List (ℕ × Bool))) → Each (λ (d : Instant × List (ℕ × Bool)). instant_lt w.due d.0 ≡ true) ds → WishesAreApart w (wishes_by t k ds)
 apart_later w t k [] l = tt
 apart_later w t k (d ∷ ds) l = (different_apart (record { made = t; instance = k; due = d.0; bits = d.1 }) w (inl (lt_other w.due d.0 l.0)), apart_later w t k ds l.1)
 
 -- those of another instance do not
-apart_other : (w : Wish) (t : Instant) (k : ℕ) (ds : List (Instant × List (ℕ × Bool))) → k ≢ w.instance → AreApart w (wishes_by t k ds)
+apart_other : (w : Wish) (t : Instant) (k : ℕ) (ds : List (Instant × List (ℕ × Bool))) → k ≢ w.instance → WishesAreApart w (wishes_by t k ds)
 apart_other w t k [] n = tt
 apart_other w t k (d ∷ ds) n = (different_apart (record { made = t; instance = k; due = d.0; bits = d.1 }) w (inr (inr n)), apart_other w t k ds n)
 
-pub apart_join : (w : Wish) (xs ys : List Wish) → AreApart w xs → AreApart w ys → AreApart w (xs ++ ys)
+pub apart_join : (w : Wish) (xs ys : List Wish) → WishesAreApart w xs → WishesAreApart w ys → WishesAreApart w (xs ++ ys)
 apart_join w [] ys a b = b
 apart_join w (x ∷ xs) ys a b = (a.0, apart_join w xs ys a.1 b)
 
@@ -69,7 +69,7 @@ apart_join w (x ∷ xs) ys a b = (a.0, apart_join w xs ys a.1 b)
 abbrev pub instances_of : List Activation → List ℕ
 instances_of xs = map (λ (x : Activation). x.instance) xs
 
-apart_higher : (w : Wish) (t : Instant) (xs : List Activation) → AreAbove w.instance (instances_of xs) → AreApart w (wishes_ran t xs)
+apart_higher : (w : Wish) (t : Instant) (xs : List Activation) → AreAbove w.instance (instances_of xs) → WishesAreApart w (wishes_ran t xs)
 apart_higher w t [] h = tt
 apart_higher w t (x ∷ xs) h = apart_join w (wishes_by t x.instance x.act.wishes) (wishes_ran t xs) (apart_other w t x.instance x.act.wishes (λ e. omega (arith, h.0, e))) (apart_higher w t xs h.1)
 
@@ -83,7 +83,7 @@ none_competes w (x ∷ xs) h = (different_apart w x.wish (inr (inl (λ e. h.0 (s
 
 -- the wishes of one instance can be put, and then others
 can_by : (held : List QueuedWish) (t : Instant) (k : ℕ) (ds : List (Instant × List (ℕ × Bool))) (ws : List Wish) → Each (IsMadeElsewhen t) held → IsGrouped ds →
-    ((d : Instant) (bits : List (ℕ × Bool)) → AreApart (record { made = t; instance = k; due = d; bits = bits }) ws) → CanBePut held ws → CanBePut held (wishes_by t k ds ++ ws)
+    ((d : Instant) (bits : List (ℕ × Bool)) → WishesAreApart (record { made = t; instance = k; due = d; bits = bits }) ws) → CanBePut held ws → CanBePut held (wishes_by t k ds ++ ws)
 can_by held t k [] ws e g a c = c
 can_by held t k (d ∷ ds) ws e g a c =
     let w : Wish = record { made = t; instance = k; due = d.0; bits = d.1 } in

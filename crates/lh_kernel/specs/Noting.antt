@@ -1,4 +1,4 @@
--- What is noted of one instance more, or less: signals that it senses, and an instant at which it wakes by itself.
+-- What is noted when an instance is added or removed: signals that it senses, and an instant at which it wakes by itself.
 use Rattle.std.specs.Prelude.{◌≡◌, ◌↔◌, ◌⊎◌, ℕ, List, length, Option, Some}
 use Rattle.lh_time.specs.declared.Instant.{Instant}
 use Rattle.lh_kernel_wakes.specs.Rising.{IsOneOf}

@@ -4,7 +4,7 @@ use Rattle.std.specs.declared.cmp.Ordering.TheVariants.{Equal}
 use Rattle.lh_time.specs.declared.Instant.{Instant}
 use Rattle.lh_queue.specs.declared.wish.Wish.{Wish}
 use Rattle.lh_queue.specs.Queued.{QueuedWish, with_held, wish_cmp, NoneCompetes, NamesOnce}
-use Rattle.lh_queue.specs.Holds.{HoldsMore}
+use Rattle.lh_queue.specs.Holds.{HoldsOneWishMore}
 use Rattle.lh_kernel.specs.declared.run.Activation.{Activation}
 
 -- what an instance wished for one instant
@@ -25,7 +25,7 @@ wishes_ran made (x ∷ xs) = wishes_by made x.instance x.act.wishes ++ wishes_ra
 pub record WasPut (old : List QueuedWish) (w : Wish) (new : List QueuedWish) : Type 0 where
   pub key : ℕ
   pub adds : new ≡ with_held old (record { key = key; wish = w })
-  pub holds : HoldsMore old w new
+  pub holds : HoldsOneWishMore old w new
 
 -- these wishes more are held, put one after the other
 abbrev pub WerePut : (old : List QueuedWish) → List Wish → (new : List QueuedWish) → Type 0
@@ -33,11 +33,11 @@ WerePut old [] new = new ≡ old
 WerePut old (w ∷ ws) new = (mid : List QueuedWish) × WasPut old w mid × WerePut mid ws new
 
 -- none of these competes with the wish
-abbrev pub AreApart : Wish → List Wish → Type 0
-AreApart w [] = Unit {0}
-AreApart w (v ∷ vs) = (wish_cmp v w ≢ Equal) × AreApart w vs
+abbrev pub WishesAreApart : Wish → List Wish → Type 0
+WishesAreApart w [] = Unit {0}
+WishesAreApart w (v ∷ vs) = (wish_cmp v w ≢ Equal) × WishesAreApart w vs
 
 -- Each names no bit twice, and competes with none that is held and with none of the others.
 abbrev pub CanBePut : (held : List QueuedWish) → List Wish → Type 0
 CanBePut held [] = Unit {0}
-CanBePut held (w ∷ ws) = NoneCompetes w held × NamesOnce w.bits × AreApart w ws × CanBePut held ws
+CanBePut held (w ∷ ws) = NoneCompetes w held × NamesOnce w.bits × WishesAreApart w ws × CanBePut held ws

@@ -78,7 +78,7 @@ pub(crate) fn run_all<T: Tally>(
     })
 }
 
-/// An empty list, with room for so many where there is memory for it.
+/// An empty list, with room for this many if there is memory for it.
 fn list_for(alloc: Global, count: usize) -> Vec<Activation>
     ensures { result.items ≡ [] }
 {

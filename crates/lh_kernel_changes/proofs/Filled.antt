@@ -12,20 +12,20 @@ use Rattle.lh_kernel_wakes.specs.Rising.{IsOneOf}
 use Rattle.lh_kernel_wakes.proofs.Places.{has_at}
 use Rattle.lh_design.specs.declared.Signal.{Signal}
 use Rattle.lh_design.specs.Filling.{FillFrom}
-use Rattle.lh_kernel_changes.specs.Touched.{IsBitOf, HasBit, AreSignals}
+use Rattle.lh_kernel_changes.specs.Touched.{IsBitOf, SignalHasBit, AreSignals}
 
-none_has : (k b : ℕ) → HasBit [] k b → ⊥
+none_has : (k b : ℕ) → SignalHasBit [] k b → ⊥
 none_has zero b h = h
 none_has (suc k) b h = h
 
 -- a bit of the signal of a number, by the signal
-pub has_of : (ss : List Signal) (k : ℕ) (s : Signal) (b : ℕ) → slice_get ss k ≡ Some s → IsBitOf s b → HasBit ss k b
+pub has_of : (ss : List Signal) (k : ℕ) (s : Signal) (b : ℕ) → slice_get ss k ≡ Some s → IsBitOf s b → SignalHasBit ss k b
 has_of ss k s b e h = subst (λ (o : Option Signal). IsSomeAnd o (λ (x : Signal). IsBitOf x b)) (sym e) h
 
-pub of_has : (ss : List Signal) (k : ℕ) (s : Signal) (b : ℕ) → slice_get ss k ≡ Some s → HasBit ss k b → IsBitOf s b
+pub of_has : (ss : List Signal) (k : ℕ) (s : Signal) (b : ℕ) → slice_get ss k ≡ Some s → SignalHasBit ss k b → IsBitOf s b
 of_has ss k s b e h = subst (λ (o : Option Signal). IsSomeAnd o (λ (x : Signal). IsBitOf x b)) e h
 
-pub is_below : (ss : List Signal) (k b : ℕ) → HasBit ss k b → k < length ss
+pub is_below : (ss : List Signal) (k b : ℕ) → SignalHasBit ss k b → k < length ss
 is_below [] k b h = absurd (none_has k b h)
 is_below (s ∷ ss) zero b h = omega arith
 is_below (s ∷ ss) (suc k) b h = let r : k < length ss = is_below ss k b h in omega arith
@@ -34,13 +34,13 @@ fill_le : (lo hi : ℕ) (ss : List Signal) → FillFrom lo ss hi → lo ≤ hi
 fill_le lo hi [] f = omega arith
 fill_le lo hi (s ∷ ss) f = let r : lo + bit_count s.ty ≤ hi = fill_le (lo + bit_count s.ty) hi ss f.2 in omega arith
 
-low_le : (lo hi : ℕ) (ss : List Signal) (k b : ℕ) → FillFrom lo ss hi → HasBit ss k b → lo ≤ b
+low_le : (lo hi : ℕ) (ss : List Signal) (k b : ℕ) → FillFrom lo ss hi → SignalHasBit ss k b → lo ≤ b
 low_le lo hi [] k b f h = absurd (none_has k b h)
 low_le lo hi (s ∷ ss) zero b f h = omega (arith, f.0, h.0)
 low_le lo hi (s ∷ ss) (suc k) b f h = let r : lo + bit_count s.ty ≤ b = low_le (lo + bit_count s.ty) hi ss k b f.2 h in omega arith
 
 -- a signal's number is at most the number of each of its bits
-pub number_le : (lo hi : ℕ) (ss : List Signal) (k b : ℕ) → FillFrom lo ss hi → HasBit ss k b → lo + k ≤ b
+pub number_le : (lo hi : ℕ) (ss : List Signal) (k b : ℕ) → FillFrom lo ss hi → SignalHasBit ss k b → lo + k ≤ b
 number_le lo hi [] k b f h = absurd (none_has k b h)
 number_le lo hi (s ∷ ss) zero b f h = omega (arith, f.0, h.0)
 number_le lo hi (s ∷ ss) (suc k) b f h =
@@ -66,7 +66,7 @@ at_signal lo hi (x ∷ ss) zero s f e =
 at_signal lo hi (x ∷ ss) (suc k) s f e = at_signal (lo + bit_count x.ty) hi ss k s f.2 e
 
 -- each bit of a signal is one of the bits
-pub bit_below : (lo hi : ℕ) (ss : List Signal) (k b : ℕ) → FillFrom lo ss hi → HasBit ss k b → b < hi
+pub bit_below : (lo hi : ℕ) (ss : List Signal) (k b : ℕ) → FillFrom lo ss hi → SignalHasBit ss k b → b < hi
 bit_below lo hi [] k b f h = absurd (none_has k b h)
 bit_below lo hi (s ∷ ss) zero b f h =
     let r : lo + bit_count s.ty ≤ hi = fill_le (lo + bit_count s.ty) hi ss f.2 in
@@ -74,7 +74,7 @@ bit_below lo hi (s ∷ ss) zero b f h =
 bit_below lo hi (s ∷ ss) (suc k) b f h = bit_below (lo + bit_count s.ty) hi ss k b f.2 h
 
 -- the bits of an earlier signal are less
-pub strict : (lo hi : ℕ) (ss : List Signal) (i j a b : ℕ) → FillFrom lo ss hi → i < j → HasBit ss i a → HasBit ss j b → a < b
+pub strict : (lo hi : ℕ) (ss : List Signal) (i j a b : ℕ) → FillFrom lo ss hi → i < j → SignalHasBit ss i a → SignalHasBit ss j b → a < b
 strict lo hi [] i j a b f l h g = absurd (none_has i a h)
 strict lo hi (s ∷ ss) i zero a b f l h g = absurd (omega arith)
 strict lo hi (s ∷ ss) zero (suc j) a b f l h g =
@@ -82,26 +82,26 @@ strict lo hi (s ∷ ss) zero (suc j) a b f l h g =
     omega (arith, f.0, h.1, r)
 strict lo hi (s ∷ ss) (suc i) (suc j) a b f l h g = strict (lo + bit_count s.ty) hi ss i j a b f.2 (omega arith) h g
 
-pub in_order : (hi : ℕ) (ss : List Signal) (i j a b : ℕ) → FillFrom 0 ss hi → HasBit ss i a → HasBit ss j b → a ≤ b → i ≤ j
+pub in_order : (hi : ℕ) (ss : List Signal) (i j a b : ℕ) → FillFrom 0 ss hi → SignalHasBit ss i a → SignalHasBit ss j b → a ≤ b → i ≤ j
 in_order hi ss i j a b f h g le = elim (cases_lt j i) [
   | inl l ↦ absurd (omega (arith, le, strict 0 hi ss j i b a f l g h))
   | inr n ↦ n
 ]
 
 -- a bit is of one signal
-pub one_signal : (hi : ℕ) (ss : List Signal) (i j b : ℕ) → FillFrom 0 ss hi → HasBit ss i b → HasBit ss j b → i ≡ j
+pub one_signal : (hi : ℕ) (ss : List Signal) (i j b : ℕ) → FillFrom 0 ss hi → SignalHasBit ss i b → SignalHasBit ss j b → i ≡ j
 one_signal hi ss i j b f h g =
     let p : i ≤ j = in_order hi ss i j b b f h g (omega arith) in
     let q : j ≤ i = in_order hi ss j i b b f g h (omega arith) in
     omega arith
 
 -- a signal has some bit, and a bit some signal
-pub some_bit : (lo hi : ℕ) (ss : List Signal) (k : ℕ) → FillFrom lo ss hi → k < length ss → (b : ℕ) × HasBit ss k b
+pub some_bit : (lo hi : ℕ) (ss : List Signal) (k : ℕ) → FillFrom lo ss hi → k < length ss → (b : ℕ) × SignalHasBit ss k b
 some_bit lo hi [] k f l = absurd (omega arith)
 some_bit lo hi (s ∷ ss) zero f l = let one : 1 ≤ bit_count s.ty = one_le-bit_count s.ty f.1 in (s.lo, (omega arith, omega arith))
 some_bit lo hi (s ∷ ss) (suc k) f l = some_bit (lo + bit_count s.ty) hi ss k f.2 (omega arith)
 
-pub some_signal : (lo hi : ℕ) (ss : List Signal) (b : ℕ) → FillFrom lo ss hi → lo ≤ b → b < hi → (k : ℕ) × HasBit ss k b
+pub some_signal : (lo hi : ℕ) (ss : List Signal) (b : ℕ) → FillFrom lo ss hi → lo ≤ b → b < hi → (k : ℕ) × SignalHasBit ss k b
 some_signal lo hi [] b f l h = absurd (omega (arith, f))
 some_signal lo hi (s ∷ ss) b f l h = elim (cases_lt b (lo + bit_count s.ty)) [
   | inl m ↦ (0, (omega (arith, f.0), omega (arith, f.0)))
@@ -113,7 +113,7 @@ pub record FoundAt (lo : ℕ) (ss : List Signal) (bit i : ℕ) : Type 0 where
   pub number : ℕ
   pub before : i ≡ suc number
   pub low : lo + number ≤ bit
-  pub has : HasBit ss number bit
+  pub has : SignalHasBit ss number bit
 
 pub found_at : (lo hi bit i : ℕ) (ss : List Signal) → FillFrom lo ss hi → lo ≤ bit → bit < hi → i ≤ length ss →
     ((k : ℕ) (d : Signal) → k < i → nat_le (get_or ss k d).lo bit ≡ true) → ((k : ℕ) (d : Signal) → i ≤ k → k < length ss → nat_le (get_or ss k d).lo bit ≡ false) → FoundAt lo ss bit i
@@ -183,5 +183,5 @@ fits_there hi ss xs k s f v l e = at_signal 0 hi ss k s f (there ss xs k s v l e
 pub known_at : (ss : List Signal) (items touched : List ℕ) (i : ℕ) → items ≡ touched → AreSignals ss touched → i < length items → get_or items i 0 < length ss
 known_at ss items touched i e known l = known (get_or items i 0) (subst (λ (ks : List ℕ). IsOneOf (get_or items i 0) ks) e (has_at (get_or items i 0) items i l refl))
 
-pub found_number : (lo : ℕ) (ss : List Signal) (bit i : ℕ) → FoundAt lo ss bit i → HasBit ss (i - 1) bit
-found_number lo ss bit i f = let e : f.number ≡ i - 1 = omega (arith, f.before) in subst (λ (k : ℕ). HasBit ss k bit) e f.has
+pub found_number : (lo : ℕ) (ss : List Signal) (bit i : ℕ) → FoundAt lo ss bit i → SignalHasBit ss (i - 1) bit
+found_number lo ss bit i f = let e : f.number ≡ i - 1 = omega (arith, f.before) in subst (λ (k : ℕ). SignalHasBit ss k bit) e f.has

@@ -40,7 +40,7 @@ value_row s bits d h =
     let many : length (take (bit_count s.ty) (drop s.lo bits)) ≡ bit_count s.ty = length-take-le (bit_count s.ty) (drop s.lo bits) left in
     value_bits-value_from_bits s.ty d (take (bit_count s.ty) (drop s.lo bits)) (omega arith) ∙ take_all (bit_count s.ty) (take (bit_count s.ty) (drop s.lo bits)) (omega arith)
 
--- so many bits toggled
+-- this many bits toggled
 toggled_row : (s : Signal) (old now : List Bool) → IsData s.ty → s.lo + bit_count s.ty ≤ length old → s.lo + bit_count s.ty ≤ length now →
     differing (bits_within s.lo (bit_count s.ty) old) (bits_within s.lo (bit_count s.ty) now) ≡ toggled (value_of old s) (value_of now s)
 toggled_row s old now d h l =

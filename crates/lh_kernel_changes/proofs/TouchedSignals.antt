@@ -11,7 +11,7 @@ use Rattle.lh_unit.specs.World.{bits_from, bit_numbers}
 use Rattle.lh_kernel_wakes.specs.Rising.{IsOneOf, HasOneMore}
 use Rattle.lh_design.specs.declared.Signal.{Signal}
 use Rattle.lh_design.specs.Filling.{FillFrom}
-use Rattle.lh_kernel_changes.specs.Touched.{HasBit, Touches, AreTouched, TouchesMore, AreWithin, bits_named}
+use Rattle.lh_kernel_changes.specs.Touched.{SignalHasBit, Touches, AreTouched, TouchesMore, AreWithin, bits_named}
 use Rattle.lh_kernel_changes.proofs.Filled.{is_below, strict, in_order, some_bit}
 
 pub has_left : (k : ℕ) (xs ys : List ℕ) → IsOneOf k xs → IsOneOf k (xs ++ ys)
@@ -41,7 +41,7 @@ row_in b lo (suc n) l h = elim (cases_lt lo b) [
   | inr m ↦ inl (omega arith)
 ]
 
-module _ (hi : ℕ) (ss : List Signal) (lo len end first last : ℕ) (f : FillFrom 0 ss hi) (some : end - 1 + 1 ≡ lo + len) (g : HasBit ss first lo) (h : HasBit ss last (end - 1)) (l : lo ≤ end - 1) where
+module _ (hi : ℕ) (ss : List Signal) (lo len end first last : ℕ) (f : FillFrom 0 ss hi) (some : end - 1 + 1 ≡ lo + len) (g : SignalHasBit ss first lo) (h : SignalHasBit ss last (end - 1)) (l : lo ≤ end - 1) where
   -- the signals of a row are those from that of its first bit to that of its last
   row_between : (k : ℕ) → Touches ss (bits_from lo len) k → (first ≤ k) × (k < last + 1)
   row_between k t =
@@ -60,11 +60,11 @@ module _ (hi : ℕ) (ss : List Signal) (lo len end first last : ℕ) (f : FillFr
           record { bit = w.0; among = row_in w.0 lo len (omega arith) (omega (arith, some)); has = w.1 }
       | inr n ↦
           let e : last ≡ k = omega arith in
-          record { bit = end - 1; among = row_in (end - 1) lo len l (omega (arith, some)); has = subst (λ (j : ℕ). HasBit ss j (end - 1)) e h }
+          record { bit = end - 1; among = row_in (end - 1) lo len l (omega (arith, some)); has = subst (λ (j : ℕ). SignalHasBit ss j (end - 1)) e h }
     ]
     | inr m ↦
         let e : first ≡ k = omega arith in
-        record { bit = lo; among = row_in lo lo len (omega arith) (omega (arith, some)); has = subst (λ (j : ℕ). HasBit ss j lo) e g }
+        record { bit = lo; among = row_in lo lo len (omega arith) (omega (arith, some)); has = subst (λ (j : ℕ). SignalHasBit ss j lo) e g }
   ]
 
 -- the new list has the numbers from one up to another, and what the old one has
@@ -94,7 +94,7 @@ entered_more old now new from i l n m k = (λ h. there ((m k).0 h), λ p. back p
     back (inr h) = (m k).1 (inr ((n k).1 (inr h)))
 
 -- what was entered, where all signals of a row were
-pub row_entered : (hi : ℕ) (ss : List Signal) (lo len end first last i : ℕ) (old new : List ℕ) → FillFrom 0 ss hi → 0 < len → end ≡ lo + len → HasBit ss first lo → HasBit ss last (end - 1) →
+pub row_entered : (hi : ℕ) (ss : List Signal) (lo len end first last i : ℕ) (old new : List ℕ) → FillFrom 0 ss hi → 0 < len → end ≡ lo + len → SignalHasBit ss first lo → SignalHasBit ss last (end - 1) →
     last + 1 ≤ i → (first ≤ last + 1 → i ≤ last + 1) → EnteredTo old first i new → TouchesMore ss (bits_from lo len) old new
 row_entered hi ss lo len end first last i old new f s e g h out most n k = (λ p. there ((n k).0 p), λ p. (n k).1 (back p))
   where

@@ -13,14 +13,14 @@ abbrev pub IsBitOf : Signal → ℕ → Type 0
 IsBitOf s b = (s.lo ≤ b) × (b < s.lo + bit_count s.ty)
 
 -- the signal of this number has the bit
-abbrev pub HasBit : List Signal → (signal bit : ℕ) → Type 0
-HasBit signals k b = IsSomeAnd (slice_get signals k) (λ (s : Signal). IsBitOf s b)
+abbrev pub SignalHasBit : List Signal → (signal bit : ℕ) → Type 0
+SignalHasBit signals k b = IsSomeAnd (slice_get signals k) (λ (s : Signal). IsBitOf s b)
 
 -- the signal of this number has one of these bits
 pub record Touches (signals : List Signal) (bits : List ℕ) (k : ℕ) : Type 0 where
   pub bit : ℕ
   pub among : IsOneOf bit bits
-  pub has : HasBit signals k bit
+  pub has : SignalHasBit signals k bit
 
 -- exactly the signals that have one of these bits
 abbrev pub AreTouched : List Signal → (bits touched : List ℕ) → Type 0
@@ -34,7 +34,7 @@ TouchesMore signals bits old new = (k : ℕ) → IsOneOf k new ↔ (Touches sign
 abbrev pub AreSignals : List Signal → List ℕ → Type 0
 AreSignals signals numbers = (k : ℕ) → IsOneOf k numbers → k < length signals
 
--- the parts lie within so many bits
+-- the parts lie within this many bits
 abbrev pub AreWithin : (width : ℕ) → List Range → Type 0
 AreWithin width [] = Unit {0}
 AreWithin width (r ∷ more) = (r.lo + r.len ≤ width) × AreWithin width more
@@ -45,11 +45,11 @@ bits_named writes = map (λ (w : ℕ × Bool). w.0) writes
 
 -- each bit of the signal of this number is the same in both
 abbrev pub StaysSame : List Signal → (old now : List Bool) → (signal : ℕ) → Type 0
-StaysSame signals old now k = (b : ℕ) → HasBit signals k b → bit_at old b ≡ bit_at now b
+StaysSame signals old now k = (b : ℕ) → SignalHasBit signals k b → bit_at old b ≡ bit_at now b
 
 -- the part is all that the signal of this number has
-abbrev pub IsPartOf : List Signal → (signal : ℕ) → Range → Type 0
-IsPartOf signals k r = IsSomeAnd (slice_get signals k) (λ (s : Signal). (r.lo ≡ s.lo) × (r.len ≡ bit_count s.ty))
+abbrev pub IsWholeSignal : List Signal → (signal : ℕ) → Range → Type 0
+IsWholeSignal signals k r = IsSomeAnd (slice_get signals k) (λ (s : Signal). (r.lo ≡ s.lo) × (r.len ≡ bit_count s.ty))
 
 -- some bit of the part differs
 abbrev pub PartDiffers : (old now : List Bool) → Range → Type 0

@@ -3,7 +3,7 @@ ghost use Rattle.std.specs.Prelude.{◌≡◌, ◌<◌, List, Bool, true, length
 ghost use Rattle.std.specs.List.{list_any};
 ghost use Rattle.lh_unit.specs.World.{bit_numbers, bit_differs};
 ghost use Rattle.lh_design.specs.Filling.{SignalsFill};
-ghost use Rattle.lh_kernel_changes.specs.Touched.{AreWithin, StaysSame, IsPartOf, PartDiffers};
+ghost use Rattle.lh_kernel_changes.specs.Touched.{AreWithin, StaysSame, IsWholeSignal, PartDiffers};
 
 use lh_bits::bits::Bits;
 use lh_design::Design;
@@ -56,7 +56,7 @@ pub fn changed_part(design: &Design, signal: u32, old: &Bits, now: &Bits) -> Opt
     requires in_now { length now.now ≡ length design.now.init }
     requires known { signal < length design.now.signals.items }
     ensures stays { result ≡ None → StaysSame design.now.signals.items old.now now.now signal }
-    ensures part { IfSome result (IsPartOf design.now.signals.items signal) }
+    ensures part { IfSome result (IsWholeSignal design.now.signals.items signal) }
     ensures differs { IfSome result (PartDiffers old.now now.now) }
 {
     let signal = &design.signals()[signal as usize];

@@ -1,4 +1,4 @@
-//! What of the bits of a design differs between two frames, and which signals it is.
+//! Which bits of a design differ between two frames, and to which signals they belong.
 #![tactic(auto)]
 
 pub mod changes;

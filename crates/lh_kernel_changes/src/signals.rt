@@ -3,7 +3,7 @@ ghost use Rattle.std.specs.Prelude.{◌≡◌, ◌+◌, ◌<◌, ◌≤◌, leng
 ghost use Rattle.lh_bits.specs.Writes.{BitsWithin};
 ghost use Rattle.lh_unit.specs.World.{bits_from, bit_numbers};
 ghost use Rattle.lh_design.specs.Filling.{SignalsFill};
-ghost use Rattle.lh_kernel_changes.specs.Touched.{HasBit, AreTouched, TouchesMore, AreWithin, bits_named};
+ghost use Rattle.lh_kernel_changes.specs.Touched.{SignalHasBit, AreTouched, TouchesMore, AreWithin, bits_named};
 
 use lh_bits::writes::BitWrites;
 use lh_design::Design;
@@ -20,7 +20,7 @@ const NEAR: u32 = 4;
 pub fn signal_at(design: &Design, bit: u32) -> u32
     requires fill { SignalsFill design.now }
     requires within { bit < length design.now.init }
-    ensures { HasBit design.now.signals.items result bit }
+    ensures { SignalHasBit design.now.signals.items result bit }
 {
     let after = design.signals().partition_point(|signal| signal.lo <= bit);
     (after - 1) as u32
@@ -30,7 +30,7 @@ pub fn signal_at(design: &Design, bit: u32) -> u32
 fn signal_near(design: &Design, near: u32, bit: u32) -> u32
     requires fill { SignalsFill design.now }
     requires within { bit < length design.now.init }
-    ensures { HasBit design.now.signals.items result bit }
+    ensures { SignalHasBit design.now.signals.items result bit }
 {
     for number in near..near.saturating_add(NEAR) {
         if has_bit(design, number, bit) {
@@ -43,7 +43,7 @@ fn signal_near(design: &Design, near: u32, bit: u32) -> u32
 /// Whether there is a signal of this number that has a bit.
 fn has_bit(design: &Design, number: u32, bit: u32) -> bool
     requires { SignalsFill design.now }
-    ensures { IsTrue result → HasBit design.now.signals.items number bit }
+    ensures { IsTrue result → SignalHasBit design.now.signals.items number bit }
 {
     match design.signals().get(number as usize) {
         Some(signal) => signal.lo <= bit && bit - signal.lo < bits(&signal.ty),

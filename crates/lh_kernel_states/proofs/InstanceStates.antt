@@ -9,7 +9,7 @@ use Rattle.lh_unit.proofs.ById.{unit_named-by_id}
 use Rattle.lh_elab.specs.Probed.{probed_in}
 use Rattle.lh_exec.proofs.Begins.{some-state, waits-as-held, waits-within}
 use Rattle.lh_kernel_states.specs.declared.state.InstState.TheVariants.{Process, Entity}
-use Rattle.lh_kernel_states.specs.Laws.{FittingStand, SensesAlike, WakesAlike, SensesWithin, UnitIsNamed}
+use Rattle.lh_kernel_states.specs.Laws.{FittingStand, SensesAlike, WakesAlike, SensesWithin, InstanceUnitIsNamed}
 
 pub fitting-stand : FittingStand
 fitting-stand a width i (Process s) is h = let w = some-state a i.unit.0 width i.args s.stand h.1 in (of_process w.0, w.1)
@@ -31,7 +31,7 @@ pub senses-within : SensesWithin
 senses-within a width i (Process s) probes h w = waits-within a i.unit.0 width s.stand h.1
 senses-within a width i (Entity s) probes h w = w
 
-pub unit-is_named : UnitIsNamed
+pub unit-is_named : InstanceUnitIsNamed
 unit-is_named a u o l k e =
     let n = unit_name_at a u in
     ap (λ (x : Option UnitText). unwrap_or x (new_unit n kind.Entity)) (unit_named-by_id a u o l ∙ ap (λ (x : Option UnitKind). if is_some x then Some (unit_text_at a u) else None) e)

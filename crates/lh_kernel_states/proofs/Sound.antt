@@ -36,11 +36,11 @@ use Rattle.lh_kernel_states.specs.declared.state.InstState.TheVariants.{Process,
 use Rattle.lh_kernel_states.specs.Runs.{ActIsSound}
 
 pub process-fits : (a : Arena) (width : ℕ) (i : Instance) (s : InstState) (x : ProcState) → s ≡ Process x → StateFits a width i s →
-    (kind_at a i.unit.0 ≡ Some kind.Proc) × process.StateFits a i.unit.0 width x
+    (kind_at a i.unit.0 ≡ Some kind.Proc) × process.ProcStateFits a i.unit.0 width x
 process-fits a width i s x e h = subst (StateFits a width i) e h
 
 pub entity-fits : (a : Arena) (width : ℕ) (i : Instance) (s : InstState) (x : EntityState) → s ≡ Entity x → StateFits a width i s →
-    (kind_at a i.unit.0 ≡ Some kind.Entity) × entity.StateFits (unit_text_at a i.unit.0) i.args x
+    (kind_at a i.unit.0 ≡ Some kind.Entity) × entity.EntityStateFits (unit_text_at a i.unit.0) i.args x
 entity-fits a width i s x e h = subst (StateFits a width i) e h
 
 rest-late : (t u : Instant) (bs : List (ℕ × Bool)) (rest : Wish) → IsLate t (bits_due u bs ++ rest) → IsLate t rest

@@ -31,5 +31,5 @@ SensesWithin = (a : Arena) (width : ℕ) (i : Instance) (s : InstState) (probes 
     Each (λ (r : Range). r.lo + r.len ≤ width) (parts_sensed s probes)
 
 -- The unit of an instance by its name is the one by its id.
-abbrev pub UnitIsNamed : Type 0
-UnitIsNamed = (a : Arena) (u : ℕ) → IsArena a → u < unit_count a → (k : UnitKind) → kind_at a u ≡ Some k → unit_of (contents a) (unit_name_at a u) ≡ unit_text_at a u
+abbrev pub InstanceUnitIsNamed : Type 0
+InstanceUnitIsNamed = (a : Arena) (u : ℕ) → IsArena a → u < unit_count a → (k : UnitKind) → kind_at a u ≡ Some k → unit_of (contents a) (unit_name_at a u) ≡ unit_text_at a u

@@ -20,8 +20,8 @@ StateIs a i _ _ = ⊥
 
 -- it is of the kind of the instance's unit, and fits, where the signals have so many bits
 abbrev pub StateFits : Arena → (width : ℕ) → Instance → InstState → Type 0
-StateFits a width i (Process s) = (kind_at a i.unit.0 ≡ Some kind.Proc) × process.StateFits a i.unit.0 width s
-StateFits a width i (Entity s) = (kind_at a i.unit.0 ≡ Some kind.Entity) × entity.StateFits (unit_text_at a i.unit.0) i.args s
+StateFits a width i (Process s) = (kind_at a i.unit.0 ≡ Some kind.Proc) × process.ProcStateFits a i.unit.0 width s
+StateFits a width i (Entity s) = (kind_at a i.unit.0 ≡ Some kind.Entity) × entity.EntityStateFits (unit_text_at a i.unit.0) i.args s
 
 -- the parts that an instance senses: those that a process waits for, or that an entity probes
 abbrev pub parts_sensed : InstState → (probes : List Range) → List Range

@@ -7,7 +7,7 @@ use lh_types::memory::NoMemory;
 use std::alloc::Global;
 use std::marker::Model;
 
-/// The first number makes room for so many, so that a short list takes memory once.
+/// The first number makes room for this many, so that a short list takes memory once.
 const ROOM: usize = 16;
 
 /// Numbers, each less than those after it. Contracts see the list of them.

@@ -23,7 +23,7 @@ impl Model for Index {
 }
 
 impl Index {
-    /// The index of so many signals, of which nothing is sensed.
+    /// The index of this many signals, of which nothing is sensed.
     pub fn new(alloc: Global, signals: u32) -> Result<Index, NoMemory>
         ensures len { IfOk result (λ x. length x ≡ signals) }
         ensures none { IfOk result (λ x. (s k : ℕ) → ¬ Senses x s k) }

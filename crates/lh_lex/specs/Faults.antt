@@ -6,11 +6,11 @@ use Rattle.lh_lex.specs.declared.LexFault.{LexFault}
 use Rattle.lh_lex.specs.declared.LexFault.TheVariants.{BadByte, OutOfMemory}
 
 -- a bad byte is named by its place, and running out of memory says nothing of the line
-abbrev pub NamesFault : LexFault → List ℕ → Type 0
-NamesFault (BadByte n) bs = first_bad bs ≡ Some n
-NamesFault OutOfMemory bs = Unit {0}
+abbrev pub NamesBadByte : LexFault → List ℕ → Type 0
+NamesBadByte (BadByte n) bs = first_bad bs ≡ Some n
+NamesBadByte OutOfMemory bs = Unit {0}
 
 -- a line with a bad byte has no tokens
-abbrev pub Refuses : LexFault → List ℕ → Type 0
-Refuses (BadByte n) bs = lexemes bs ≡ None
-Refuses OutOfMemory bs = Unit {0}
+abbrev pub LineIsRefused : LexFault → List ℕ → Type 0
+LineIsRefused (BadByte n) bs = lexemes bs ≡ None
+LineIsRefused OutOfMemory bs = Unit {0}

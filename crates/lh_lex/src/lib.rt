@@ -9,7 +9,7 @@ ghost use Rattle.lh_unit_names.specs.Names.{is_name_byte, IsName};
 ghost use Rattle.lh_unit.specs.Lexemes as spec;
 ghost use Rattle.lh_unit.specs.Lexemes.{lexemes, first_lexeme, run_len, begins, is_comment, is_punct};
 ghost use Rattle.lh_unit.specs.Tokens.{tokens, first_token, named, lexeme_of, lexeme_at, IsSpelling, AreTokensOf, Covers};
-ghost use Rattle.lh_lex.specs.Faults.{NamesFault, Refuses};
+ghost use Rattle.lh_lex.specs.Faults.{NamesBadByte, LineIsRefused};
 ghost use Rattle.lh_lex.specs.Front.{taken, begins_word, begins_local, bad_mark, lexemes_to_bad, IsSettled};
 
 use lh_types::list::ListOf;
@@ -97,7 +97,7 @@ fn name_len(bytes: &[u8]) -> usize
     bytes.len()
 }
 
-/// Whether a name may have so many bytes.
+/// Whether a name may have this many bytes.
 fn fits_name(len: usize) -> bool
     ensures { result ≡ spec.fits_name len }
 {
@@ -217,7 +217,7 @@ pub fn local(text: &[u8]) -> Option<(&[u8], &[u8])>
 fn scan(alloc: Global, text: &[u8]) -> Result<TokenList, LexFault>
     requires { length text.now ≤ 67108864 }
     ensures ok { IfOk result (λ ts. tokens text.now ≡ Ok ts) }
-    ensures fault { IfErr result (λ e. NamesFault e text.now) }
+    ensures fault { IfErr result (λ e. NamesBadByte e text.now) }
 {
     let mut found = ListOf::new(alloc);
     let mut at = 0u32;
@@ -257,8 +257,8 @@ pub fn line(alloc: Global, text: &[u8]) -> Result<TokenList, LexFault>
     ensures lexed { IfOk result (λ ts. lexemes text.now ≡ Some (map (lexeme_at text.now) ts)) }
     ensures spelled { IfOk result (AreTokensOf text.now) }
     ensures covered { IfOk result (Covers text.now 0) }
-    ensures fault { IfErr result (λ e. NamesFault e text.now) }
-    ensures refused { IfErr result (λ e. Refuses e text.now) }
+    ensures fault { IfErr result (λ e. NamesBadByte e text.now) }
+    ensures refused { IfErr result (λ e. LineIsRefused e text.now) }
 {
     scan(alloc, text)
 }

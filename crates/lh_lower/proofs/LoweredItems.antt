@@ -28,7 +28,7 @@ use Rattle.lh_lower_def.specs.Report.{RowText, row_text}
 use Rattle.lh_lower_def.specs.declared.report.ReportRow.{ReportRow}
 use Rattle.lh_shape.specs.declared.reason.Reason.{Reason}
 use Rattle.lh_lower.specs.Outcomes.{IsOutcomeAt}
-use Rattle.lh_lower.specs.Lowers.{IsLowering, IsBehind, IsNext, LowersItem}
+use Rattle.lh_lower.specs.Lowers.{IsLowering, ItemIsBehind, IsNextItem, LowersItem}
 use Rattle.lh_lower.specs.declared.outcome.ProcessOutcome.{ProcessOutcome}
 use Rattle.lh_lower.specs.declared.outcome.ProcessOutcome.TheVariants as outcome
 use Rattle.lh_lower.specs.declared.lowering.Lowering.{Lowering}
@@ -88,7 +88,7 @@ declare-lowers (Ok x) l m d e same from fl co rows h = λ seen w b.
 
 -- ---- a unit
 
-module _ (l : Lowering) (u : UnitId) (n : IsNext l (item.Unit u)) where
+module _ (l : Lowering) (u : UnitId) (n : IsNextItem l (item.Unit u)) where
   o : IsArena l.from.now
   o = n.lowering.sound
 
@@ -129,7 +129,7 @@ module _ (l m : Lowering) (u : UnitId) (o : IsArena l.from.now) where
   abbrev t : UnitText
   t = unit_text_at b u.0
 
-  copied-more : (x : UnitText) (seen : List Item) → IsLowering b l seen → IsBehind b seen (item.Unit u) → CopiesUnit l.copying.from.now l.copying.to m.copying.to u.0 x
+  copied-more : (x : UnitText) (seen : List Item) → IsLowering b l seen → ItemIsBehind b seen (item.Unit u) → CopiesUnit l.copying.from.now l.copying.to m.copying.to u.0 x
       → lowered_item (contents b) (unit_text t) ≡ unit_text x
       → IsCopying b m.copying.to (items-of b seen ++ lowered_item (contents b) (unit_text t) ∷ [])
   copied-more x seen w h c e =
@@ -173,7 +173,7 @@ module _ (l m : Lowering) (u : UnitId) (o : IsArena l.from.now) where
           within = subst (Each (λ (z : ReportRow). z.unit.0 < unit_count b)) (sym rows) (within-push (unit_count b) l.report row w.within (within b o u seen behind));
         }
 
-  module _ (n : IsNext l (item.Unit u)) (process : kind_at b u.0 ≡ Some unit_kind.Proc) (x : ProcessOutcome) (is : IsOutcomeAt b u.0 x) (from : m.from.now ≡ b) (fl : m.flattener.m.now ≡ l.flattener.m.now)
+  module _ (n : IsNextItem l (item.Unit u)) (process : kind_at b u.0 ≡ Some unit_kind.Proc) (x : ProcessOutcome) (is : IsOutcomeAt b u.0 x) (from : m.from.now ≡ b) (fl : m.flattener.m.now ≡ l.flattener.m.now)
       (co : m.copying.from.now ≡ l.copying.from.now) (r : Result (Unit {0}) NoMemory) where
     pub entity-lowers : (k : Kind) (body : Body) → x ≡ outcome.Entity k body
         → ((lines : List LineText) → IsBody (unit_text_at l.copying.from.now u.0).args body lines
@@ -207,7 +207,7 @@ split x [] k l = absurd (omega (arith, l))
 split x (y ∷ xs) zero l = refl
 split x (y ∷ xs) (suc k) l = ap (λ (ys : List Item). y ∷ ys) (split x xs k (omega (arith, l)))
 
-pub behind : (c : Arena) (i : ℕ) (x : Item) → i < length c.items → x ≡ get_or c.items i x → IsBehind c (take i c.items) x
+pub behind : (c : Arena) (i : ℕ) (x : Item) → i < length c.items → x ≡ get_or c.items i x → ItemIsBehind c (take i c.items) x
 behind c i x h e = record { rest = drop (suc i) c.items; split = split x c.items i h ∙ ap (λ (y : Item). take i c.items ++ y ∷ drop (suc i) c.items) (sym e) }
 
 pub take-next : (xs : List Item) (i : ℕ) (x : Item) → i < length xs → x ≡ get_or xs i x → take (i + 1) xs ≡ take i xs ++ x ∷ []

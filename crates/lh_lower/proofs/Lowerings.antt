@@ -19,7 +19,7 @@ use Rattle.lh_lower_def.specs.Lowering.{Outcome, outcome_in, in_place, verdict_o
 use Rattle.lh_lower_def.specs.Report.{RowText, row_text}
 use Rattle.lh_lower_def.specs.declared.report.ReportRow.{ReportRow}
 use Rattle.lh_lower_def.proofs.KeptItems.{unit-name}
-use Rattle.lh_lower.specs.Lowers.{IsBehind}
+use Rattle.lh_lower.specs.Lowers.{ItemIsBehind}
 
 -- ---- what stands behind
 
@@ -54,7 +54,7 @@ names-apart a o v u l w n = by (same_unit_name (unit_name_at a v.0) (unit_name_a
         let q : v.0 ≡ u.0 = o.names_distinct v.0 u.0 (unit_name_at a u.0) (named v.0 l ∙ ap Some f) (named u.0 w) in
         absurd (n (λ i. record { 0 = q i }))
 
-module _ (a : Arena) (o : IsArena a) (u : UnitId) (seen : List Item) (b : IsBehind a seen (item.Unit u)) where
+module _ (a : Arena) (o : IsArena a) (u : UnitId) (seen : List Item) (b : ItemIsBehind a seen (item.Unit u)) where
   here : slice_get a.items (length seen) ≡ Some (item.Unit u)
   here = ap (λ (xs : List Item). slice_get xs (length seen)) b.split ∙ at-get seen b.rest (item.Unit u)
 

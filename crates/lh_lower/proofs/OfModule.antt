@@ -35,7 +35,7 @@ use Rattle.lh_emit_source.specs.declared.origin.Origin.{Origin}
 use Rattle.lh_lower_def.specs.Lowering as text
 use Rattle.lh_entity_laws.specs.Given.{CombIsGiven, EdgeIsGiven, OnceIsGiven}
 use Rattle.lh_entity_laws.proofs.Few.{unit-args-few}
-use Rattle.lh_lower.specs.Outcomes.{IsOutcome, IsOutcomeAt, HasArgs, CanEmit, IsOutcomeOf, IsOutcomeBy}
+use Rattle.lh_lower.specs.Outcomes.{IsOutcome, IsOutcomeAt, ArgsAreNamed, CanEmit, IsOutcomeOf, IsOutcomeBy}
 use Rattle.lh_lower.specs.declared.outcome.ProcessOutcome.{ProcessOutcome}
 use Rattle.lh_lower.specs.declared.outcome.ProcessOutcome.TheVariants as outcome
 use Rattle.lh_lower.proofs.Outcomes.{has-shape}
@@ -87,7 +87,7 @@ module _ (a : Arena) (u : ℕ) where
     pub shape-at : (ns : List TermNode) (s : Shape) → ((f : Naming) → Names t f → IsShape ns s (shape_of_text (flat_text f t))) → IsShape ns s (shape_in (contents a) x)
     shape-at ns s h = subst (λ (z : Flattened). IsShape ns s (shape_by_text z)) (sym (fl.1 ∙ ap flattened (sym read.says))) (h read.naming names)
 
-    pub has-args : (ns : List (List ℕ)) → ns ≡ map (λ (b : ArgText). b.name) x.args → HasArgs ns t
+    pub has-args : (ns : List (List ℕ)) → ns ≡ map (λ (b : ArgText). b.name) x.args → ArgsAreNamed ns t
     has-args ns e = record { below = below; naming = read.naming; is = names; named = e ∙ ap (map (λ (b : ArgText). b.name)) same-args; few = few }
 
     pub outcome-at : (ns : List (List ℕ)) (y : ProcessOutcome) → ns ≡ map (λ (b : ArgText). b.name) x.args → IsOutcomeBy ns t y → IsOutcomeAt a u y
@@ -95,10 +95,10 @@ module _ (a : Arena) (u : ℕ) where
 
 -- ---- a flat text
 
-pub has-form : (ns : List (List ℕ)) (t : Flat) → HasArgs ns t → HasForm t
+pub has-form : (ns : List (List ℕ)) (t : Flat) → ArgsAreNamed ns t → HasForm t
 has-form ns t h = record { below = h.below; naming = h.naming; names = h.is }
 
-module _ (combs : CombIsGiven) (edges : EdgeIsGiven) (onces : OnceIsGiven) (ns : List TermNode) (o : Origin) (h : HasArgs o.names o.flat.now) (table : IsPartTable o.flat.now o.parts.now)
+module _ (combs : CombIsGiven) (edges : EdgeIsGiven) (onces : OnceIsGiven) (ns : List TermNode) (o : Origin) (h : ArgsAreNamed o.names o.flat.now) (table : IsPartTable o.flat.now o.parts.now)
     (firsts : AreFirsts o) (s : Shape)
     (is : (f : Naming) → Names o.flat.now f → IsShape ns s (shape_of_text (flat_text f o.flat.now))) where
   origin-by : (f : Naming) → Names o.flat.now f → o.names ≡ map (λ (b : ArgText). b.name) (flat_text f o.flat.now).args → IsOrigin f o
@@ -128,11 +128,11 @@ module _ (combs : CombIsGiven) (edges : EdgeIsGiven) (onces : OnceIsGiven) (ns :
       (has-shape combs edges onces ns o s u f (origin-by f n (e ∙ ap (map (λ (b : ArgText). b.name)) args)) args once few (is f n))
 
 -- the same of an origin that was made of these
-module _ (combs : CombIsGiven) (edges : EdgeIsGiven) (onces : OnceIsGiven) (ns : List TermNode) (names : List (List ℕ)) (t : Flat) (p : PartTable) (h : HasArgs names t) (table : IsPartTable t p)
+module _ (combs : CombIsGiven) (edges : EdgeIsGiven) (onces : OnceIsGiven) (ns : List TermNode) (names : List (List ℕ)) (t : Flat) (p : PartTable) (h : ArgsAreNamed names t) (table : IsPartTable t p)
     (o : Origin) (same-flat : o.flat.now ≡ t) (same-parts : o.parts.now ≡ p)
     (same-names : o.names ≡ names) (firsts : AreFirsts o) (s : Shape) (is : (f : Naming) → Names t f → IsShape ns s (shape_of_text (flat_text f t))) where
-  args-there : HasArgs o.names o.flat.now
-  args-there = subst (λ (xs : List (List ℕ)). HasArgs xs o.flat.now) (sym same-names) (subst (λ (y : Flat). HasArgs names y) (sym same-flat) h)
+  args-there : ArgsAreNamed o.names o.flat.now
+  args-there = subst (λ (xs : List (List ℕ)). ArgsAreNamed xs o.flat.now) (sym same-names) (subst (λ (y : Flat). ArgsAreNamed names y) (sym same-flat) h)
 
   table-there : IsPartTable o.flat.now o.parts.now
   table-there = subst (λ (y : Flat). IsPartTable y o.parts.now) (sym same-flat) (subst (λ (y : PartTable). IsPartTable t y) (sym same-parts) table)

@@ -26,7 +26,7 @@ use Rattle.lh_emit_def.specs.Entities.{Emission, emits, entity_with, comb_emissi
 use Rattle.lh_emit_def.specs.Laws.{IsEntityOf, IsRightEntity, HasApartArgs, CombIsEntity, CombIsRight, EdgeIsEntity, EdgeIsRight, OnceIsEntity, OnceIsRight}
 use Rattle.lh_emit_def.specs.Ways.{WaitIsGiven, DriveIsGiven, RowIsGiven}
 use Rattle.lh_emit_source.specs.Origins.{source_by, IsOrigin}
-use Rattle.lh_emit_shapes.specs.Bodies.{IsBody, BodyOrTooLarge, IsFlatOf, steps_of, DrivesGiven, CanDrive, IsComb, IsOnce, RowsGiven, CanRegister, IsEdge}
+use Rattle.lh_emit_shapes.specs.Bodies.{IsBody, BodyOrTooLarge, IsFlatOf, steps_of, DrivesGiven, DrivesCanBeEmitted, IsComb, IsOnceBody, RowsGiven, CanRegister, IsRegisterBody}
 use Rattle.lh_emit_source.specs.declared.origin.Origin.{Origin}
 use Rattle.lh_emit_body.specs.declared.body.Body.{Body}
 use Rattle.lh_emit_body.specs.declared.lines.EmitFault.{EmitFault}
@@ -36,7 +36,7 @@ use Rattle.lh_lower_def.specs.declared.report.Kind.TheVariants as kind
 use Rattle.lh_lower_def.specs.Lowering as text
 use Rattle.lh_entity_laws.specs.Given.{source_in, CombIsGiven, EdgeIsGiven, OnceIsGiven}
 use Rattle.lh_lower.specs.Outcomes.{IsEntityBody}
-use Rattle.lh_lower.specs.Outcomes.{IsOutcome, IsOutcomeWith, IsShapeGiven, HasShape, CanEmit, IsOutcomeOf}
+use Rattle.lh_lower.specs.Outcomes.{IsOutcome, IsOutcomeWith, IsShapeGiven, ProcessHasShape, CanEmit, IsOutcomeOf}
 use Rattle.lh_lower.specs.declared.outcome.ProcessOutcome.{ProcessOutcome}
 use Rattle.lh_lower.specs.declared.outcome.ProcessOutcome.TheVariants as outcome
 
@@ -149,7 +149,7 @@ module _ (ns : List TermNode) (o : Origin) (u : UnitText) (f : Naming) where
         (λ lines q. record { entity = entity u (entity_with u lines) steps waited h.texts q ws ds'; right = right u (entity_with u lines) steps waited h.texts q apart ws ds' }) fl.once)
 
     edge-outcome : EdgeIsEntity → EdgeIsRight → (rows : List EdgeRow) (x : ShapeText) (r : Result Body EmitFault) (y : ProcessOutcome) → IsShape ns (shape.Edge rows) x → IsShapeGiven source x
-        → IsEdge ns o rows r → IsOutcomeWith kind.Edge r y
+        → IsRegisterBody ns o rows r → IsOutcomeWith kind.Edge r y
         → IsOutcome u (text.outcome_of_shape u steps x) y
     edge-outcome entity right rows x r y i g is w =
         let h = edge-has rows x i g in
@@ -158,7 +158,7 @@ module _ (ns : List TermNode) (o : Origin) (u : UnitText) (f : Naming) where
         (by-answer u kind.Edge (edge_emission u steps h.texts) r y (is u f h.texts fl h.rows_given) w
         (λ lines q. record { entity = entity u (entity_with u lines) steps h.texts q rs; right = right u (entity_with u lines) steps h.texts q apart rs }) fl.once)
 
-    once-outcome : OnceIsEntity → OnceIsRight → (ds : List DriveRow) (x : ShapeText) (r : Result Body EmitFault) (y : ProcessOutcome) → IsShape ns (shape.Once ds) x → IsShapeGiven source x → IsOnce ns o ds r
+    once-outcome : OnceIsEntity → OnceIsRight → (ds : List DriveRow) (x : ShapeText) (r : Result Body EmitFault) (y : ProcessOutcome) → IsShape ns (shape.Once ds) x → IsShapeGiven source x → IsOnceBody ns o ds r
         → IsOutcomeWith kind.Once r y
         → IsOutcome u (text.outcome_of_shape u steps x) y
     once-outcome entity right ds x r y i g is w =
@@ -173,12 +173,12 @@ module _ (ns : List TermNode) (o : Origin) (u : UnitText) (f : Naming) where
 
 -- ---- what may be emitted
 
-pub can-drive : (ns : List TermNode) (o : Origin) (waited : List Part) (ds : List DriveRow) → CanEmit ns o (shape.Comb waited ds) → CanDrive ns o waited ds
+pub can-drive : (ns : List TermNode) (o : Origin) (waited : List Part) (ds : List DriveRow) → CanEmit ns o (shape.Comb waited ds) → DrivesCanBeEmitted ns o waited ds
 can-drive ns o waited ds c =
     let h = comb-has ns o c.unit c.naming waited ds c.text c.has.is c.has.given in
     record { unit = c.unit; naming = c.naming; flat = c.has.flat; texts = h.texts; drives_given = h.drives; waits_given = h.waits }
 
-pub can-drive-once : (ns : List TermNode) (o : Origin) (ds : List DriveRow) → CanEmit ns o (shape.Once ds) → CanDrive ns o [] ds
+pub can-drive-once : (ns : List TermNode) (o : Origin) (ds : List DriveRow) → CanEmit ns o (shape.Once ds) → DrivesCanBeEmitted ns o [] ds
 can-drive-once ns o ds c =
     let h = once-has ns o c.unit c.naming ds c.text c.has.is c.has.given in
     record { unit = c.unit; naming = c.naming; flat = c.has.flat; texts = h.texts; drives_given = h.drives; waits_given = tt }
@@ -194,11 +194,11 @@ pub comb-of : (ns : List TermNode) (o : Origin) (waited : List Part) (ds : List 
     → IsOutcomeWith kind.Comb r y → IsOutcomeOf ns o (shape.Comb waited ds) y
 comb-of ns o waited ds r y entity right is w u f x h = comb-outcome ns o u f h.flat h.few entity right waited ds x r y h.is h.given is w
 
-pub edge-of : (ns : List TermNode) (o : Origin) (rows : List EdgeRow) (r : Result Body EmitFault) (y : ProcessOutcome) → EdgeIsEntity → EdgeIsRight → IsEdge ns o rows r → IsOutcomeWith kind.Edge r y
+pub edge-of : (ns : List TermNode) (o : Origin) (rows : List EdgeRow) (r : Result Body EmitFault) (y : ProcessOutcome) → EdgeIsEntity → EdgeIsRight → IsRegisterBody ns o rows r → IsOutcomeWith kind.Edge r y
     → IsOutcomeOf ns o (shape.Edge rows) y
 edge-of ns o rows r y entity right is w u f x h = edge-outcome ns o u f h.flat h.few entity right rows x r y h.is h.given is w
 
-pub once-of : (ns : List TermNode) (o : Origin) (ds : List DriveRow) (r : Result Body EmitFault) (y : ProcessOutcome) → OnceIsEntity → OnceIsRight → IsOnce ns o ds r → IsOutcomeWith kind.Once r y
+pub once-of : (ns : List TermNode) (o : Origin) (ds : List DriveRow) (r : Result Body EmitFault) (y : ProcessOutcome) → OnceIsEntity → OnceIsRight → IsOnceBody ns o ds r → IsOutcomeWith kind.Once r y
     → IsOutcomeOf ns o (shape.Once ds) y
 once-of ns o ds r y entity right is w u f x h = once-outcome ns o u f h.flat h.few entity right ds x r y h.is h.given is w
 
@@ -220,7 +220,7 @@ given-of combs edges onces name t f (left r) e = tt
 
 pub has-shape : CombIsGiven → EdgeIsGiven → OnceIsGiven → (ns : List TermNode) (o : Origin) (s : Shape) (u : UnitText) (f : Naming) → IsOrigin f o → u.args ≡ (flat_text f o.flat.now).args
     → args_repeat [] u.args ≡ false → length u.args < 2 ^ 32
-    → IsShape ns s (shape_of_text (flat_text f o.flat.now)) → HasShape ns o s u f (shape_of_text (flat_text f o.flat.now))
+    → IsShape ns s (shape_of_text (flat_text f o.flat.now)) → ProcessHasShape ns o s u f (shape_of_text (flat_text f o.flat.now))
 has-shape combs edges onces ns o s u f origin args distinct few is = record {
   flat = record { origin = origin; arguments = args; once = distinct };
   few = few;

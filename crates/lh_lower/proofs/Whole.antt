@@ -6,7 +6,7 @@ use Rattle.lh_unit.specs.Trace.{SameTrace}
 use Rattle.lh_unit.specs.WellFormed.{IsWellFormed}
 use Rattle.lh_flat.specs.Marks.{UnitsAreNamed}
 use Rattle.lh_lower_laws.specs.Same.{IsSourceModule, LoweredIsWellFormed, LoweredSameTrace}
-use Rattle.lh_lower.specs.Lowers.{IsLowered, IsLowering, IsBehind, IsNext, LowersItem}
+use Rattle.lh_lower.specs.Lowers.{IsLowered, IsLowering, ItemIsBehind, IsNextItem, LowersItem}
 use Rattle.lh_lower.specs.declared.lowering.Lowering.{Lowering}
 use Rattle.lh_lower.proofs.LoweredItems.{all-seen, behind, take-next}
 
@@ -24,10 +24,10 @@ module _ (a : Arena) (xs : List Item) (same : xs ≡ a.items) (l : Lowering) (i 
     at : x ≡ get_or a.items i x
     at = subst (λ (ys : List Item). x ≡ get_or ys i x) same e
 
-    behind-here : IsBehind l.from.now (take i a.items) x
-    behind-here = subst (λ (z : Arena). IsBehind z (take i a.items) x) (sym w.from) (behind a i x short at)
+    behind-here : ItemIsBehind l.from.now (take i a.items) x
+    behind-here = subst (λ (z : Arena). ItemIsBehind z (take i a.items) x) (sym w.from) (behind a i x short at)
 
-    pub is-next : IsNext l x
+    pub is-next : IsNextItem l x
     is-next = record { seen = take i a.items; lowering = here; behind = behind-here }
 
     pub one-item-more : (m : Lowering) → LowersItem l x m → IsLowering a m (take (i + 1) xs)

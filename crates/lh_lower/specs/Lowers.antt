@@ -27,16 +27,16 @@ pub record IsLowering (a : Arena) (l : Lowering) (seen : List Item) : Type 0 whe
   pub within : Each (λ (r : ReportRow). r.unit.0 < unit_count a) l.report
 
 -- an item stands behind those that were lowered
-pub record IsBehind (a : Arena) (seen : List Item) (i : Item) : Type 0 where
+pub record ItemIsBehind (a : Arena) (seen : List Item) (i : Item) : Type 0 where
   pub rest : List Item
   pub split : a.items ≡ seen ++ i ∷ rest
 
 -- the item is the next one
-pub record IsNext (l : Lowering) (i : Item) : Type 0 where
+pub record IsNextItem (l : Lowering) (i : Item) : Type 0 where
   pub seen : List Item
   pub lowering : IsLowering l.from.now l seen
-  pub behind : IsBehind l.from.now seen i
+  pub behind : ItemIsBehind l.from.now seen i
 
 -- The item is lowered too.
 abbrev pub LowersItem : Lowering → Item → Lowering → Type 0
-LowersItem l i m = (seen : List Item) → IsLowering l.from.now l seen → IsBehind l.from.now seen i → IsLowering l.from.now m (seen ++ i ∷ [])
+LowersItem l i m = (seen : List Item) → IsLowering l.from.now l seen → ItemIsBehind l.from.now seen i → IsLowering l.from.now m (seen ++ i ∷ [])

@@ -63,7 +63,7 @@ IsShapeGiven s (once ds) = Each (DriveIsGiven s) ds
 IsShapeGiven s (left r) = Unit {0}
 
 -- a process of this flat text by some names, with this shape by ids
-pub record HasShape (ns : List TermNode) (o : Origin) (shape : Shape) (u : UnitText) (f : Naming) (x : ShapeText) : Type 0 where
+pub record ProcessHasShape (ns : List TermNode) (o : Origin) (shape : Shape) (u : UnitText) (f : Naming) (x : ShapeText) : Type 0 where
   pub flat : IsFlatOf u f o
   pub few : length u.args < 2 ^ 32
   pub is : IsShape ns shape x
@@ -73,14 +73,14 @@ pub record CanEmit (ns : List TermNode) (o : Origin) (shape : Shape) : Type 0 wh
   pub unit : UnitText
   pub naming : Naming
   pub text : ShapeText
-  pub has : HasShape ns o shape unit naming text
+  pub has : ProcessHasShape ns o shape unit naming text
 
 -- The outcome is that of the shape.
 abbrev pub IsOutcomeOf : List TermNode → Origin → Shape → ProcessOutcome → Type 0
-IsOutcomeOf ns o shape y = (u : UnitText) (f : Naming) (x : ShapeText) → HasShape ns o shape u f x → IsOutcome u (text.outcome_of_shape u (steps_of u f o) x) y
+IsOutcomeOf ns o shape y = (u : UnitText) (f : Naming) (x : ShapeText) → ProcessHasShape ns o shape u f x → IsOutcome u (text.outcome_of_shape u (steps_of u f o) x) y
 
 -- a flat text that is formed by some names, by which its arguments have these
-pub record HasArgs (names : List (List ℕ)) (t : Flat) : Type 0 where
+pub record ArgsAreNamed (names : List (List ℕ)) (t : Flat) : Type 0 where
   pub below : IdsBelow t
   pub naming : Naming
   pub is : Names t naming

@@ -6,7 +6,7 @@ ghost use Rattle.lh_unit.specs.WellFormed.{IsWellFormed};
 ghost use Rattle.lh_unit.specs.declared.inst.Item.{Item as Entry};
 ghost use Rattle.lh_unit.specs.declared.inst.UnitKind.TheVariants.{Proc};
 ghost use Rattle.lh_flat.specs.Marks.{UnitsAreNamed};
-ghost use Rattle.lh_lower.specs.Lowers.{IsLowered, IsLowering, IsNext, LowersItem};
+ghost use Rattle.lh_lower.specs.Lowers.{IsLowered, IsLowering, IsNextItem, LowersItem};
 
 use crate::outcome::{ProcessOutcome, outcome_of};
 use lh_flat::Flattener;
@@ -81,7 +81,7 @@ impl<'m> Lowering<'m> {
     /// Takes the next item.
     fn take(&mut self, item: &Item) -> Result<(), NoMemory>
         requires formed { IsWellFormed (contents self.old.from.now) }
-        requires next { IsNext self.old item.now }
+        requires next { IsNextItem self.old item.now }
         ensures from { self.new.from.now ≡ self.old.from.now }
         ensures lowers { OnOk result (LowersItem self.old item.now self.new) }
     {
@@ -94,7 +94,7 @@ impl<'m> Lowering<'m> {
     /// Takes a unit: a process is lowered or left, and any other unit stays as it is.
     fn take_unit(&mut self, unit: UnitId) -> Result<(), NoMemory>
         requires formed { IsWellFormed (contents self.old.from.now) }
-        requires next { IsNext self.old (Entry.Unit unit) }
+        requires next { IsNextItem self.old (Entry.Unit unit) }
         ensures from { self.new.from.now ≡ self.old.from.now }
         ensures lowers { OnOk result (LowersItem self.old (Entry.Unit unit) self.new) }
     {
@@ -108,7 +108,7 @@ impl<'m> Lowering<'m> {
     /// Puts the entity of a process in its place, or keeps the process.
     fn take_process(&mut self, unit: UnitId) -> Result<(), NoMemory>
         requires formed { IsWellFormed (contents self.old.from.now) }
-        requires next { IsNext self.old (Entry.Unit unit) }
+        requires next { IsNextItem self.old (Entry.Unit unit) }
         requires process { kind_at self.old.from.now unit.0 ≡ Some Proc }
         ensures from { self.new.from.now ≡ self.old.from.now }
         ensures lowers { OnOk result (LowersItem self.old (Entry.Unit unit) self.new) }

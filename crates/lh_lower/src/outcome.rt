@@ -4,7 +4,7 @@ ghost use Rattle.lh_unit.specs.Arena.{IsArena, contents, unit_count, kind_at, un
 ghost use Rattle.lh_unit.specs.Contents.{ArgText};
 ghost use Rattle.lh_unit.specs.WellFormed.{IsWellFormed};
 ghost use Rattle.lh_unit.specs.declared.inst.UnitKind.TheVariants.{Proc};
-ghost use Rattle.lh_lower.specs.Outcomes.{HasArgs, IsOutcomeAt, IsOutcomeBy, IsOutcomeOf, IsOutcomeWith, CanEmit};
+ghost use Rattle.lh_lower.specs.Outcomes.{ArgsAreNamed, IsOutcomeAt, IsOutcomeBy, IsOutcomeOf, IsOutcomeWith, CanEmit};
 
 use crate::process::shape_of_flat;
 use lh_emit_body::{Body, EmitFault};
@@ -76,7 +76,7 @@ fn names_of_args(alloc: Global, from: &Module, unit: UnitId) -> Result<NameList,
 
 /// What becomes of a process with this flat text, whose arguments have these names.
 fn outcome_by(alloc: Global, names: NameList, flat: &Flat) -> Result<ProcessOutcome, NoMemory>
-    requires { HasArgs names flat.now }
+    requires { ArgsAreNamed names flat.now }
     ensures is { IfOk result (IsOutcomeBy names flat.now) }
 {
     comb_given();

@@ -57,7 +57,7 @@ pub fn put_body(m: &mut Module, from: &Module, unit: UnitId, body: Body) -> Resu
     ensures { let t = unit_text_at from.now unit.0 in IfOk result (λ _. (lines : List LineText) → IsBody t.args body lines → AddsUnit m.old m.new unit.0 (entity_with t lines)) }
 {
     let Body { names, lines } = body;
-    // There is no memory for so many names.
+    // There is no memory for this many names.
     if names.len() > u32::MAX as usize {
         return Err(NoMemory);
     }

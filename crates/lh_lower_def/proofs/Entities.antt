@@ -10,7 +10,7 @@ use Rattle.lh_emit_def.specs.Emitted.{PartStep, source_of}
 use Rattle.lh_emit_def.specs.Reached.{steps_in}
 use Rattle.lh_emit_def.specs.Entities as made
 use Rattle.lh_emit_def.specs.Entities.{Emission, too_large, emits, comb_emission, edge_emission, once_emission, entity_with, within_limits, drive_fits, row_fits}
-use Rattle.lh_emit_def.specs.Laws.{IsEmitted}
+use Rattle.lh_emit_def.specs.Laws.{IsEmittedKind}
 use Rattle.lh_emit_def.proofs.Whole.{within}
 use Rattle.lh_lower_def.specs.Lowering.{becomes, outcome_of_emission, outcome_of_shape, outcome_of_text, outcome_in}
 use Rattle.lh_lower_def.specs.Kept.{IsEntityFor}
@@ -24,7 +24,7 @@ module _ (u y : UnitText) (k : Kind) where
   of-emission own (emits x) h = cc h
   of-emission own too_large h = absurd cc
 
-  of-lines : (fits : Bool) (lines : List LineText) → Each (λ (l : LineText). IsEmitted l.inst) lines → within_limits u fits lines ≡ emits y → IsEntityFor u y
+  of-lines : (fits : Bool) (lines : List LineText) → Each (λ (l : LineText). IsEmittedKind l.inst) lines → within_limits u fits lines ≡ emits y → IsEntityFor u y
   of-lines fits lines p h =
       let w = within u y fits lines h in
       let e : y ≡ entity_with u lines = w.is in

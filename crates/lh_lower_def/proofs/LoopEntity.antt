@@ -14,7 +14,7 @@ use Rattle.lh_lower_def.specs.Loops.{whole, sum_of}
 abbrev pub drive_of : Tree → Drive
 drive_of v = record { cond = bit_of true; part = whole 1; value = v; delay = constant (time_value (record { fs = 0; delta = 1; eps = 0 })) }
 
--- at most so many instructions
+-- at most this many instructions
 abbrev AtMost : ℕ → Emitted → Type 0
 AtMost b e = length e.lines ≤ b
 

@@ -13,12 +13,12 @@ use Rattle.lh_emit_def.specs.Given.{Drive, TriggerTree, EdgeRowTree}
 use Rattle.lh_emit_def.specs.Emitted.{PartStep, Source, Emitted, nothing_emitted, next_name, gives, gives_term, typed, takes_steps, arg_name, unless_there, need_part}
 use Rattle.lh_emit_def.specs.Needs.{constants, operands_in, gives_operation, need_value, need_values, probe, pair_of, need_pair, need, need_all}
 use Rattle.lh_emit_def.specs.Entities.{need_cond, need_drive, emit_drive, emit_drives, need_trigger, need_register, emit_register_by, emit_register, emit_probes, comb, edge, once}
-use Rattle.lh_emit_def.specs.Laws.{IsEmitted}
+use Rattle.lh_emit_def.specs.Laws.{IsEmittedKind}
 
 abbrev pub Plain : Emitted → Type 0
-Plain e = Each (λ (l : LineText). IsEmitted l.inst) e.lines
+Plain e = Each (λ (l : LineText). IsEmittedKind l.inst) e.lines
 
-one-more : (ls : List LineText) (l : LineText) → Each (λ (m : LineText). IsEmitted m.inst) ls → IsEmitted l.inst → Each (λ (m : LineText). IsEmitted m.inst) (ls ++ l ∷ [])
+one-more : (ls : List LineText) (l : LineText) → Each (λ (m : LineText). IsEmittedKind m.inst) ls → IsEmittedKind l.inst → Each (λ (m : LineText). IsEmittedKind m.inst) (ls ++ l ∷ [])
 one-more [] l h k = (k, tt)
 one-more (x ∷ ls) l h k = (h.0, one-more ls l h.1 k)
 

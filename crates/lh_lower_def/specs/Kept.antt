@@ -9,7 +9,7 @@ use Rattle.lh_unit.specs.Within.{Each}
 use Rattle.lh_unit.specs.Activation.{functions}
 use Rattle.lh_unit.specs.WellFormed.{in_process}
 use Rattle.lh_shape.specs.declared.reason.Reason.{Reason}
-use Rattle.lh_emit_def.specs.Laws.{IsEmitted}
+use Rattle.lh_emit_def.specs.Laws.{IsEmittedKind}
 use Rattle.lh_lower_def.specs.Report.{RowText}
 use Rattle.lh_lower_def.specs.Lowering.{becomes, stays, outcome_in, verdict_of, lowered, report}
 use Rattle.lh_lower_def.specs.declared.report.Kind.{Kind}
@@ -24,7 +24,7 @@ pub record IsEntityFor (u y : UnitText) : Type 0 where
   pub lines : List LineText
   pub one_block : y.blocks ≡ record { label = None; lines = lines } ∷ []
   pub short : length lines ≤ 65536
-  pub emitted : Each (λ (l : LineText). IsEmitted l.inst) lines
+  pub emitted : Each (λ (l : LineText). IsEmittedKind l.inst) lines
 
 -- What stands in the place of an item of a module, and the row that the report has for it: declarations, functions and entities stay as they
 -- are, and have none; a process with a reason stays as it is, with a row that names the reason; any other becomes an entity, with a row that

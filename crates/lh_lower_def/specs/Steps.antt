@@ -1,4 +1,4 @@
--- Lowering as a way of single steps.
+-- Lowering as a sequence of single steps.
 use Rattle.std.specs.Prelude.{◌≡◌, List, ◌∷◌, ◌++◌, true}
 use Rattle.lh_unit.specs.Contents.{UnitText, ItemText, unit_text}
 use Rattle.lh_lower_def.specs.Lowering.{becomes, outcome_in, lowered}

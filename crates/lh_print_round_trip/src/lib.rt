@@ -8,7 +8,7 @@ ghost use Rattle.lh_unit.specs.Arena.{contents};
 ghost use Rattle.lh_unit.specs.Canon.{canon};
 ghost use Rattle.lh_unit.specs.Reads.{Reads};
 ghost use Rattle.lh_unit.specs.WellFormed.{IsSpelled};
-ghost use Rattle.lh_read.specs.Reading.{ModuleOrNoMemory, Names};
+ghost use Rattle.lh_read.specs.Reading.{ModuleOrNoMemory, NamesFirstFault};
 
 use lh_print::print;
 use lh_read::{TextFault, read};
@@ -21,7 +21,7 @@ pub fn read_spelled(alloc: Global, text: &[u8]) -> Result<Module, TextFault>
     ensures ok { IfOk result (λ m. Reads text.now (contents m)) }
     ensures only { (items : List ItemText) → Reads text.now items → ModuleOrNoMemory result items }
     ensures spelled { IfOk result (λ m. IsSpelled (contents m)) }
-    ensures fault { IfErr result (λ e. Names e text.now) }
+    ensures fault { IfErr result (λ e. NamesFirstFault e text.now) }
 {
     read(alloc, text)
 }

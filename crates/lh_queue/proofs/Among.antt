@@ -8,7 +8,7 @@ use Rattle.lh_types.specs.History.{Claim, claim_cmp, IsAmong, entries_of}
 use Rattle.lh_history_laws.proofs.Claims.{among_parts}
 use Rattle.lh_queue.specs.declared.wish.Wish.{Wish}
 use Rattle.lh_queue.specs.Queued.{QueuedWish, is_before, IsBeforeAll, AreInOrder, NamesOnce, IsUnnamed, EachNamesOnce, with_held, due_later}
-use Rattle.lh_queue.specs.Holds.{wish_entries, entries, IsAfter, IsFrom, HoldsFor, HoldsOn, HoldsMore}
+use Rattle.lh_queue.specs.Holds.{wish_entries, entries, IsAfter, IsFrom, HoldsFor, HoldsOn, HoldsOneWishMore}
 
 pub among_left : (xs ys : List Claim) (c : Claim) → IsAmong c xs → IsAmong c (xs ++ ys)
 among_left [] ys c h = absurd h
@@ -108,7 +108,7 @@ more_from (y ∷ ys) x c h = at (is_before x.wish y.wish) h (more_from ys x c)
         (among_parts (wish_entries y.wish) (entries ys) c l))
         (λ l. among_right (wish_entries y.wish) (entries (with_held ys x)) c (ih (inr l))) k
 
-pub holds_more : (old new : List QueuedWish) (x : QueuedWish) → new ≡ with_held old x → HoldsMore old x.wish new
+pub holds_more : (old new : List QueuedWish) (x : QueuedWish) → new ≡ with_held old x → HoldsOneWishMore old x.wish new
 holds_more old new x e all last h a =
     let P : List QueuedWish → Type 0 = λ xs. HoldsFor xs (all ++ wish_entries x.wish) last in
     subst P (sym e) (record {

@@ -12,7 +12,7 @@ use Rattle.lh_queue.specs.declared.wish.Wish.{Wish}
 use Rattle.lh_queue.specs.Queued.{QueuedWish, IsBeforeAll, NoneHas, NamesOnce, with_held}
 use Rattle.lh_queue.specs.Buckets.{time, link, bucket, buckets_after, buckets_of}
 use Rattle.lh_queue.specs.Stored.{AreLinked, IsStored}
-use Rattle.lh_queue.specs.Places.{AreEarlier, AreLater, AllBefore, GoesAlone, GoesFirst, GoesAfter}
+use Rattle.lh_queue.specs.Places.{AreEarlier, AreLater, AllBefore, GoesAlone, IsFirstInBucket, GoesAfter}
 use Rattle.lh_queue.proofs.Storage.{agrees_but, agrees_two, linked_back}
 use Rattle.lh_queue.proofs.Order.{order_insert, with_held_between, none_inserted, keys_insert, once_insert, none_front, none_back, others_lack}
 use Rattle.lh_queue.proofs.BucketChains.{starts_later, linked_between, linked_behind, after_later, buckets_append, buckets_behind, insert_at, set_at, get_at, before_earlier, before_later}
@@ -124,14 +124,14 @@ module _ (s t : Slab Linked) (buckets bs : List Bucket) (w : Wish) (key : ℕ) w
       skip a b e = rw (eq-eqb a b e) (ap (λ m. buckets_after m back) e)
 
   -- the bucket of this number is of the wish's time, and begins with the wish that comes next
-  pub bucket_first : (k : ℕ) (held : List QueuedWish) (d : Bucket) → IsStored s buckets held → (p : GoesFirst held w k) → d ≡ get_or buckets k d → d ≡ bucket p.next
+  pub bucket_first : (k : ℕ) (held : List QueuedWish) (d : Bucket) → IsStored s buckets held → (p : IsFirstInBucket held w k) → d ≡ get_or buckets k d → d ≡ bucket p.next
   bucket_first k held d i p e =
       let from : w.due.fs ≤ time p.next = omega (arith, p.same) in
       e ∙ ap (λ cs. get_or cs k d) (i.buckets_are ∙ ap buckets_of p.split ∙ buckets_append w.due.fs p.front (p.next ∷ p.back) p.earlier from)
       ∙ ap (λ m. get_or (buckets_of p.front ++ buckets_of (p.next ∷ p.back)) m d) (sym p.place)
       ∙ get_at (buckets_of p.front) (buckets_after (time p.next) p.back) (bucket p.next) d
 
-  pub bucket_there : (k : ℕ) (held : List QueuedWish) → IsStored s buckets held → GoesFirst held w k → k < length buckets
+  pub bucket_there : (k : ℕ) (held : List QueuedWish) → IsStored s buckets held → IsFirstInBucket held w k → k < length buckets
   bucket_there k held i p =
       let from : w.due.fs ≤ time p.next = omega (arith, p.same) in
       let laid : buckets ≡ buckets_of p.front ++ buckets_of (p.next ∷ p.back) = i.buckets_are ∙ ap buckets_of p.split ∙ buckets_append w.due.fs p.front (p.next ∷ p.back) p.earlier from in
@@ -142,7 +142,7 @@ module _ (s t : Slab Linked) (buckets bs : List Bucket) (w : Wish) (key : ℕ) w
       let laid : buckets ≡ buckets_of p.front ++ buckets_of p.back = i.buckets_are ∙ ap buckets_of p.split ∙ buckets_append w.due.fs p.front p.back p.earlier (starts_later w.due.fs p.back p.later) in
       omega (arith, ap length laid, length-append (buckets_of p.front) (buckets_of p.back), p.place)
 
-  pub put_first : (k : ℕ) (held : List QueuedWish) (d e : Bucket) → IsStored s buckets held → GoesFirst held w k → NamesOnce w.bits → get s key ≡ None
+  pub put_first : (k : ℕ) (held : List QueuedWish) (d e : Bucket) → IsStored s buckets held → IsFirstInBucket held w k → NamesOnce w.bits → get s key ≡ None
       → d ≡ get_or buckets k d → e ≡ get_or buckets k e
       → Updates s t key (Some (record { wish = w; next = Some d.first })) → slab_len t ≡ slab_len s + 1 → bs ≡ set buckets k (record { fs = e.fs; first = key }) → Puts t bs held key w
   put_first k held d e i p o g d_is e_is u n b =

@@ -7,8 +7,8 @@ use Rattle.std.proofs.lemmas.List.{append_assoc}
 use Rattle.lh_queue.specs.declared.queue.Bucket.{Bucket}
 use Rattle.lh_queue.specs.declared.wish.Wish.{Wish}
 use Rattle.lh_queue.specs.Queued.{QueuedWish, is_before, IsBeforeAll, AreInOrder, NoneHas, KeysDiffer, NoneCompetes, wish_at}
-use Rattle.lh_queue.specs.Buckets.{time, link, next_in, bucket, buckets_after, buckets_of, AreAbove, TimesRise}
-use Rattle.lh_queue.specs.Places.{AreEarlier, AreLater, AllBefore, earlier, first_of, comes_before, if_before, next_before, is_near, behind, GoesAlone, GoesFirst, GoesAfter, IsBehind}
+use Rattle.lh_queue.specs.Buckets.{time, link, next_in, bucket, buckets_after, buckets_of, BucketsAreLater, TimesRise}
+use Rattle.lh_queue.specs.Places.{AreEarlier, AreLater, AllBefore, earlier, first_of, comes_before, if_before, next_before, is_near, behind, GoesAlone, IsFirstInBucket, GoesAfter, StandsBeforeInBucket}
 use Rattle.lh_queue.proofs.Order.{before_trans, before_not, before_or, before_all, others_lack, order_back, competes_back}
 use Rattle.lh_queue.proofs.BucketChains.{StartsFrom, buckets_append, fs_first, before_earlier}
 
@@ -32,18 +32,18 @@ pub each_from : (w : Wish) (xs : List QueuedWish) → IsBeforeAll w xs → EachF
 each_from w [] h = tt
 each_from w (x ∷ more) h = (fs_upto w x.wish h.0, each_from w more h.1)
 
-above_weaker : (f g : ℕ) (bs : List Bucket) → f ≤ g → AreAbove g bs → AreAbove f bs
+above_weaker : (f g : ℕ) (bs : List Bucket) → f ≤ g → BucketsAreLater g bs → BucketsAreLater f bs
 above_weaker f g [] h e = tt
 above_weaker f g (b ∷ more) h e = (omega (arith, e.0), above_weaker f g more h e.1)
 
 -- the times of buckets rise
-after_rise : (g : ℕ) (xs : List QueuedWish) → EachFrom g xs → AreInOrder xs → AreAbove g (buckets_after g xs) × TimesRise (buckets_after g xs)
+after_rise : (g : ℕ) (xs : List QueuedWish) → EachFrom g xs → AreInOrder xs → BucketsAreLater g (buckets_after g xs) × TimesRise (buckets_after g xs)
 after_rise g [] e o = (tt, tt)
 after_rise g (x ∷ more) e o = at (nat_eq (time x) g) refl (after_rise g more e.1 o.1) (after_rise (time x) more (each_from x.wish more o.0) o.1)
   where
-    at : (b : Bool) → nat_eq (time x) g ≡ b → AreAbove g (buckets_after g more) × TimesRise (buckets_after g more) → AreAbove (time x) (buckets_after (time x) more)
+    at : (b : Bool) → nat_eq (time x) g ≡ b → BucketsAreLater g (buckets_after g more) × TimesRise (buckets_after g more) → BucketsAreLater (time x) (buckets_after (time x) more)
         × TimesRise (buckets_after (time x) more)
-        → AreAbove g (if b then buckets_after g more else bucket x ∷ buckets_after (time x) more) × TimesRise (if b then buckets_after g more else bucket x ∷ buckets_after (time x) more)
+        → BucketsAreLater g (if b then buckets_after g more else bucket x ∷ buckets_after (time x) more) × TimesRise (if b then buckets_after g more else bucket x ∷ buckets_after (time x) more)
     at true q ih jh = ih
     at false q ih jh =
         let n : time x ≢ g = eqb-false (time x) g q in
@@ -55,7 +55,7 @@ buckets_rise [] o = tt
 buckets_rise (x ∷ more) o = after_rise (time x) more (each_from x.wish more o.0) o.1
 
 -- a search for the first that is not of an earlier time
-rises_at : (f : ℕ) (bs : List Bucket) (j : ℕ) (d : Bucket) → AreAbove f bs → j < length bs → f < (get_or bs j d).fs
+rises_at : (f : ℕ) (bs : List Bucket) (j : ℕ) (d : Bucket) → BucketsAreLater f bs → j < length bs → f < (get_or bs j d).fs
 rises_at f [] j d a h = absurd (omega arith)
 rises_at f (b ∷ more) zero d a h = a.0
 rises_at f (b ∷ more) (suc j) d a h = rises_at f more j d a.1 (omega arith)
@@ -231,7 +231,7 @@ module _ (held : List QueuedWish) (w : Wish) (o : AreInOrder held) (u : KeysDiff
       let lacks = others_lack front y back (subst K s u) in
       ap (λ m. option_map_or (λ (x : Wish). is_before x w) m false) (ap (wish_at held) (sym e) ∙ ap (λ xs. wish_at xs y.key) s ∙ wish_mid front y back lacks.0)
 
-  pub goes_first : (first k : ℕ) → Starts w.due.fs first held k → comes_before held first w ≡ false → GoesFirst held w k
+  pub goes_first : (first k : ℕ) → Starts w.due.fs first held k → comes_before held first w ≡ false → IsFirstInBucket held w k
   goes_first first k s b =
       let O : List QueuedWish → Type 0 = AreInOrder in
       let N : List QueuedWish → Type 0 = NoneCompetes w in
@@ -249,7 +249,7 @@ module _ (held : List QueuedWish) (w : Wish) (o : AreInOrder held) (u : KeysDiff
         before = (before, before_all w s.next.wish s.back before order.0);
       }
 
-  pub is_behind : (first k : ℕ) → Starts w.due.fs first held k → comes_before held first w ≡ true → IsBehind held w first
+  pub is_behind : (first k : ℕ) → Starts w.due.fs first held k → comes_before held first w ≡ true → StandsBeforeInBucket held w first
   is_behind first k s b = record {
     front = s.front;
     near = s.next;
@@ -260,19 +260,19 @@ module _ (held : List QueuedWish) (w : Wish) (o : AreInOrder held) (u : KeysDiff
     after = all_before_append s.front s.next w (before_earlier s.front w s.earlier_are) (sym (before_mid s.front s.next s.back first s.split s.key) ∙ b);
   }
 
-  pub next_of_behind : (k : ℕ) (p : IsBehind held w k) → next_in held k ≡ link p.near p.back
+  pub next_of_behind : (k : ℕ) (p : StandsBeforeInBucket held w k) → next_in held k ≡ link p.near p.back
   next_of_behind k p =
       let K : List QueuedWish → Type 0 = KeysDiffer in
       let lacks = others_lack p.front p.near p.back (subst K p.split u) in
       ap (next_in held) (sym p.key) ∙ ap (λ xs. next_in xs p.near.key) p.split ∙ next_mid p.front p.near p.back lacks.0
 
-  pub there : (k : ℕ) → IsBehind held w k → IsSome (wish_at held k)
+  pub there : (k : ℕ) → StandsBeforeInBucket held w k → IsSome (wish_at held k)
   there k p =
       let K : List QueuedWish → Type 0 = KeysDiffer in
       let lacks = others_lack p.front p.near p.back (subst K p.split u) in
       ap is_some (ap (wish_at held) (sym p.key) ∙ ap (λ xs. wish_at xs p.near.key) p.split ∙ wish_mid p.front p.near p.back lacks.0)
 
-  pub behind_of : (k : ℕ) (p : IsBehind held w k) → behind held k ≡ p.back
+  pub behind_of : (k : ℕ) (p : StandsBeforeInBucket held w k) → behind held k ≡ p.back
   behind_of k p =
       let K : List QueuedWish → Type 0 = KeysDiffer in
       let lacks = others_lack p.front p.near p.back (subst K p.split u) in
@@ -280,10 +280,10 @@ module _ (held : List QueuedWish) (w : Wish) (o : AreInOrder held) (u : KeysDiff
 
   -- one step further
   pub record Further (k next : ℕ) : Type 0 where
-    pub to : IsBehind held w next
+    pub to : StandsBeforeInBucket held w next
     pub less : suc (length (behind held next)) ≡ length (behind held k)
 
-  further_at : (k next : ℕ) (p : IsBehind held w k) (back : List QueuedWish) → p.back ≡ back → if_before held w (link p.near back) ≡ Some next → Further k next
+  further_at : (k next : ℕ) (p : StandsBeforeInBucket held w k) (back : List QueuedWish) → p.back ≡ back → if_before held w (link p.near back) ≡ Some next → Further k next
   further_at k next p [] e h = absurd (clash h)
     where
       clash : None ≡ Some next → ⊥
@@ -301,7 +301,7 @@ module _ (held : List QueuedWish) (w : Wish) (o : AreInOrder held) (u : KeysDiff
 
       found : (b : Bool) → time z ≡ time p.near → comes_before held z.key w ≡ b → (if b then Some z.key else None) ≡ Some next → Further k next
       found true q c y =
-          let to : IsBehind held w next = record {
+          let to : StandsBeforeInBucket held w next = record {
             front = p.front ++ p.near ∷ [];
             near = z;
             back = zs;
@@ -317,10 +317,10 @@ module _ (held : List QueuedWish) (w : Wish) (o : AreInOrder held) (u : KeysDiff
       at true q y = found (comes_before held z.key w) (eqb-true (time z) (time p.near) q) refl y
       at false q y = absurd (clash y)
 
-  pub further : (k next : ℕ) (p : IsBehind held w k) → next_before held k w ≡ Some next → Further k next
+  pub further : (k next : ℕ) (p : StandsBeforeInBucket held w k) → next_before held k w ≡ Some next → Further k next
   further k next p h = further_at k next p p.back refl (ap (if_before held w) (sym (next_of_behind k p)) ∙ h)
 
-  last_at : (k : ℕ) (p : IsBehind held w k) (back : List QueuedWish) → p.back ≡ back → if_before held w (link p.near back) ≡ None → IsBeforeAll w back
+  last_at : (k : ℕ) (p : StandsBeforeInBucket held w k) (back : List QueuedWish) → p.back ≡ back → if_before held w (link p.near back) ≡ None → IsBeforeAll w back
   last_at k p [] e h = tt
   last_at k p (z ∷ zs) e h = at (nat_eq (time z) (time p.near)) refl h
     where
@@ -360,7 +360,7 @@ module _ (held : List QueuedWish) (w : Wish) (o : AreInOrder held) (u : KeysDiff
           let l : w.due.fs < time z = omega (arith, p.same) in
           all (fs_first w z.wish l)
 
-  pub goes_after : (k : ℕ) → IsBehind held w k → next_before held k w ≡ None → GoesAfter held w k
+  pub goes_after : (k : ℕ) → StandsBeforeInBucket held w k → next_before held k w ≡ None → GoesAfter held w k
   goes_after k p h = record {
     front = p.front;
     near = p.near;
@@ -403,10 +403,10 @@ all_before (z ∷ zs) y back w o b = (before_trans z.wish y.wish w (before_one z
     before_one v [] y back h = h.0
     before_one v (u ∷ us) y back h = before_one v us y back h.1
 
-pub near_behind : (held : List QueuedWish) (w : Wish) (k : ℕ) → AreInOrder held → is_near held k w ≡ true → IsBehind held w k
+pub near_behind : (held : List QueuedWish) (w : Wish) (k : ℕ) → AreInOrder held → is_near held k w ≡ true → StandsBeforeInBucket held w k
 near_behind held w k o h = at (wish_at held k) refl h
   where
-    at : (r : Option Wish) → wish_at held k ≡ r → option_map_or (λ (x : Wish). nat_eq x.due.fs w.due.fs && is_before x w) r false ≡ true → IsBehind held w k
+    at : (r : Option Wish) → wish_at held k ≡ r → option_map_or (λ (x : Wish). nat_eq x.due.fs w.due.fs && is_before x w) r false ≡ true → StandsBeforeInBucket held w k
     at None e z = cc
     at (Some x) e z =
         let p = stands held k x e in

@@ -44,14 +44,14 @@ KeysLead all (Some k) [] = ⊥
 KeysLead all (Some k) (x ∷ more) = (x.key ≡ k) × KeysLead all (next_in all k) more
 
 -- all times are above this one
-abbrev pub AreAbove : ℕ → List Bucket → Type 0
-AreAbove fs [] = Unit {0}
-AreAbove fs (b ∷ more) = (fs < b.fs) × AreAbove fs more
+abbrev pub BucketsAreLater : ℕ → List Bucket → Type 0
+BucketsAreLater fs [] = Unit {0}
+BucketsAreLater fs (b ∷ more) = (fs < b.fs) × BucketsAreLater fs more
 
 -- the times rise strictly
 abbrev pub TimesRise : List Bucket → Type 0
 TimesRise [] = Unit {0}
-TimesRise (b ∷ more) = AreAbove b.fs more × TimesRise more
+TimesRise (b ∷ more) = BucketsAreLater b.fs more × TimesRise more
 
 -- a bucket is of this time
 abbrev pub HasTime : ℕ → List Bucket → Type 0

@@ -42,8 +42,8 @@ abbrev pub HoldsOn : (old : List QueuedWish) → Instant → (new : List QueuedW
 HoldsOn old t new = (all : List Claim) (last : Option Instant) → HoldsFor old all last → IsFrom last t → HoldsFor new all (Some t)
 
 -- What was held for all of these is, with one wish more that is due after the last taking, held for these and its entries.
-abbrev pub HoldsMore : (old : List QueuedWish) → Wish → (new : List QueuedWish) → Type 0
-HoldsMore old w new = (all : List Claim) (last : Option Instant) → HoldsFor old all last → IsAfter last w.due → HoldsFor new (all ++ wish_entries w) last
+abbrev pub HoldsOneWishMore : (old : List QueuedWish) → Wish → (new : List QueuedWish) → Type 0
+HoldsOneWishMore old w new = (all : List Claim) (last : Option Instant) → HoldsFor old all last → IsAfter last w.due → HoldsFor new (all ++ wish_entries w) last
 
 -- Where each held wish names a bit, the instant is the soonest after the last taking at which anything ever wished is due.
 abbrev pub IsSoonestDue : List QueuedWish → Option Instant → Type 0

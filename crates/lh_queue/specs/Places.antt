@@ -40,7 +40,7 @@ pub record GoesAlone (held : List QueuedWish) (w : Wish) (k : ℕ) : Type 0 wher
   pub later : AreLater w.due.fs back
 
 -- first in a bucket
-pub record GoesFirst (held : List QueuedWish) (w : Wish) (k : ℕ) : Type 0 where
+pub record IsFirstInBucket (held : List QueuedWish) (w : Wish) (k : ℕ) : Type 0 where
   pub front : List QueuedWish
   pub next : QueuedWish
   pub back : List QueuedWish
@@ -64,11 +64,11 @@ pub record GoesAfter (held : List QueuedWish) (w : Wish) (k : ℕ) : Type 0 wher
 -- a place for a wish
 abbrev pub IsPlace : List QueuedWish → Wish → Insertion → Type 0
 IsPlace held w (Alone k) = GoesAlone held w k
-IsPlace held w (First k) = GoesFirst held w k
+IsPlace held w (First k) = IsFirstInBucket held w k
 IsPlace held w (After walk) = GoesAfter held w walk.to
 
 -- the wish of a key is in the bucket of a wish, and comes before it
-pub record IsBehind (held : List QueuedWish) (w : Wish) (k : ℕ) : Type 0 where
+pub record StandsBeforeInBucket (held : List QueuedWish) (w : Wish) (k : ℕ) : Type 0 where
   pub front : List QueuedWish
   pub near : QueuedWish
   pub back : List QueuedWish
@@ -125,7 +125,7 @@ abbrev pub next_before : List QueuedWish → ℕ → Wish → Option ℕ
 next_before held k w = if_before held w (next_in held k)
 
 -- a wish is put under a key that was free
-pub record IsPut (old new : Waiting) (w : Wish) : Type 0 where
+pub record WishIsPut (old new : Waiting) (w : Wish) : Type 0 where
   pub key : ℕ
   pub free : NoneHas key old.held
   pub held : new.held ≡ with_held old.held (record { key = key; wish = w })

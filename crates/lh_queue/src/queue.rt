@@ -2,9 +2,9 @@
 ghost use Rattle.std.specs.Prelude.{◌≡◌, ◌≢◌, ◌≤◌, ◌<◌, ◌+◌, ◌∷◌, ℕ, [], length, IsSome, None, OnOk, OnErr, slice_get, option_copied};
 ghost use Rattle.lh_types.specs.History.{values_by};
 ghost use Rattle.lh_queue.specs.Queued.{QueuedWish, with_held, wish_at, due_later, NoneDueBefore, NoneCompetes, NamesOnce, EachWithin, IsLeastDue, AreInOrder, KeysDiffer};
-ghost use Rattle.lh_queue.specs.Holds.{entries, HoldsFor, AreBitsAt, HoldsOn, HoldsMore, IsSoonestDue};
+ghost use Rattle.lh_queue.specs.Holds.{entries, HoldsFor, AreBitsAt, HoldsOn, HoldsOneWishMore, IsSoonestDue};
 ghost use Rattle.lh_queue.specs.Buckets.{buckets_of, next_in, AreBuckets};
-ghost use Rattle.lh_queue.specs.Places.{IsPlace, GoesAlone, GoesFirst, GoesAfter, IsBehind, IsPut, earlier, first_key, first_wish, starts_at, first_of, comes_before, next_before, is_near};
+ghost use Rattle.lh_queue.specs.Places.{IsPlace, GoesAlone, IsFirstInBucket, GoesAfter, StandsBeforeInBucket, WishIsPut, earlier, first_key, first_wish, starts_at, first_of, comes_before, next_before, is_near};
 
 use crate::hints::{Hints, LONG};
 use crate::line::BucketLine;
@@ -116,7 +116,7 @@ impl Queue {
         requires once { NamesOnce w.bits }
         ensures adds { (key : ℕ) × (wish_at self.old.held key ≡ None) × (self.new.held ≡ with_held self.old.held (record { key = key; wish = w })) }
         ensures spare { self.old.spare ≤ self.new.spare + 1 }
-        ensures holds { HoldsMore self.old.held w self.new.held }
+        ensures holds { HoldsOneWishMore self.old.held w self.new.held }
     {
         match self.place(&w) {
             Insertion::Alone(k) => self.put_alone(k, w),
@@ -345,8 +345,8 @@ impl Queue {
     fn near(&self, first: usize, w: &Wish) -> usize
         requires order { AreInOrder self.now.held }
         requires keys { KeysDiffer self.now.held }
-        requires starts { IsBehind self.now.held w.now first }
-        ensures { IsBehind self.now.held w.now result }
+        requires starts { StandsBeforeInBucket self.now.held w.now first }
+        ensures { StandsBeforeInBucket self.now.held w.now result }
     {
         match self.hints.get(w.due) {
             Some(key) => { if self.is_near(key, w) { key } else { first } }
@@ -359,7 +359,7 @@ impl Queue {
         requires apart { NoneCompetes w.now self.now.held }
         requires order { AreInOrder self.now.held }
         requires keys { KeysDiffer self.now.held }
-        requires starts { IsBehind self.now.held w.now from }
+        requires starts { StandsBeforeInBucket self.now.held w.now from }
         ensures { GoesAfter self.now.held w.now result.to }
     {
         let mut to = from;
@@ -376,7 +376,7 @@ impl Queue {
         requires room { 0 < self.old.spare }
         requires place { GoesAlone self.old.held w k }
         requires once { NamesOnce w.bits }
-        ensures { IsPut self.old self.new w }
+        ensures { WishIsPut self.old self.new w }
     {
         let fs = w.due.fs;
         let first = self.links.insert_reserved(Linked {
@@ -389,9 +389,9 @@ impl Queue {
     /// Puts a wish first into the bucket of this number.
     fn put_first(&mut self, k: usize, w: Wish)
         requires room { 0 < self.old.spare }
-        requires place { GoesFirst self.old.held w k }
+        requires place { IsFirstInBucket self.old.held w k }
         requires once { NamesOnce w.bits }
-        ensures { IsPut self.old self.new w }
+        ensures { WishIsPut self.old self.new w }
     {
         let bucket = self.buckets.get(k);
         let next = Some(bucket.first);
@@ -404,7 +404,7 @@ impl Queue {
         requires room { 0 < self.old.spare }
         requires place { GoesAfter self.old.held w walk.to }
         requires once { NamesOnce w.bits }
-        ensures { IsPut self.old self.new w }
+        ensures { WishIsPut self.old self.new w }
     {
         let due = w.due;
         let near = walk.to;

@@ -86,7 +86,7 @@ MemoryFits u None = Unit {0}
 MemoryFits u (Some values) = length values ≡ trigger_count (lines_of u.blocks)
 
 -- so its memory does, and its triggers are those of the entity, whose arguments have these ranges
-pub record StateFits (u : UnitText) (args : List Range) (s : EntityState) : Type 0 where
+pub record EntityStateFits (u : UnitText) (args : List Range) (s : EntityState) : Type 0 where
   pub memory : MemoryFits u s.memory
   pub triggers : TriggersFit u args s.triggers
 
@@ -94,7 +94,7 @@ pub record StateFits (u : UnitText) (args : List Range) (s : EntityState) : Type
 -- the writes have exactly the entries of its wish. Their instants strictly rise, none is empty and none names a bit twice, and each names only bits of the signals.
 pub record Reacts (u : UnitText) (args : List Range) (width : ℕ) (p : Passed) (act : EntAct) : Type 0 where
   pub next : act.next.memory ≡ Some p.seen
-  pub fits : StateFits u args act.next
+  pub fits : EntityStateFits u args act.next
   pub wish : writes_wish act.wishes ≡ p.wish
   pub grouped : IsGrouped act.wishes
   pub within : Each (λ (d : Instant × List (ℕ × Bool)). BitsWithin width d.1) act.wishes

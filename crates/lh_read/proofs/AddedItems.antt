@@ -23,7 +23,7 @@ use Rattle.lh_read.specs.FaultOf.{fault_of}
 use Rattle.lh_read.specs.Places.{block_unit, label_unit, may_close, behind_inst}
 use Rattle.lh_read.specs.Mentions.{one_label, maybe_value, inst_mentions, line_mentions, EachNamed, EntersOnly}
 use Rattle.lh_read.specs.Placing.{MaybePlaced, LabelPlaced, InstPlacedAs}
-use Rattle.lh_read.specs.InOrder.{state_at, state_of, InPlace, IsInOrder}
+use Rattle.lh_read.specs.InOrder.{state_at, state_of, InPlace, ReaderIsInOrder}
 use Rattle.lh_read.specs.Steps.{step}
 use Rattle.lh_read.specs.Building.{Steps}
 use Rattle.lh_read.proofs.EntryLaws.{enters-both}
@@ -73,7 +73,7 @@ pub record LineRequest (r : Reader) (u : UnitId) (now : Arena) (l said : LineTex
   pub line : l ≡ said
   pub only : EntersOnly (line_mentions l) r.module now u.0
 
-pub line-asked : (r : Reader) (u : UnitId) (mid now : Arena) (v : Option ValueId) (i : Inst) (name : Option (List ℕ)) (said : InstText) → IsInOrder r → block_unit r.place ≡ Some u
+pub line-asked : (r : Reader) (u : UnitId) (mid now : Arena) (v : Option ValueId) (i : Inst) (name : Option (List ℕ)) (said : InstText) → ReaderIsInOrder r → block_unit r.place ≡ Some u
     → MaybePlaced r.module mid u v name → InstPlacedAs mid now u i said → LineRequest r u now (line_text_at now u.0 v i) (record { result = name; inst = said })
 line-asked r u mid now v i name said o e p q =
     let g = Grows-trans r.module mid now p.grows q.grows in
@@ -100,7 +100,7 @@ pub inst-placed : (r : Reader) (u : UnitId) (now new : Arena) (l said : LineText
 inst-placed r u now new l said a s = behind-line now new r.place u l a.placed a.unit s
 
 -- the line names what was entered for it
-pub inst-named : (r : Reader) (u : UnitId) (now new : Arena) (l said : LineText) → IsInOrder r → LineRequest r u now l said → HasContents now new u (change_last (with_line l) (contents now))
+pub inst-named : (r : Reader) (u : UnitId) (now new : Arena) (l said : LineText) → ReaderIsInOrder r → LineRequest r u now l said → HasContents now new u (change_last (with_line l) (contents now))
     → EachNamed new
 inst-named r u now new l said o a s =
     let c = inst-asks now r.place u a.placed a.unit in
@@ -119,7 +119,7 @@ inst-refused o r u now new l said f s a h w =
     steps-err o (fault_of f) (step (state_of r) (inst_item said)) s w
     (subst (λ x. Steps (Err (fault_of f)) x s) (sym (asked r u now l said a)) (line-refused now r.place u l a.placed a.unit f new s h))
 
-pub inst-outside : (r : Reader) (l : LineText) → IsInOrder r → block_unit r.place ≡ None → step (state_of r) (inst_item l) ≡ Err syntax
+pub inst-outside : (r : Reader) (l : LineText) → ReaderIsInOrder r → block_unit r.place ≡ None → step (state_of r) (inst_item l) ≡ Err syntax
 inst-outside r l o e = step-misplaced (state_of r) (inst_item l) (ap (λ q. may_stand q (inst_item l)) (place-is r.module r.place o.place) ∙ inst-misplaced r.place l e)
 
 -- a label in this place, of the unit u
@@ -145,28 +145,28 @@ label-same : (r : Reader) (u : UnitId) (now : Arena) (b : BlockId) (n : List ℕ
     → step (state_of r) (label_item n) ≡ step (state_at now r.place) (label_item (label_name_at now u.0 b.0))
 label-same r u now b n q = ap (λ s. step s (label_item n)) (state-grows r.module now r.place q.grows) ∙ ap (λ x. step (state_at now r.place) (label_item x)) (sym q.says)
 
-pub label-taken : (r : Reader) (u : UnitId) (now new : Arena) (b : BlockId) (n : List ℕ) → IsInOrder r → label_unit r.place ≡ Some u → LabelPlaced r.module now u b n
+pub label-taken : (r : Reader) (u : UnitId) (now new : Arena) (b : BlockId) (n : List ℕ) → ReaderIsInOrder r → label_unit r.place ≡ Some u → LabelPlaced r.module now u b n
     → AddsBlock (Ok tt) now new u (label_name_at now u.0 b.0)
     → step (state_of r) (label_item n) ≡ Ok (state_at new (InEmptyBlock u))
 label-taken r u now new b n o e q h = label-same r u now b n q ∙ block-taken now r.place u (label_name_at now u.0 b.0) (place-grows r.module now r.place q.grows o.place) e new h.0 h.1
 
-pub label-placed : (r : Reader) (u : UnitId) (now new : Arena) (b : BlockId) (n : List ℕ) → IsInOrder r → label_unit r.place ≡ Some u → LabelPlaced r.module now u b n
+pub label-placed : (r : Reader) (u : UnitId) (now new : Arena) (b : BlockId) (n : List ℕ) → ReaderIsInOrder r → label_unit r.place ≡ Some u → LabelPlaced r.module now u b n
     → AddsBlock (Ok tt) now new u (label_name_at now u.0 b.0)
     → InPlace new (InEmptyBlock u)
 label-placed r u now new b n o e q h = behind-block now new r.place u (label_name_at now u.0 b.0) (place-grows r.module now r.place q.grows o.place) e h.1
 
-pub label-refused : (x : Result (Unit {0}) LineFault) (r : Reader) (u : UnitId) (now new : Arena) (b : BlockId) (n : List ℕ) (f : UnitFault) (s : ReadState) → IsInOrder r → label_unit r.place ≡ Some u
+pub label-refused : (x : Result (Unit {0}) LineFault) (r : Reader) (u : UnitId) (now new : Arena) (b : BlockId) (n : List ℕ) (f : UnitFault) (s : ReadState) → ReaderIsInOrder r → label_unit r.place ≡ Some u
     → LabelPlaced r.module now u b n
     → AddsBlock (Err f) now new u (label_name_at now u.0 b.0) → IsErrAnd x (λ y. y ≡ fault_of f) → Steps x (step (state_of r) (label_item n)) s
 label-refused x r u now new b n f s o e q h w =
     steps-err x (fault_of f) (step (state_of r) (label_item n)) s w
     (subst (λ y. Steps (Err (fault_of f)) y s) (sym (label-same r u now b n q)) (block-refused now r.place u (label_name_at now u.0 b.0) (place-grows r.module now r.place q.grows o.place) e f new s h))
 
-pub label-outside : (r : Reader) (n : List ℕ) → IsInOrder r → label_unit r.place ≡ None → step (state_of r) (label_item n) ≡ Err syntax
+pub label-outside : (r : Reader) (n : List ℕ) → ReaderIsInOrder r → label_unit r.place ≡ None → step (state_of r) (label_item n) ≡ Err syntax
 label-outside r n o e = step-misplaced (state_of r) (label_item n) (ap (λ q. may_stand q (label_item n)) (place-is r.module r.place o.place) ∙ label-misplaced r.place n e)
 
 -- the label names what was entered for it
-pub label-named : (r : Reader) (u : UnitId) (now new : Arena) (b : BlockId) (n : List ℕ) → IsInOrder r → label_unit r.place ≡ Some u → LabelPlaced r.module now u b n
+pub label-named : (r : Reader) (u : UnitId) (now new : Arena) (b : BlockId) (n : List ℕ) → ReaderIsInOrder r → label_unit r.place ≡ Some u → LabelPlaced r.module now u b n
     → AddsBlock (Ok tt) now new u (label_name_at now u.0 b.0)
     → EachNamed new
 label-named r u now new b n o e q h =
@@ -176,8 +176,8 @@ label-named r u now new b n o e q h =
     (label-asks now r.place u w e).opened h.1 (λ m c. with_block-names (label_name_at now u.0 b.0) (unit_text_at now u.0) m c)
 
 -- the end of a unit
-pub close-misplaced : (r : Reader) → IsInOrder r → may_close r.place ≡ false → step (state_of r) close_item ≡ Err syntax
+pub close-misplaced : (r : Reader) → ReaderIsInOrder r → may_close r.place ≡ false → step (state_of r) close_item ≡ Err syntax
 close-misplaced r o e = step-misplaced (state_of r) close_item (ap (λ q. may_stand q close_item) (place-is r.module r.place o.place) ∙ close-stands r.place ∙ e)
 
-pub close-taken : (r : Reader) → IsInOrder r → may_close r.place ≡ true → step (state_of r) close_item ≡ Ok (state_at r.module Outside)
+pub close-taken : (r : Reader) → ReaderIsInOrder r → may_close r.place ≡ true → step (state_of r) close_item ≡ Ok (state_at r.module Outside)
 close-taken r o e = step-ok (state_of r) close_item (ap (λ q. may_stand q close_item) (place-is r.module r.place o.place) ∙ close-stands r.place ∙ e) refl refl

@@ -18,10 +18,10 @@ use Rattle.lh_read.specs.declared.TextFault.{TextFault}
 use Rattle.lh_read.specs.declared.TextFault.TheVariants.{Syntax, UnitTooLarge, DuplicateName, OutOfMemory}
 use Rattle.lh_read.specs.Places.{is_inside}
 use Rattle.lh_read.specs.FaultOf.{spelling_fault}
-use Rattle.lh_read.specs.InOrder.{IsInOrder, state_of}
+use Rattle.lh_read.specs.InOrder.{ReaderIsInOrder, state_of}
 use Rattle.lh_read.specs.Steps.{step}
 use Rattle.lh_read.specs.Building.{Steps, TakesOrIsBad}
-use Rattle.lh_read.specs.Reading.{ModuleOrNoMemory, Names, ModuleOrFault, text_fault}
+use Rattle.lh_read.specs.Reading.{ModuleOrNoMemory, NamesFirstFault, ModuleOrFault, text_fault}
 use Rattle.lh_read.proofs.Texts.{closed, taken-line, bad-line, unspelled-line, reads-once, reads-bad}
 
 -- what is answered of a line that says an item
@@ -44,11 +44,11 @@ line-unspelled scan.OutOfMemory s t l ts e h = tt
 pub record At (text rest : List ℕ) (number : ℕ) (r : Reader) : Type 0 where
   pub reads : (items : List ItemText) → Walk (lines_of rest) (state_of r) (closed items) → Reads text items
   pub bad : (k : ℕ) (why : BadKind) → FirstBadFrom (lines_of rest) number (state_of r) k why → FirstBad text k why
-  pub order : IsInOrder r
+  pub order : ReaderIsInOrder r
   pub counted : 1 ≤ number
   pub short : number + length rest ≤ length text + 1
 
-pub At-start : (text : List ℕ) (r : Reader) → state_of r ≡ start → IsInOrder r → At text text 1 r
+pub At-start : (text : List ℕ) (r : Reader) → state_of r ≡ start → ReaderIsInOrder r → At text text 1 r
 At-start text r s o = record {
   reads = λ items w. subst (λ x. Walk (lines_of text) x (closed items)) s w;
   bad = λ k why b. subst (λ x. FirstBadFrom (lines_of text) 1 x k why) s b;
@@ -58,7 +58,7 @@ At-start text r s o = record {
 }
 
 pub At-next : (text rest first more : List ℕ) (number : ℕ) (r q : Reader) → At text rest number r → lines_of rest ≡ first ∷ lines_of more → length more < length rest
-    → Takes (state_of r) first (state_of q) → IsInOrder q → At text more (number + 1) q
+    → Takes (state_of r) first (state_of q) → ReaderIsInOrder q → At text more (number + 1) q
 At-next text rest first more number r q a l s t o = record {
   reads = λ items w. a.reads items (subst (λ ls. Walk ls (state_of r) (closed items)) (sym l) (state_of q, t, w));
   bad = λ k why b. a.bad k why (subst (λ ls. FirstBadFrom ls number (state_of r) k why) (sym l) (inr (state_of q, t, b)));
@@ -101,6 +101,6 @@ told-only (Err (UnitTooLarge n)) text a items w = reads-bad text items n unit_to
 told-only (Err (DuplicateName n)) text a items w = reads-bad text items n duplicate_name w a
 told-only (Err OutOfMemory) text a items w = tt
 
-pub told-fault : (r : Result Arena TextFault) (text : List ℕ) → ModuleOrFault r text → IfErr r (λ e. Names e text)
+pub told-fault : (r : Result Arena TextFault) (text : List ℕ) → ModuleOrFault r text → IfErr r (λ e. NamesFirstFault e text)
 told-fault (Ok m) text a = tt
 told-fault (Err e) text a = a

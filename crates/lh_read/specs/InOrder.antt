@@ -49,6 +49,6 @@ InPlace a (InEmptyBlock u) = InUnit a u in_empty_block
 InPlace a (InBlock u) = InUnit a u in_block
 
 -- the reader is in order: its place is that of its module, in which each entry is named by some line
-pub record IsInOrder (r : Reader) : Type 0 where
+pub record ReaderIsInOrder (r : Reader) : Type 0 where
   pub place : InPlace r.module r.place
   pub named : EachNamed r.module

@@ -15,16 +15,16 @@ ModuleOrNoMemory (Err OutOfMemory) items = Unit {0}
 ModuleOrNoMemory (Err _) items = ⊥
 
 -- the fault names the first faulty line of the text; running out of memory names none
-abbrev pub Names : TextFault → List ℕ → Type 0
-Names (Syntax n) text = FirstBad text n syntax
-Names (UnitTooLarge n) text = FirstBad text n unit_too_large
-Names (DuplicateName n) text = FirstBad text n duplicate_name
-Names OutOfMemory text = Unit {0}
+abbrev pub NamesFirstFault : TextFault → List ℕ → Type 0
+NamesFirstFault (Syntax n) text = FirstBad text n syntax
+NamesFirstFault (UnitTooLarge n) text = FirstBad text n unit_too_large
+NamesFirstFault (DuplicateName n) text = FirstBad text n duplicate_name
+NamesFirstFault OutOfMemory text = Unit {0}
 
 -- the text reads as the module says, or its first faulty line is named; of running out of memory nothing is said
 abbrev pub ModuleOrFault : Result Arena TextFault → List ℕ → Type 0
 ModuleOrFault (Ok m) text = Reads text (contents m)
-ModuleOrFault (Err e) text = Names e text
+ModuleOrFault (Err e) text = NamesFirstFault e text
 
 -- the text reads as exactly these items, and has no faulty line
 pub record ReadsOnlyAs (text : List ℕ) (items : List ItemText) : Type 0 where

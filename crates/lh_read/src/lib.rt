@@ -8,7 +8,7 @@ ghost use Rattle.lh_unit.specs.Contents.{ItemText};
 ghost use Rattle.lh_unit.specs.Arena.{contents};
 ghost use Rattle.lh_unit.specs.Reads.{Reads};
 ghost use Rattle.lh_read.specs.Mentions.{EachNamed};
-ghost use Rattle.lh_read.specs.Reading.{ModuleOrNoMemory, Names, ModuleOrFault, ReadsOrIsBad, text_fault};
+ghost use Rattle.lh_read.specs.Reading.{ModuleOrNoMemory, NamesFirstFault, ModuleOrFault, ReadsOrIsBad, text_fault};
 
 mod faults;
 mod ids;
@@ -67,7 +67,7 @@ pub fn read(alloc: Global, text: &[u8]) -> Result<Module, TextFault>
     // What reads is read, unless memory runs out.
     ensures only { (items : List ItemText) → Reads text.now items → ModuleOrNoMemory result items }
     // A fault names the first faulty line.
-    ensures fault { IfErr result (λ e. Names e text.now) }
+    ensures fault { IfErr result (λ e. NamesFirstFault e text.now) }
     // The module has no entry but those that some line names.
     ensures named { IfOk result EachNamed }
 {

@@ -2,7 +2,7 @@
 ghost use Rattle.std.specs.Prelude.{◌≡◌, ◌≤◌, ◌<◌, ◌∷◌, length, OnOk};
 ghost use Rattle.lh_unit.specs.Lines.{lines_of};
 ghost use Rattle.lh_read.specs.Building.{TakesOrIsBad};
-ghost use Rattle.lh_read.specs.InOrder.{IsInOrder, state_of};
+ghost use Rattle.lh_read.specs.InOrder.{ReaderIsInOrder, state_of};
 
 use crate::faults::LineFault;
 use crate::reader::Reader;
@@ -27,9 +27,9 @@ pub fn next_line(text: &[u8]) -> (&[u8], &[u8])
 /// Reads one line.
 pub fn read_line(alloc: Global, reader: &mut Reader, text: &[u8]) -> Result<(), LineFault>
     requires short { length text.now ≤ 67108864 }
-    requires order { IsInOrder reader.old }
+    requires order { ReaderIsInOrder reader.old }
     ensures step { TakesOrIsBad result (state_of reader.old) text.now (state_of reader.new) }
-    ensures order { OnOk result (IsInOrder reader.new) }
+    ensures order { OnOk result (ReaderIsInOrder reader.new) }
 {
     let tokens = Tokens::of(text);
     let said = item(alloc, &tokens)?;

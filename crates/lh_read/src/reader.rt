@@ -6,7 +6,7 @@ ghost use Rattle.lh_read_pieces.specs.LexemeOf.{unit_name_of};
 ghost use Rattle.lh_read_phrases.specs.SyntaxOf.{ports_of, inst_of, item_of};
 ghost use Rattle.lh_read.specs.Steps.{step};
 ghost use Rattle.lh_read.specs.Building.{Steps};
-ghost use Rattle.lh_read.specs.InOrder.{state_of, IsInOrder};
+ghost use Rattle.lh_read.specs.InOrder.{state_of, ReaderIsInOrder};
 
 use crate::faults::LineFault;
 use crate::ids::{label_id, result_id};
@@ -83,7 +83,7 @@ impl Reader {
     /// A reader of a file, before its first line.
     pub fn new(alloc: Global) -> Reader
         ensures start { state_of result ≡ start }
-        ensures order { IsInOrder result }
+        ensures order { ReaderIsInOrder result }
     {
         Reader {
             module: Module::new(alloc),
@@ -94,9 +94,9 @@ impl Reader {
 
     /// Takes what the next line says. After a fault the reader is of no more use.
     pub fn take(&mut self, alloc: Global, line: LineSyntax) -> Result<(), LineFault>
-        requires { IsInOrder self.old }
+        requires { ReaderIsInOrder self.old }
         ensures step { Steps result (step (state_of self.old) (item_of line.entry)) (state_of self.new) }
-        ensures order { OnOk result (IsInOrder self.new) }
+        ensures order { OnOk result (ReaderIsInOrder self.new) }
     {
         match line {
             LineSyntax::Inst { result, inst } => self.take_inst(alloc, &result, inst),
@@ -107,9 +107,9 @@ impl Reader {
     /// Takes a line of any kind. It stands apart, since most lines are instructions, and all kinds together take a large frame.
     #[inline(never)]
     fn take_any(&mut self, alloc: Global, line: LineSyntax) -> Result<(), LineFault>
-        requires { IsInOrder self.old }
+        requires { ReaderIsInOrder self.old }
         ensures step { Steps result (step (state_of self.old) (item_of line.entry)) (state_of self.new) }
-        ensures order { OnOk result (IsInOrder self.new) }
+        ensures order { OnOk result (ReaderIsInOrder self.new) }
     {
         match line {
             LineSyntax::Empty => Ok(()),
@@ -147,9 +147,9 @@ impl Reader {
         params: &[Param],
         result_type: Ty,
     ) -> Result<(), LineFault>
-        requires { IsInOrder self.old }
+        requires { ReaderIsInOrder self.old }
         ensures step { Steps result (step (state_of self.old) (header_item UnitKind.Func (unit_name_of name.now) (map input_of params.now) (Some result_type))) (state_of self.new) }
-        ensures order { OnOk result (IsInOrder self.new) }
+        ensures order { OnOk result (ReaderIsInOrder self.new) }
     {
         if self.place.is_inside() {
             return Err(LineFault::Syntax);
@@ -176,9 +176,9 @@ impl Reader {
         name: &UnitNameText,
         ports: &Ports,
     ) -> Result<(), LineFault>
-        requires { IsInOrder self.old }
+        requires { ReaderIsInOrder self.old }
         ensures step { Steps result (step (state_of self.old) (header_item kind (unit_name_of name.now) (ports_of ports.now) None)) (state_of self.new) }
-        ensures order { OnOk result (IsInOrder self.new) }
+        ensures order { OnOk result (ReaderIsInOrder self.new) }
     {
         if self.place.is_inside() {
             return Err(LineFault::Syntax);
@@ -192,9 +192,9 @@ impl Reader {
     }
 
     fn take_declare(&mut self, declare: Declare) -> Result<(), LineFault>
-        requires { IsInOrder self.old }
+        requires { ReaderIsInOrder self.old }
         ensures step { Steps result (step (state_of self.old) (declare_item declare)) (state_of self.new) }
-        ensures order { OnOk result (IsInOrder self.new) }
+        ensures order { OnOk result (ReaderIsInOrder self.new) }
     {
         if self.place.is_inside() {
             return Err(LineFault::Syntax);
@@ -204,9 +204,9 @@ impl Reader {
     }
 
     fn take_label(&mut self, alloc: Global, name: &NameText) -> Result<(), LineFault>
-        requires { IsInOrder self.old }
+        requires { ReaderIsInOrder self.old }
         ensures step { Steps result (step (state_of self.old) (label_item name.now)) (state_of self.new) }
-        ensures order { OnOk result (IsInOrder self.new) }
+        ensures order { OnOk result (ReaderIsInOrder self.new) }
     {
         let Some(unit) = self.place.label_unit() else {
             return Err(LineFault::Syntax);
@@ -223,9 +223,9 @@ impl Reader {
         name: &Option<NameText>,
         inst: InstSyntax,
     ) -> Result<(), LineFault>
-        requires { IsInOrder self.old }
+        requires { ReaderIsInOrder self.old }
         ensures step { Steps result (step (state_of self.old) (inst_item (record { result = name.now; inst = inst_of inst.entry }))) (state_of self.new) }
-        ensures order { OnOk result (IsInOrder self.new) }
+        ensures order { OnOk result (ReaderIsInOrder self.new) }
     {
         let Some(unit) = self.place.block_unit() else {
             drop(inst);
@@ -242,9 +242,9 @@ impl Reader {
     }
 
     fn take_close(&mut self) -> Result<(), LineFault>
-        requires { IsInOrder self.old }
+        requires { ReaderIsInOrder self.old }
         ensures step { Steps result (step (state_of self.old) close_item) (state_of self.new) }
-        ensures order { OnOk result (IsInOrder self.new) }
+        ensures order { OnOk result (ReaderIsInOrder self.new) }
     {
         if !self.place.may_close() {
             return Err(LineFault::Syntax);

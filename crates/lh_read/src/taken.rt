@@ -7,7 +7,7 @@ use std::marker::Model;
 /// After so many items the room of those that were taken is given back.
 const ITEMS_AT_ONCE: usize = 65_536;
 
-/// The items of a list, from the front. A long line and what is made of it never stand beside each other in full.
+/// The items of a list, from the front. A long line and what is made of it are never both held in full.
 #[derive(Drop)]
 pub(crate) struct Taken<T> {
     // The next item is the last of these.

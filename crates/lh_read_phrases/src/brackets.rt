@@ -57,7 +57,7 @@ fn are_array(alloc: Global, len: u32, operand: &Operand) -> Result<bool, NoMemor
     }
 }
 
-/// The array of so many of an operand, where there is its type.
+/// The array of this many of an operand, where there is its type.
 fn repeated<'a>(alloc: Global, len: u32, operand: Operand<'a>) -> Result<InstSyntax<'a>, ScanFault>
     ensures { FindsAs inst_of result (repeated_of len operand.entry) }
 {

@@ -136,7 +136,7 @@ pub const MODES: [(&[u8], Mode); 5] = [
     (b"low", Mode::Low),
 ];
 
-/// Whether two texts may be one. Most words of a table are told from another by their lengths or first bytes, here without a call.
+/// Whether two texts may be one. Most words of a table differ from another in their lengths or first bytes, here without a call.
 #[tactic(auto, using(crate::proofs::Apart::apart))]
 fn may_be(a: &[u8], b: &[u8]) -> bool
     ensures { result ≡ false → pointwise nat_eq a.now b.now ≡ false }

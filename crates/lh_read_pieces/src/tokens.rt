@@ -209,7 +209,7 @@ impl<'a> Tokens<'a> {
         Some((Lex::Bad, Tokens { rest }))
     }
 
-    /// Whether the first byte is that of this text. Most words are told from another by it.
+    /// Whether the first byte is that of this text. It tells most words apart.
     fn may_begin(&self, text: &[u8]) -> bool
         ensures { result ≡ false → None ≡ word_at text.now self.now }
     {
@@ -220,7 +220,7 @@ impl<'a> Tokens<'a> {
     }
 
     /// What follows this word.
-    // Inline, so that most words are told from another without a call.
+    // Inline, so that most words are told apart without a call.
     #[inline(always)]
     pub fn word(&self, word: &[u8]) -> Option<Tokens<'a>>
         ensures { result ≡ word_at word.now self.now }

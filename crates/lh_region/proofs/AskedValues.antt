@@ -17,7 +17,7 @@ use Rattle.lh_region_joins.proofs.Selectors.{terms-grown, terms-push}
 use Rattle.lh_region_places.specs.declared.state.PlaceState.{PlaceState}
 use Rattle.lh_region.specs.declared.taking.PlaceValue.{PlaceValue}
 use Rattle.lh_region_places.specs.Asked.{KnownTerms, Tells, CanAsk, SamePlaces, StillTold, IsTold}
-use Rattle.lh_region.specs.Taken.{told_of, AllThere, CanAskAll, StillToldAll, AreTold, asks_at, IsOperation, IsOperated}
+use Rattle.lh_region.specs.Taken.{told_of, AllValuesTold, CanAskAll, StillToldAll, ValuesAreTold, asks_at, IsOperation, IsOperated}
 use Rattle.lh_region_places.proofs.PlaceLists.{same-length}
 use Rattle.lh_region_places.proofs.ToldValues.{made-trees, tells-grown}
 
@@ -49,7 +49,7 @@ split-last f (s ∷ seen) a (y ∷ ys) e =
     let t : map f (seen ++ a ∷ []) ≡ map Some ys = cc in
     split-more f s seen a y ys h (split-last f seen a ys t)
 
-pub there-from : (told : KnownTerms) (asks : List PlaceValue) (ys : List Tree) → map (told_of told) asks ≡ map Some ys → AllThere told asks
+pub there-from : (told : KnownTerms) (asks : List PlaceValue) (ys : List Tree) → map (told_of told) asks ≡ map Some ys → AllValuesTold told asks
 there-from told [] ys e = tt
 there-from told (a ∷ asks) [] e = absurd cc
 there-from told (a ∷ asks) (y ∷ ys) e =
@@ -63,7 +63,7 @@ pub record AskSoFar (old : List TermNode) (ps : List PlaceState) (now : List Ter
   pub grows : Grows old now
   pub same : SamePlaces ps qs
   pub still : StillToldAll old ps now qs asks
-  pub made : (told : KnownTerms) (ys : List Tree) → Tells old ps told → AllThere told asks → map (told_of told) seen ≡ map Some ys → AreTerms now ts ys
+  pub made : (told : KnownTerms) (ys : List Tree) → Tells old ps told → AllValuesTold told asks → map (told_of told) seen ≡ map Some ys → AreTerms now ts ys
 
 none-made : (ns : List TermNode) (ys : List Tree) → [] ≡ map Some ys → AreTerms ns [] ys
 none-made ns [] e = tt
@@ -91,10 +91,10 @@ module _ (old now : List TermNode) (ps qs : List PlaceState) (asks seen : List P
     made = λ told ys u h m. made told ys u h (split-last (told_of told) seen a ys (ap (map (told_of told)) (sym e) ∙ m));
   }
     where
-      there : (told : KnownTerms) → AllThere told asks → is_some (told a.place a.value) ≡ true
+      there : (told : KnownTerms) → AllValuesTold told asks → is_some (told a.place a.value) ≡ true
       there told h = each-item (λ (x : PlaceValue). is_some (told_of told x) ≡ true) asks i d h l
 
-      made : (told : KnownTerms) (ys : List Tree) → Tells old ps told → AllThere told asks → Split (told_of told) seen a ys → AreTerms new us ys
+      made : (told : KnownTerms) (ys : List Tree) → Tells old ps told → AllValuesTold told asks → Split (told_of told) seen a ys → AreTerms new us ys
       made told ys u h r =
           let (x, k, st) = term told (s.still told u h) (there told h) in
           let b : Some x ≡ Some r.last = sym k ∙ r.one in
@@ -103,7 +103,7 @@ module _ (old now : List TermNode) (ps qs : List PlaceState) (asks seen : List P
           (subst (λ (vs : List TermId). AreTerms new vs (r.before ++ r.last ∷ [])) (sym f)
           (terms-push new ts r.before t r.last (terms-grown now new ts r.before g (s.made told r.before u h r.each)) (subst (StandsForTree new t) z st)))
 
-pub ask-end : (old now : List TermNode) (ps qs : List PlaceState) (asks seen : List PlaceValue) (ts : List TermId) → seen ≡ asks → AskSoFar old ps now qs asks seen ts → AreTold old ps now asks ts
+pub ask-end : (old now : List TermNode) (ps qs : List PlaceState) (asks seen : List PlaceValue) (ts : List TermId) → seen ≡ asks → AskSoFar old ps now qs asks seen ts → ValuesAreTold old ps now asks ts
 ask-end old now ps qs asks seen ts e s told ys t m = s.made told ys t (there-from told asks ys m) (ap (map (told_of told)) e ∙ m)
 
 -- ---- an operation
@@ -121,7 +121,7 @@ made-below ns [] (x ∷ xs) m = absurd m
 made-below ns (t ∷ ts) [] m = absurd m
 made-below ns (t ∷ ts) (x ∷ xs) m = rw (lt-ltb t.0 (length ns) m.0.is_in) (made-below ns ts xs m.1)
 
-module _ (ns ms : List TermNode) (ps : List PlaceState) (i : ℕ) (o : Op) (xs : List Typed) (ts : List TermId) (c : IsOperation ns ps i o xs) (m : AreTold ns ps ms (asks_at i xs) ts) where
+module _ (ns ms : List TermNode) (ps : List PlaceState) (i : ℕ) (o : Op) (xs : List Typed) (ts : List TermId) (c : IsOperation ns ps i o xs) (m : ValuesAreTold ns ps ms (asks_at i xs) ts) where
   operands-made : AreTerms ms ts c.operands
   operands-made = m c.told c.operands c.tells c.each
 

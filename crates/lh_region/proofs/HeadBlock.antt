@@ -18,7 +18,7 @@ use Rattle.lh_flat.specs.declared.flat.FlatInst.{FlatInst}
 use Rattle.lh_flat.specs.declared.flat.FlatBlock.{FlatBlock}
 use Rattle.lh_region_def.specs.Places.{block_number}
 use Rattle.lh_region_def.specs.Regions as rows
-use Rattle.lh_region.specs.Heads.{leads_then, leads_on, leads_to, names, is_named, entry_id, head_if, head_in, LeadsWithin, IsNoBranch, BranchIsLast, LabelsDiffer, HeadsAgree}
+use Rattle.lh_region.specs.Heads.{leads_then, leads_on, leads_to, names, is_named, entry_id, head_if, head_in, LabelsAreWithin, IsNoBranch, BranchIsLast, LabelsDiffer, HeadsAgree}
 
 -- names of labels are one where their numbers are
 pub label-same : (f : Naming) (n j k : ℕ) → LabelsDiffer f n → j < n → k < n → same_name (f.label_name j) (f.label_name k) ≡ nat_eq k j
@@ -58,7 +58,7 @@ leads-text f (l ∷ m ∷ more) h = by-next f l.inst (rows.leads_on (map (flat_l
 
 -- ---- what leads to the entry
 
-inst-leads : (f : Naming) (n : ℕ) (i : Inst) → LabelsDiffer f n → 0 < n → LeadsWithin n i → list_any (same_name (f.label_name 0)) (places.leads_to (inst_text f i)) ≡ leads_to entry_id i
+inst-leads : (f : Naming) (n : ℕ) (i : Inst) → LabelsDiffer f n → 0 < n → LabelsAreWithin n i → list_any (same_name (f.label_name 0)) (places.leads_to (inst_text f i)) ≡ leads_to entry_id i
 inst-leads f n (inst.Br to) d z h = or-false (same_name (f.label_name 0) (f.label_name to.0)) ∙ label-same f n 0 to.0 d z h
 inst-leads f n (inst.Branch cond first second) d z h =
     ap (λ (b : Bool). same_name (f.label_name 0) (f.label_name first.0) || b) (or-false (same_name (f.label_name 0) (f.label_name second.0)))
@@ -68,12 +68,12 @@ inst-leads f n (inst.Ret None) d z h = refl
 inst-leads f n (inst.Ret (Some t)) d z h = refl
 inst-leads f n _ d z h = refl
 
-lines-lead : (f : Naming) (n : ℕ) (ls : List FlatInst) → LabelsDiffer f n → 0 < n → Each (λ (l : FlatInst). LeadsWithin n l.inst) ls
+lines-lead : (f : Naming) (n : ℕ) (ls : List FlatInst) → LabelsDiffer f n → 0 < n → Each (λ (l : FlatInst). LabelsAreWithin n l.inst) ls
     → list_any (λ (l : LineText). list_any (same_name (f.label_name 0)) (places.leads_to l.inst)) (map (flat_line_text f) ls) ≡ names entry_id ls
 lines-lead f n [] d z h = refl
 lines-lead f n (l ∷ more) d z h = let a = inst-leads f n l.inst d z h.0 in let b = lines-lead f n more d z h.1 in λ i. a i || b i
 
-blocks-lead : (f : Naming) (n k : ℕ) (bs : List FlatBlock) → LabelsDiffer f n → 0 < n → Each (λ (b : FlatBlock). Each (λ (l : FlatInst). LeadsWithin n l.inst) b.insts) bs
+blocks-lead : (f : Naming) (n k : ℕ) (bs : List FlatBlock) → LabelsDiffer f n → 0 < n → Each (λ (b : FlatBlock). Each (λ (l : FlatInst). LabelsAreWithin n l.inst) b.insts) bs
     → rows.is_led_to (f.label_name 0) (flat_blocks_text f k bs) ≡ is_named entry_id bs
 blocks-lead f n k [] d z h = refl
 blocks-lead f n k (b ∷ more) d z h = let a = lines-lead f n b.insts d z h.0 in let c = blocks-lead f n (k + 1) more d z h.1 in λ i. a i || c i
@@ -101,11 +101,11 @@ number-of f n j (suc i) (b ∷ more) d e l =
     one-more = omega arith
 
 -- where instructions lead is a block
-pub leads-within : (n : ℕ) (ls : List FlatInst) (b : BlockId) → Each (λ (l : FlatInst). LeadsWithin n l.inst) ls → leads_on ls ≡ Some b → b.0 < n
+pub leads-within : (n : ℕ) (ls : List FlatInst) (b : BlockId) → Each (λ (l : FlatInst). LabelsAreWithin n l.inst) ls → leads_on ls ≡ Some b → b.0 < n
 leads-within n [] b h e = cc
 leads-within n (l ∷ more) b h e = by l.inst h.0 e (λ x. leads-within n more b h.1 x)
   where
-    by : (i : Inst) → LeadsWithin n i → leads_then i (leads_on more) ≡ Some b → (leads_on more ≡ Some b → b.0 < n) → b.0 < n
+    by : (i : Inst) → LabelsAreWithin n i → leads_then i (leads_on more) ≡ Some b → (leads_on more ≡ Some b → b.0 < n) → b.0 < n
     by (inst.Const v) w x g = g x
     by (inst.Br to) w x g = let k : to ≡ b = cc in subst (λ (y : BlockId). y.0 < n) k w
     by _ w x g = cc
@@ -114,7 +114,7 @@ pub heads-agree : HeadsAgree
 heads-agree f t d h = by t.blocks refl
   where
     of : (n : ℕ) (entry : FlatBlock) (more : List FlatBlock) → n ≡ length (entry ∷ more) → LabelsDiffer f n
-        → Each (λ (b : FlatBlock). Each (λ (l : FlatInst). LeadsWithin n l.inst) b.insts) (entry ∷ more) → BranchIsLast entry.insts
+        → Each (λ (b : FlatBlock). Each (λ (l : FlatInst). LabelsAreWithin n l.inst) b.insts) (entry ∷ more) → BranchIsLast entry.insts
         → rows.head_of (flat_blocks_text f 0 (entry ∷ more)) ≡ head_in (entry ∷ more)
     of n entry more e d w last =
         ap (λ (x : Bool). unwrap_or (if x then None else option_and_then (λ (m : List ℕ). block_number m (flat_blocks_text f 0 (entry ∷ more))) (rows.leads_on (map (flat_line_text f) entry.insts))) 0)
@@ -142,6 +142,6 @@ heads-agree f t d h = by t.blocks refl
     by [] e = ap (λ (x : List FlatBlock). rows.head_of (flat_blocks_text f 0 x)) e ∙ ap head_in (sym e)
     by (entry ∷ more) e =
         ap (λ (x : List FlatBlock). rows.head_of (flat_blocks_text f 0 x)) e
-        ∙ of (length t.blocks) entry more (ap length e) d (subst (Each (λ (b : FlatBlock). Each (λ (l : FlatInst). LeadsWithin (length t.blocks) l.inst) b.insts)) e h.within) (subst
+        ∙ of (length t.blocks) entry more (ap length e) d (subst (Each (λ (b : FlatBlock). Each (λ (l : FlatInst). LabelsAreWithin (length t.blocks) l.inst) b.insts)) e h.within) (subst
         (Each (λ (b : FlatBlock). BranchIsLast b.insts)) e h.last).0
         ∙ ap head_in (sym e)

@@ -12,7 +12,7 @@ use Rattle.lh_region_joins.specs.Joins.{chosen_by}
 use Rattle.lh_region_places.specs.declared.state.PlaceState.{PlaceState}
 use Rattle.lh_region.specs.declared.taking.PlaceValue.{PlaceValue}
 use Rattle.lh_region_places.specs.Asked.{source_of, edges_at, IsBelow, IsJoin, CanJoin, IsJoined, SamePlaces, IsSelectedAt, joined_by}
-use Rattle.lh_region.specs.Taken.{told_of, CanAskAll, StillToldAll, AreTold, phi_ask, phi_asks, IsMerge, IsMerged}
+use Rattle.lh_region.specs.Taken.{told_of, CanAskAll, StillToldAll, ValuesAreTold, phi_ask, phi_asks, IsMerge, IsMerged}
 use Rattle.lh_region_places.proofs.PlaceLists.{edges-of, same-edges}
 use Rattle.lh_region_places.proofs.ToldValues.{made-trees, made-length, can-join, selectors-grown, conds-at, tells-grown, tells-selected}
 use Rattle.lh_region.proofs.AskedValues.{there-from}
@@ -30,7 +30,7 @@ phi-asked ns ps i operands l c = record {
 }
 
 module _ (ns ms : List TermNode) (ps qs : List PlaceState) (i : ℕ) (operands : List PhiEdge) (ts : List TermId) (same : SamePlaces ps qs) (g : Grows ns ms)
-    (still : StillToldAll ns ps ms qs (phi_asks operands (edges_at ps i))) (m : AreTold ns ps ms (phi_asks operands (edges_at ps i)) ts) where
+    (still : StillToldAll ns ps ms qs (phi_asks operands (edges_at ps i))) (m : ValuesAreTold ns ps ms (phi_asks operands (edges_at ps i)) ts) where
   pub phi-joins : IsMerge ns ps i operands → (p : PlaceState) → slice_get qs i ≡ Some p → IsJoin ms p × CanJoin ms p ts
   phi-joins c p e =
       let asks = phi_asks operands (edges_at ps i) in

@@ -20,7 +20,7 @@ use Rattle.lh_region.specs.declared.rows.EndRow.{EndRow}
 use Rattle.lh_region.specs.declared.rows.Way.{Way}
 use Rattle.lh_region.specs.declared.effects.DriveAt.{DriveAt}
 use Rattle.lh_region_places.specs.Asked.{CanAsk, StillTold, IsTold}
-use Rattle.lh_region.specs.Taken.{asks_at, AreTold}
+use Rattle.lh_region.specs.Taken.{asks_at, ValuesAreTold}
 use Rattle.lh_region.specs.Stands.{IsDrive, AreDrives, IsEnd, AreEnds, AreRows, way_text}
 use Rattle.lh_region.specs.Effects.{CanDrive, StillDriven, IsProbed, IsDriven, AreAsserted, IsEnded, IsWithAsserts}
 
@@ -143,7 +143,7 @@ asserts-next r p q ts after t e eb ed en ea h = record {
   more = ea ∙ ap (λ (us : List TermId). us ++ t ∷ []) h.more ∙ append-append r.asserts ts t ∙ ap (λ (us : List TermId). r.asserts ++ us) (sym e);
 }
 
-pub asserted-more : (ns ms : List TermNode) (ps : List PlaceState) (r q : Rows) (i : ℕ) (xs : List Typed) (ts : List TermId) → Grows ns ms → AreTold ns ps ms (asks_at i xs) ts → IsWithAsserts r ts q
+pub asserted-more : (ns ms : List TermNode) (ps : List PlaceState) (r q : Rows) (i : ℕ) (xs : List Typed) (ts : List TermId) → Grows ns ms → ValuesAreTold ns ps ms (asks_at i xs) ts → IsWithAsserts r ts q
     → AreAsserted ns ps r ms q i xs
 asserted-more ns ms ps r q i xs ts g told h f ys m t e s =
     let w = rows-grown ns ms r m.rows g s in

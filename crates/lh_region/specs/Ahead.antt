@@ -18,7 +18,7 @@ pub record IsLedAlso (old : List (List Edge)) (block : ℕ) (e : Edge) (new : Li
   pub led : (b : ℕ) → led_to new b ≡ (if nat_eq block b then led_to old b ++ e ∷ [] else led_to old b)
 
 -- no edge leads to this block any more
-pub record IsReached (old : List (List Edge)) (block : ℕ) (new : List (List Edge)) : Type 0 where
+pub record BlockIsReached (old : List (List Edge)) (block : ℕ) (new : List (List Edge)) : Type 0 where
   pub long : length new ≡ length old
   pub led : (b : ℕ) → led_to new b ≡ (if nat_eq block b then [] else led_to old b)
 

@@ -39,11 +39,11 @@ pub record IsBegun (ps : List PlaceState) (block : ℕ) (es : List Edge) (qs : L
   pub no_selectors : new.selectors ≡ None
   pub kept : (v : ℕ) → kept_by v new ≡ None
 
--- what is known at the places so far is told still
+-- what is known at the places so far is still told
 abbrev pub StaysKnown : Story → Story → Type 0
 StaysKnown s r = (i : ℕ) (k : Knowledge) → i < s.places → TellsKnown s i k → TellsKnown r i k
 
--- What was told is told still, and at the new place what the edges that lead there join.
+-- What was told is still told, and at the new place what the edges that lead there join.
 pub record TellsJoined (ns : List TermNode) (qs : List PlaceState) (s : Story) (xs : List RegionEdge) : Type 0 where
   pub tells : Tells ns qs (with_place s (joined xs)).told
   pub known : TellsKnown (with_place s (joined xs)) s.places (joined xs)

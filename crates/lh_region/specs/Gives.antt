@@ -17,7 +17,7 @@ with_term s i v x = record { naming = s.naming; values = s.values; blocks = s.bl
 abbrev pub ValuesDiffer : Story → Type 0
 ValuesDiffer s = (v w : ℕ) → v < s.values → w < s.values → s.naming.value_name v ≡ s.naming.value_name w → v ≡ w
 
--- What was told is told still but of this value at this place, where it is the new term; and this is known there under its name.
+-- What was told is still told but of this value at this place, where it is the new term; and this is known there under its name.
 pub record TellsGiven (ns : List TermNode) (qs : List PlaceState) (s : Story) (i v : ℕ) (k : Knowledge) (a : Known) (x : Tree) : Type 0 where
   pub tells : Tells ns qs (with_term s i v x).told
   pub known : TellsKnown (with_term s i v x) i (with_known k (s.naming.value_name v) a)

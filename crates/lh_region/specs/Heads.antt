@@ -63,11 +63,11 @@ abbrev pub begins_with_phi : FlatBlock → Bool
 begins_with_phi b = is_some b.merge || starts_with_phi b.insts
 
 -- the labels of an instruction are of the first n blocks
-abbrev pub LeadsWithin : (n : ℕ) → Inst → Type 0
-LeadsWithin n (inst.Br to) = to.0 < n
-LeadsWithin n (inst.Branch cond zero one) = (zero.0 < n) × (one.0 < n)
-LeadsWithin n (inst.Wait to after signals) = to.0 < n
-LeadsWithin n _ = Unit {0}
+abbrev pub LabelsAreWithin : (n : ℕ) → Inst → Type 0
+LabelsAreWithin n (inst.Br to) = to.0 < n
+LabelsAreWithin n (inst.Branch cond zero one) = (zero.0 < n) × (one.0 < n)
+LabelsAreWithin n (inst.Wait to after signals) = to.0 < n
+LabelsAreWithin n _ = Unit {0}
 
 abbrev pub IsNoBranch : Inst → Type 0
 IsNoBranch (inst.Br to) = ⊥
@@ -80,8 +80,8 @@ BranchIsLast (l ∷ []) = Unit {0}
 BranchIsLast (l ∷ m ∷ more) = IsNoBranch l.inst × BranchIsLast (m ∷ more)
 
 -- labels are blocks, and a branch ends its block
-pub record HasLabels (t : Flat) : Type 0 where
-  pub within : Each (λ (b : FlatBlock). Each (λ (l : FlatInst). LeadsWithin (length t.blocks) l.inst) b.insts) t.blocks
+pub record FlatLabelsFit (t : Flat) : Type 0 where
+  pub within : Each (λ (b : FlatBlock). Each (λ (l : FlatInst). LabelsAreWithin (length t.blocks) l.inst) b.insts) t.blocks
   pub last : Each (λ (b : FlatBlock). BranchIsLast b.insts) t.blocks
 
 -- no two of the first n blocks have one label
@@ -90,4 +90,4 @@ LabelsDiffer f n = (j k : ℕ) → j < n → k < n → f.label_name j ≡ f.labe
 
 -- The head by ids is the head of the text.
 abbrev pub HeadsAgree : Type 0
-HeadsAgree = (f : Naming) (t : Flat) → LabelsDiffer f (length t.blocks) → HasLabels t → head_of (flat_text f t).blocks ≡ head_in t.blocks
+HeadsAgree = (f : Naming) (t : Flat) → LabelsDiffer f (length t.blocks) → FlatLabelsFit t → head_of (flat_text f t).blocks ≡ head_in t.blocks

@@ -83,14 +83,14 @@ RegionsOrReason ns x (Err e) = IsRefused x (refusal_of e)
 -- ---- what is asked of the terms of rows
 
 -- the terms of a drive are of the arena: its condition is of one bit, and its value of the part's type
-pub record DriveFits (ns : List TermNode) (d : DriveRow) : Type 0 where
+pub record DriveRowFits (ns : List TermNode) (d : DriveRow) : Type 0 where
   pub cond : IsConditionAt ns d.cond
   pub value_in : IsIn ns d.value
   pub value : IsOfType d.part.ty (tree_at (trees ns) d.value)
   pub delay_in : IsIn ns d.delay
 
 abbrev pub DrivesFit : List TermNode → List DriveRow → Type 0
-DrivesFit ns ds = Each (DriveFits ns) ds
+DrivesFit ns ds = Each (DriveRowFits ns) ds
 
 -- the drives of the second region; none where it is not built
 abbrev pub later_drives : Regions → List DriveRow

@@ -35,9 +35,9 @@ ConstantFits (inst.Const v) = FitsTerm v
 ConstantFits _ = Unit {0}
 
 -- the same, where it gives a value
-abbrev pub GivenFits : Option ValueId → Inst → Type 0
-GivenFits None i = Unit {0}
-GivenFits (Some v) i = ConstantFits i
+abbrev pub GivesValueWithin : Option ValueId → Inst → Type 0
+GivesValueWithin None i = Unit {0}
+GivesValueWithin (Some v) i = ConstantFits i
 
 -- the instructions that were left behind, where the process starts at this block
 abbrev pub lines_left : List FlatBlock → (head : ℕ) → List FlatInst

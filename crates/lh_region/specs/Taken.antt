@@ -24,23 +24,23 @@ abbrev pub told_of : KnownTerms → PlaceValue → Option Tree
 told_of told a = told a.place a.value
 
 -- something is told of each
-abbrev pub AllThere : KnownTerms → List PlaceValue → Type 0
-AllThere told asks = Each (λ (a : PlaceValue). is_some (told_of told a) ≡ true) asks
+abbrev pub AllValuesTold : KnownTerms → List PlaceValue → Type 0
+AllValuesTold told asks = Each (λ (a : PlaceValue). is_some (told_of told a) ≡ true) asks
 
 -- each is asked for at a place that is there, and something is told of it
 pub record CanAskAll (ns : List TermNode) (ps : List PlaceState) (asks : List PlaceValue) : Type 0 where
   pub told : KnownTerms
   pub tells : Tells ns ps told
   pub within : Each (λ (a : PlaceValue). a.place < length ps) asks
-  pub there : AllThere told asks
+  pub there : AllValuesTold told asks
 
--- What was told before is told still.
+-- What was told before is still told.
 abbrev pub StillToldAll : List TermNode → List PlaceState → List TermNode → List PlaceState → List PlaceValue → Type 0
-StillToldAll ns ps ms qs asks = (told : KnownTerms) → Tells ns ps told → AllThere told asks → Tells ms qs told
+StillToldAll ns ps ms qs asks = (told : KnownTerms) → Tells ns ps told → AllValuesTold told asks → Tells ms qs told
 
 -- The terms are what is told of the values.
-abbrev pub AreTold : List TermNode → List PlaceState → List TermNode → List PlaceValue → List TermId → Type 0
-AreTold ns ps ms asks ts = (told : KnownTerms) (ys : List Tree) → Tells ns ps told → map (told_of told) asks ≡ map Some ys → AreTerms ms ts ys
+abbrev pub ValuesAreTold : List TermNode → List PlaceState → List TermNode → List PlaceValue → List TermId → Type 0
+ValuesAreTold ns ps ms asks ts = (told : KnownTerms) (ys : List Tree) → Tells ns ps told → map (told_of told) asks ≡ map Some ys → AreTerms ms ts ys
 
 -- ---- operations
 

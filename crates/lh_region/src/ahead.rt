@@ -1,7 +1,7 @@
 //! The edges that lead to places which are still to be treated. A place gets its number only when it is treated, so that edges to it
 //! come from places of lower numbers.
 ghost use Rattle.std.specs.Prelude.{◌≡◌, ◌<◌, ◌++◌, ◌∷◌, [], ℕ, ◌&&◌, length, replicate, IfOk, OnOk};
-ghost use Rattle.lh_region.specs.Ahead.{led_to, none_led, LeadsNowhere, IsLedAlso, IsReached};
+ghost use Rattle.lh_region.specs.Ahead.{led_to, none_led, LeadsNowhere, IsLedAlso, BlockIsReached};
 
 use lh_region_joins::Edge;
 use lh_types::list::ListOf;
@@ -53,7 +53,7 @@ impl Ahead {
     pub fn reach(&mut self, alloc: Global, block: usize) -> EdgeList
         requires { block < length self.old.here.items }
         ensures edges { result ≡ led_to self.old.here.items block }
-        ensures here { IsReached self.old.here.items block self.new.here.items }
+        ensures here { BlockIsReached self.old.here.items block self.new.here.items }
         ensures next { self.new.next ≡ self.old.next }
     {
         std::mem::replace(&mut self.here[block], EdgeList::new(alloc))

@@ -3,7 +3,7 @@ ghost use Rattle.std.specs.Prelude.{◌≡◌, [], None, IfOk, OnOk};
 ghost use Rattle.lh_unit.specs.Within.{Each};
 ghost use Rattle.lh_flat.specs.declared.flat.FlatInst.{FlatInst as Line};
 ghost use Rattle.lh_term.specs.Arena.{Grows};
-ghost use Rattle.lh_region.specs.Starts.{GivenFits, lines_left, KnowsConstants, TakesConstant};
+ghost use Rattle.lh_region.specs.Starts.{GivesValueWithin, lines_left, KnowsConstants, TakesConstant};
 
 use lh_flat::{Flat, FlatInst};
 use lh_region_places::state::PlaceState;
@@ -19,7 +19,7 @@ pub fn start_of(
     head: u32,
     terms: &mut Terms,
 ) -> Result<PlaceState, NoMemory>
-    requires { Each (λ (l : Line). GivenFits l.result l.inst) (lines_left flat.now.blocks head) }
+    requires { Each (λ (l : Line). GivesValueWithin l.result l.inst) (lines_left flat.now.blocks head) }
     ensures kept { Grows terms.old terms.new }
     ensures block { IfOk result (λ place. place.block ≡ head) }
     ensures edges { IfOk result (λ place. place.edges.items ≡ []) }
@@ -45,7 +45,7 @@ fn lines_left(flat: &Flat, head: u32) -> &[FlatInst]
 
 /// Makes the constant known that an instruction is, if it is one.
 fn take_constant(terms: &mut Terms, start: &mut PlaceState, line: &FlatInst) -> Result<(), NoMemory>
-    requires { GivenFits line.now.result line.now.inst }
+    requires { GivesValueWithin line.now.result line.now.inst }
     ensures kept { Grows terms.old terms.new }
     ensures taken { OnOk result (TakesConstant terms.new start.old line.now start.new) }
 {

@@ -33,7 +33,7 @@ pub fn ask_all(
     ensures kept { Grows terms.old terms.new }
     ensures same { OnOk result (SamePlaces places.old.items places.new.items) }
     ensures still { OnOk result (taken.StillToldAll terms.old places.old.items terms.new places.new.items asks.now) }
-    ensures terms { IfOk result (λ ts. taken.AreTold terms.old places.old.items terms.new asks.now ts) }
+    ensures terms { IfOk result (λ ts. taken.ValuesAreTold terms.old places.old.items terms.new asks.now ts) }
 {
     let mut values = TermList::new(alloc);
     for ask in asks {

@@ -32,7 +32,7 @@ use Rattle.lh_region_def.specs.Joins.{RegionEdge}
 use Rattle.lh_region_def.specs.Places.{Region}
 use Rattle.lh_region_def.specs.Regions.{with_constant, with_constants, begins_with_phi, lines_at, known_first, head_of, edge_into, Course, no_course, comes_to, max_insts, first_region}
 use Rattle.lh_region_def.specs.Typed.{Among, IsOfType, JoinEdge}
-use Rattle.lh_region_def.specs.Means.{range_in, reads, KnownIsHeld, Agrees}
+use Rattle.lh_region_def.specs.Means.{range_in, reads, KnownIsHeld, KnowledgeAgrees}
 use Rattle.lh_region_def.specs.Laws.{EndsAs, max_steps, WaitsForHead, FirstActivation, AgainFromHead, HeadStaysKnown, RowsAreTyped, EndTyped}
 use Rattle.lh_region_def.specs.Right.{DriveTyped, BlockAt, WayRight}
 use Rattle.lh_region_def.proofs.Among.{in-each}
@@ -225,7 +225,7 @@ module _ (name : UnitName) (t : FlatText) (f : IsFormed (flat_unit name t)) (pla
 
   -- where an end waits for the head, what the first region starts with is held
   stays : (x : RegionEnd) → Courses.EndFine u g r x → (to_head : Bool) (parts : List Part) (timed : Bool) → x.way ≡ rows.waits (head_of t.blocks) to_head parts timed
-      → (args : List Range) (past now past' now' : Valuation) (held : Env) → Agrees u past now args x.known held → Agrees u past' now' args (known_first t) held
+      → (args : List Range) (past now past' now' : Valuation) (held : Env) → KnowledgeAgrees u past now args x.known held → KnowledgeAgrees u past' now' args (known_first t) held
   stays x fine to_head parts timed way args past now past' now' held sh =
       let j = subst (λ w. WayRight u g w x.from x.known) way fine.way in
       let e1 : RegionEdge = edge_into (head_of t.blocks) x.from (bit_of true) x.known in
@@ -234,7 +234,7 @@ module _ (name : UnitName) (t : FlatText) (f : IsFormed (flat_unit name t)) (pla
       Start.held-again name t f plain (mean past now) (mean past' now') (range_in args) x.known held (λ d. refl) (λ d. refl) joined.known joined.there sh
 
   pub stays-known : (x : RegionEnd) → Among x c.rows.ends → (to_head : Bool) (parts : List Part) (timed : Bool) → x.way ≡ rows.waits (head_of t.blocks) to_head parts timed
-      → (args : List Range) (past now past' now' : Valuation) (held : Env) → Agrees u past now args x.known held → Agrees u past' now' args (known_first t) held
+      → (args : List Range) (past now past' now' : Valuation) (held : Env) → KnowledgeAgrees u past now args x.known held → KnowledgeAgrees u past' now' args (known_first t) held
   stays-known x a = stays x (in-each (Courses.EndFine u g r) c.rows.ends x first-fine.ends a)
 
   pub rows-typed : Each DriveTyped c.rows.drives × Each (EndTyped u) c.rows.ends

@@ -23,7 +23,7 @@ use Rattle.lh_region_def.specs.Means.{held_as, KnownIsHeld}
 use Rattle.lh_region_def.specs.Right.{PhiGiven, PhisGiven}
 
 -- a value of a type as a term
-pub constant-typed : (d : Datum) (t : TypeTree) → fitting.IsValueType t → FitsType d t → IsTyped (constant d) × (type_of (constant d) ≡ t)
+pub constant-typed : (d : Datum) (t : TypeTree) → fitting.IsTypeWithinLimits t → FitsType d t → IsTyped (constant d) × (type_of (constant d) ≡ t)
 constant-typed d time_type v f = by d f
   where
     by : (d : Datum) → FitsType d time_type → IsTyped (constant d) × (type_of (constant d) ≡ time_type)

@@ -26,7 +26,7 @@ use Rattle.lh_unit.specs.declared.inst.UnitKind.TheVariants as kind
 use Rattle.lh_verify_laws.specs.Calls.{AssertIsRight}
 use Rattle.lh_verify_laws.specs.Defined.{IsThere, OperandsThere}
 use Rattle.lh_verify_laws.specs.Operands.{IsOf, MayBeOf, IsLike, IsWritten, RowIs}
-use Rattle.lh_verify_laws.specs.Parts.{LeadsTo, TakesPart, PutsPart, HasPart}
+use Rattle.lh_verify_laws.specs.Parts.{StepLeadsTo, TakesPart, PutsPart, HasPart}
 use Rattle.lh_verify_laws.proofs.PartsLaw.{parts_have_ranges}
 use Rattle.lh_verify_laws.proofs.AtPlaces.{place-at}
 use Rattle.lh_eval.specs.Sound.{IsWrittenRight}
@@ -114,7 +114,7 @@ select-solid u (x ∷ s ∷ z ∷ more) r = absurd r.2
 takes-solid : (u : UnitText) (s : Step) (os : List OperandText) → TakesPart u s os → Each (IsSolid u) os
 takes-solid u s os p = subst (Each (IsSolid u)) (sym p.operands) ((p.whole, p.is, solid p.whole p.leads), tt)
   where
-    solid : (w : TypeTree) → LeadsTo s w p.of → w ≡ void_type → ⊥
+    solid : (w : TypeTree) → StepLeadsTo s w p.of → w ≡ void_type → ⊥
     solid void_type l e = none-some l.0 l.1
     solid (int_type n) l e = cc
     solid (array_type n t) l e = cc

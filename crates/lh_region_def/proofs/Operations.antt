@@ -24,8 +24,8 @@ use Rattle.lh_unit.specs.Held.{Held, datum_held, cell_held, part_held, Env, as_d
 use Rattle.lh_unit.specs.Effects.{step_of, stepped, signal_part, operated}
 use Rattle.lh_unit.specs.Within.{Each}
 use Rattle.lh_verify_laws.specs.Operands.{IsOf, IsLike, IsWritten, RowIs}
-use Rattle.lh_verify_laws.specs.Parts.{LeadsTo, TakesPart, PutsPart, HasPart}
-use Rattle.lh_eval.specs.Fitting.{IsValueType, FitsHeld, Fits}
+use Rattle.lh_verify_laws.specs.Parts.{StepLeadsTo, TakesPart, PutsPart, HasPart}
+use Rattle.lh_eval.specs.Fitting.{IsTypeWithinLimits, FitsHeld, Fits}
 use Rattle.lh_eval.specs.Sound.{HasOperands}
 use Rattle.lh_eval.proofs.ValuesFit.{fits-line}
 use Rattle.lh_eval.proofs.PartsRead.{of-signal, no-step, no-signal}
@@ -174,9 +174,9 @@ shows k n = option_map (held_as shown placed) (k n)
 shows-shows : (u : UnitText) (k : Knowledge) → KnownIsHeld u shown placed k (shows k)
 shows-shows u k n x t q v = ap (option_map (held_as shown placed)) q
 
-either-value : (t : TypeTree) → terms.IsValueType t → IsValueType t
+either-value : (t : TypeTree) → terms.IsValueType t → IsTypeWithinLimits t
 either-value t (inl d) = value-type t d
-either-value t (inr q) = subst IsValueType (sym q) tt
+either-value t (inr q) = subst IsTypeWithinLimits (sym q) tt
 
 shows-fit : (u : UnitText) (k : Knowledge) → KnowsTyped u k → Fits u 65536 (shows k)
 shows-fit u k h n x t e o = by (k n) refl e
@@ -348,7 +348,7 @@ module _ (u : UnitText) (k : Knowledge) (h : KnowsTyped u k) where
           let z : signal_part u (shows k) o os ≡ None = ap (signal_part u (shows k) o) p.operands ∙ ap (λ x. stepped x (part_at (shows k) p.operand.value) (step_of o)) i ∙ n in
           absurd (false≢true (ap is_some (sym z) ∙ y))
 
-      by : (w : TypeTree) → IsOf u w p.operand.value → LeadsTo s w p.of → PartStep u k o os
+      by : (w : TypeTree) → IsOf u w p.operand.value → StepLeadsTo s w p.of → PartStep u k o os
       by (signal_type t) i l =
           let q = part-known u k h p.operand.value t i held in
           record {

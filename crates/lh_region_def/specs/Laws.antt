@@ -20,7 +20,7 @@ use Rattle.lh_region_def.specs.Rows as rows
 use Rattle.lh_region_def.specs.Rows.{enters_head, RegionEnd, Rows}
 use Rattle.lh_region_def.specs.Regions.{head_of, begins_with_phi, lines_at, known_first, Course, comes_to, max_insts, first_region, second_region, waits_for}
 use Rattle.lh_region_def.specs.Typed.{Among, KnowsTyped, IsCondition, IsOfType}
-use Rattle.lh_region_def.specs.Means.{reads, is_true, Agrees, with_rows}
+use Rattle.lh_region_def.specs.Means.{reads, is_true, KnowledgeAgrees, with_rows}
 use Rattle.lh_region_def.specs.Ending.{StandsAs}
 use Rattle.lh_region_def.specs.Right.{DriveTyped}
 
@@ -42,7 +42,7 @@ pub record CameTo (u : UnitText) (past now : Valuation) (args : List Range) (end
   pub among : Among end ends
   pub holds : is_true past now end.cond ≡ true
   pub only : (x : RegionEnd) → Among x ends → is_true past now x.cond ≡ true → x ≡ end
-  pub known : Agrees u past now args end.known held
+  pub known : KnowledgeAgrees u past now args end.known held
 
 -- An activation ends as the rows say, with this wish and these outcomes before them: its wish has the drives whose conditions hold, in order; it stands where the one end is whose condition holds.
 pub record EndsAs (u : UnitText) (t : FlatText) (past now : Valuation) (args : List Range) (at : Instant) (before : Wish) (told : List Bool) (rows : Rows) (done : Activated) : Type 0 where
@@ -70,7 +70,7 @@ pub record WaitsForHead (u : UnitText) (t : FlatText) (past now : Valuation) (ar
   pub on : List Range
   pub wake : Option Instant
   pub stand : p.stand ≡ waits from head.label on wake
-  pub known : Agrees u past now args (known_first t) p.held
+  pub known : KnowledgeAgrees u past now args (known_first t) p.held
 
 -- So does each activation that begins where the process waits for the head.
 abbrev pub AgainFromHead : Type 0
@@ -84,7 +84,7 @@ HeadStaysKnown = (name : UnitName) (t : FlatText) → IsFormed (flat_unit name t
     → ((p : Part) → IsData p.ty → IsOfType p.ty (probe p)) →
     (c : Course) → first_region t probe ≡ comes_to c → (x : RegionEnd) → Among x c.rows.ends → (to_head : Bool) (parts : List Part) (timed : Bool)
     → x.way ≡ rows.waits (head_of t.blocks) to_head parts timed →
-    (args : List Range) (past now past' now' : Valuation) (held : Env) → Agrees (flat_unit name t) past now args x.known held → Agrees (flat_unit name t) past' now' args (known_first t) held
+    (args : List Range) (past now past' now' : Valuation) (held : Env) → KnowledgeAgrees (flat_unit name t) past now args x.known held → KnowledgeAgrees (flat_unit name t) past' now' args (known_first t) held
 
 -- A process waits where an end of the first region is, as its terms of the parts' values before say: exactly the condition of that end holds at those values.
 pub record WaitsAfter (u : UnitText) (t : FlatText) (past now : Valuation) (args : List Range) (rows : Rows) (p : ProcessState) : Type 0 where

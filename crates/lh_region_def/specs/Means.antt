@@ -41,8 +41,8 @@ abbrev pub KnownIsHeld : UnitText → (Tree → Datum) → (Part → Range) → 
 KnownIsHeld u value range k e = (n : List ℕ) (x : Known) (t : TypeTree) → k n ≡ Some x → value_type u n ≡ Some t → e n ≡ Some (held_as value range x)
 
 -- the same, where parts had and have these values
-abbrev pub Agrees : UnitText → (past now : Valuation) → (args : List Range) → Knowledge → Env → Type 0
-Agrees u past now args k e = KnownIsHeld u (mean past now) (range_in args) k e
+abbrev pub KnowledgeAgrees : UnitText → (past now : Valuation) → (args : List Range) → Knowledge → Env → Type 0
+KnowledgeAgrees u past now args k e = KnownIsHeld u (mean past now) (range_in args) k e
 
 -- a condition holds
 abbrev pub is_true : (past now : Valuation) → Tree → Bool

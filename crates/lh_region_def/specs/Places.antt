@@ -33,7 +33,7 @@ pub record Here : Type 0 where
   pub label : List ℕ
   pub cond : Tree
 
--- what is known in the midst of a block; and of the whole region the edges and the rows so far
+-- what is known in the middle of a block; and of the whole region the edges and the rows so far
 pub record Midst : Type 0 where
   pub known : Knowledge
   pub edges : List RegionEdge

@@ -11,9 +11,9 @@ use Rattle.lh_region_def.specs.Typed.{IsOfType}
 use Rattle.lh_region_joins.proofs.Conditions.{stands-condition, condition-grown}
 use Rattle.lh_term.proofs.Swaps.{tree_grown, in_grown}
 use Rattle.lh_region.specs.declared.rows.DriveRow.{DriveRow}
-use Rattle.lh_region.specs.Stands.{IsDrive, AreDrives, DriveFits, DrivesFit}
+use Rattle.lh_region.specs.Stands.{IsDrive, AreDrives, DriveRowFits, DrivesFit}
 
-drive-fits : (ns : List TermNode) (d : DriveRow) (x : text.Drive) → IsDrive ns d x → DriveTyped x → DriveFits ns d
+drive-fits : (ns : List TermNode) (d : DriveRow) (x : text.Drive) → IsDrive ns d x → DriveTyped x → DriveRowFits ns d
 drive-fits ns d x h t = record {
   cond = stands-condition ns d.cond x.cond h.cond t.cond;
   value_in = h.value.is_in;

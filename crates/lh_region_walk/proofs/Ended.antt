@@ -60,7 +60,7 @@ maybe-some : (f : Naming) (o : Option ValueId) → is_some (maybe_text f o) ≡ 
 maybe-some f None = refl
 maybe-some f (Some v) = refl
 
--- ---- in the midst of a place, before its last line
+-- ---- in the middle of a place, before its last line
 
 module _ (ns : List TermNode) (f : Naming) (name : UnitName) (r : Region) (w : Walk) (at : WalkPoint) (before : Story) (h : Here) (insts : ℕ) (b : FlatBlock) (l : FlatInst) (done rest : List LineText)
     (m : Midst) (i : IsBetween ns f name r w at before h insts b done (flat_line_text f l ∷ rest) m) where

@@ -32,24 +32,24 @@ use Rattle.lh_region_def.specs.Regions.{lines_at, head_of}
 use Rattle.lh_region_def.proofs.KnowledgeChanges.{constant-typed}
 use Rattle.lh_region_def.proofs.Sites.{block-lines}
 use Rattle.lh_region.specs.Forms.{Names}
-use Rattle.lh_region.specs.Heads.{leads_on, is_named, entry_id, head_if, head_in, is_phi, starts_with_phi, begins_with_phi, LeadsWithin, IsNoBranch, BranchIsLast, HasLabels}
-use Rattle.lh_region.specs.Starts.{GivenFits, lines_left}
+use Rattle.lh_region.specs.Heads.{leads_on, is_named, entry_id, head_if, head_in, is_phi, starts_with_phi, begins_with_phi, LabelsAreWithin, IsNoBranch, BranchIsLast, FlatLabelsFit}
+use Rattle.lh_region.specs.Starts.{GivesValueWithin, lines_left}
 use Rattle.lh_region.proofs.HeadBlock.{heads-agree, leads-within}
 use Rattle.lh_region_walk.proofs.Regional.{block-text-at}
 
 -- ---- labels
 
-inst-within : (n : ℕ) (i : Inst) → Each (λ (b : BlockId). b.0 < n) (blocks_named i) → LeadsWithin n i
+inst-within : (n : ℕ) (i : Inst) → Each (λ (b : BlockId). b.0 < n) (blocks_named i) → LabelsAreWithin n i
 inst-within n (inst.Br to) h = h.0
 inst-within n (inst.Branch cond a b) h = (h.0, h.1.0)
 inst-within n (inst.Wait to after signals) h = h.0
 inst-within n _ h = tt
 
-insts-within : (v n : ℕ) (ls : List FlatInst) → Each (InstBelow v n) ls → Each (λ (l : FlatInst). LeadsWithin n l.inst) ls
+insts-within : (v n : ℕ) (ls : List FlatInst) → Each (InstBelow v n) ls → Each (λ (l : FlatInst). LabelsAreWithin n l.inst) ls
 insts-within v n [] h = tt
 insts-within v n (l ∷ ls) h = (inst-within n l.inst h.0.named, insts-within v n ls h.1)
 
-blocks-within : (v n : ℕ) (bs : List FlatBlock) → Each (BlockBelow v n) bs → Each (λ (b : FlatBlock). Each (λ (l : FlatInst). LeadsWithin n l.inst) b.insts) bs
+blocks-within : (v n : ℕ) (bs : List FlatBlock) → Each (BlockBelow v n) bs → Each (λ (b : FlatBlock). Each (λ (l : FlatInst). LabelsAreWithin n l.inst) b.insts) bs
 blocks-within v n [] h = tt
 blocks-within v n (b ∷ bs) h = (insts-within v n b.insts h.0.insts, blocks-within v n bs h.1)
 
@@ -72,7 +72,7 @@ blocks-last : (f : Naming) (k : ℕ) (bs : List FlatBlock) → Each (λ (b : Blo
 blocks-last f k [] h = tt
 blocks-last f k (b ∷ bs) h = (branch-last f b.insts (behind-merge f b.merge b.insts h.0), blocks-last f (k + 1) bs h.1)
 
-pub has-labels : (f : Naming) (name : UnitName) (t : Flat) → IdsBelow t → Names t f → HasLabels t
+pub has-labels : (f : Naming) (name : UnitName) (t : Flat) → IdsBelow t → Names t f → FlatLabelsFit t
 has-labels f name t b n = record {
   within = blocks-within t.values (length t.blocks) t.blocks b.blocks;
   last = blocks-last f 0 t.blocks (n.formed name).ends;
@@ -94,7 +94,7 @@ head-within t b l = by t.blocks refl
         at true o q = l
         at false None q = l
         at false (Some c) q =
-            let w = subst (λ (bs : List FlatBlock). Each (λ (b : FlatBlock). Each (λ (l : FlatInst). LeadsWithin (length t.blocks) l.inst) b.insts) bs) e
+            let w = subst (λ (bs : List FlatBlock). Each (λ (b : FlatBlock). Each (λ (l : FlatInst). LabelsAreWithin (length t.blocks) l.inst) b.insts) bs) e
             (blocks-within t.values (length t.blocks) t.blocks b.blocks) in
             leads-within (length t.blocks) entry.insts c w.0 q
 
@@ -135,13 +135,13 @@ const-fits u l d n s i r g = by (value_type u n) refl g
         (constant-typed d t k.0 k.1).0
 
 given-fits : (f : Naming) (u : UnitText) (o : Option ValueId) (i : Inst) → InstIsSound u (flat_line_text f (record { result = o; inst = i }))
-    → ((n : List ℕ) → maybe_text f o ≡ Some n → IsSome (value_type u n)) → GivenFits o i
+    → ((n : List ℕ) → maybe_text f o ≡ Some n → IsSome (value_type u n)) → GivesValueWithin o i
 given-fits f u None i s g = tt
 given-fits f u (Some v) (inst.Const x) s g = const-fits u (flat_line_text f (record { result = Some v; inst = inst.Const x })) x (f.value_name v.0) s refl refl (g (f.value_name v.0) refl)
 given-fits f u (Some v) _ s g = tt
 
 all-fit : (f : Naming) (u : UnitText) (ls : List FlatInst) → Each (InstIsSound u) (map (flat_line_text f) ls)
-    → Each (λ (l : LineText). (n : List ℕ) → l.result ≡ Some n → IsSome (value_type u n)) (map (flat_line_text f) ls) → Each (λ (l : FlatInst). GivenFits l.result l.inst) ls
+    → Each (λ (l : LineText). (n : List ℕ) → l.result ≡ Some n → IsSome (value_type u n)) (map (flat_line_text f) ls) → Each (λ (l : FlatInst). GivesValueWithin l.result l.inst) ls
 all-fit f u [] s g = tt
 all-fit f u (l ∷ ls) s g = (given-fits f u l.result l.inst s.0 g.0, all-fit f u ls s.1 g.1)
 
@@ -149,26 +149,26 @@ each-behind : (P : LineText → Type 0) (m : Option MergeText) (ls : List LineTe
 each-behind P None ls h = h
 each-behind P (Some m) ls h = h.1
 
-pub entry-fits : (f : Naming) (name : UnitName) (t : Flat) → Names t f → (head : ℕ) → Each (λ (l : FlatInst). GivenFits l.result l.inst) (lines_left t.blocks head)
+pub entry-fits : (f : Naming) (name : UnitName) (t : Flat) → Names t f → (head : ℕ) → Each (λ (l : FlatInst). GivesValueWithin l.result l.inst) (lines_left t.blocks head)
 entry-fits f name t n head = by t.blocks refl
   where
     u : UnitText
     u = flat_unit name (flat_text f t)
 
-    by : (bs : List FlatBlock) → t.blocks ≡ bs → Each (λ (l : FlatInst). GivenFits l.result l.inst) (lines_left bs head)
+    by : (bs : List FlatBlock) → t.blocks ≡ bs → Each (λ (l : FlatInst). GivesValueWithin l.result l.inst) (lines_left bs head)
     by [] e = tt
     by (entry ∷ more) e = at (nat_eq head 0)
       where
         text : slice_get u.blocks 0 ≡ Some (as_block (flat_block_text f 0 entry))
         text = ap (λ (bs : List FlatBlock). slice_get (map as_block (flat_blocks_text f 0 bs)) 0) e
 
-        fit : Each (λ (l : FlatInst). GivenFits l.result l.inst) entry.insts
+        fit : Each (λ (l : FlatInst). GivesValueWithin l.result l.inst) entry.insts
         fit = all-fit f u entry.insts
             (each-behind (InstIsSound u) (option_map (merge_text f) entry.merge) (map (flat_line_text f) entry.insts)
             (block-lines (InstIsSound u) u.blocks 0 (as_block (flat_block_text f 0 entry)) (n.formed name).lines text))
             (each-behind (λ (l : LineText). (n : List ℕ) → l.result ≡ Some n → IsSome (value_type u n)) (option_map (merge_text f) entry.merge) (map (flat_line_text f) entry.insts)
             (block-lines (λ (l : LineText). (n : List ℕ) → l.result ≡ Some n → IsSome (value_type u n)) u.blocks 0 (as_block (flat_block_text f 0 entry)) (n.formed name).given text))
 
-        at : (x : Bool) → Each (λ (l : FlatInst). GivenFits l.result l.inst) (if x then [] else entry.insts)
+        at : (x : Bool) → Each (λ (l : FlatInst). GivesValueWithin l.result l.inst) (if x then [] else entry.insts)
         at true = tt
         at false = fit

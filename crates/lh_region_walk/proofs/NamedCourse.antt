@@ -50,7 +50,7 @@ EndNamed u x = KnowsNamed u x.known
 abbrev EdgeNamed : UnitText → RegionEdge → Type 0
 EdgeNamed u e = KnowsNamed u e.known
 
--- what is known in the midst of a place, and on the edges and at the ends so far
+-- what is known in the middle of a place, and on the edges and at the ends so far
 record MidstNamed (u : UnitText) (m : Midst) : Type 0 where
   known : KnowsNamed u m.known
   edges : EdgesNamed u m.edges

@@ -14,7 +14,7 @@ use Rattle.lh_region.specs.declared.ahead.Ahead.{Ahead}
 use Rattle.lh_region_walk.specs.declared.walk.Region.{Region}
 use Rattle.lh_region_walk.specs.declared.walk.Walk.{Walk}
 use Rattle.lh_region.specs.declared.rows.RegionFault.{RegionFault}
-use Rattle.lh_region.specs.Ahead.{led_to, is_no_edge, none_led, LeadsNowhere, IsReached}
+use Rattle.lh_region.specs.Ahead.{led_to, is_no_edge, none_led, LeadsNowhere, BlockIsReached}
 use Rattle.lh_region.specs.Stands.{refusal_of}
 use Rattle.lh_region.specs.Walking.{Story, AreEdges, place_of, AreAhead}
 use Rattle.lh_region_walk.specs.Walked.{region_text, StopsFor}
@@ -36,7 +36,7 @@ some-edges ns s (e ∷ es) (x ∷ xs) n h = (x, xs, refl)
 -- ---- edges ahead
 
 -- a place was reached: the edges to later blocks stay
-pub ahead-reached : (ns : List TermNode) (s : Story) (turns block : ℕ) (old new : Ahead) (xs : List RegionEdge) → AreAhead ns s turns block old xs → IsReached old.here.items block new.here.items
+pub ahead-reached : (ns : List TermNode) (s : Story) (turns block : ℕ) (old new : Ahead) (xs : List RegionEdge) → AreAhead ns s turns block old xs → BlockIsReached old.here.items block new.here.items
     → new.next ≡ old.next → AreAhead ns s turns (block + 1) new xs
 ahead-reached ns s turns block old new xs h r k = record {
   here = λ b l. subst (λ (es : List Edge). AreEdges ns s es (edges_to (place_of turns b) xs))

@@ -26,7 +26,7 @@ use Rattle.lh_region_walk.specs.declared.walk.Region.{Region}
 use Rattle.lh_region_walk.specs.declared.walk.Walk.{Walk}
 use Rattle.lh_region_walk.specs.declared.walk.WalkPoint.{WalkPoint}
 use Rattle.lh_region.specs.declared.rows.RegionFault.{RegionFault}
-use Rattle.lh_region.specs.Ahead.{led_to, IsReached}
+use Rattle.lh_region.specs.Ahead.{led_to, BlockIsReached}
 use Rattle.lh_region_places.specs.Asked.{edges_at, Tells}
 use Rattle.lh_region.specs.Begins.{with_place, IsBegun, BeginsJoined, TellsJoined}
 use Rattle.lh_region_walk.specs.Named.{EdgesNamed}
@@ -59,7 +59,7 @@ edges-last ps qs block es b = edges-of qs (length ps) b.new (ap (λ (xs : List P
 
 -- what is so far where a place was reached
 pub so-far-reached : (ns : List TermNode) (f : Naming) (r : Region) (w q : Walk) (turns block : ℕ) (s : Story) (c : Course) → IsSoFar ns f r w turns block s c
-    → IsReached w.ahead.here.items block q.ahead.here.items → q.ahead.next ≡ w.ahead.next → q.insts ≡ w.insts → q.rows ≡ w.rows → q.sources ≡ w.sources → IsSoFar ns f r q turns (block + 1) s c
+    → BlockIsReached w.ahead.here.items block q.ahead.here.items → q.ahead.next ≡ w.ahead.next → q.insts ≡ w.insts → q.rows ≡ w.rows → q.sources ≡ w.sources → IsSoFar ns f r q turns (block + 1) s c
 so-far-reached ns f r w q turns block s c h reached next insts rows sources = record {
   naming = h.naming;
   values = h.values;
@@ -74,7 +74,7 @@ so-far-reached ns f r w q turns block s c h reached next insts rows sources = re
 }
 
 -- no edge leads to the place
-pub reached-none : (ns : List TermNode) (r : Region) (w q : Walk) (turns block : ℕ) → led_to w.ahead.here.items block ≡ [] → q.places ≡ w.places → IsReached w.ahead.here.items block q.ahead.here.items
+pub reached-none : (ns : List TermNode) (r : Region) (w q : Walk) (turns block : ℕ) → led_to w.ahead.here.items block ≡ [] → q.places ≡ w.places → BlockIsReached w.ahead.here.items block q.ahead.here.items
     → q.ahead.next ≡ w.ahead.next → q.insts ≡ w.insts → q.rows ≡ w.rows → q.sources ≡ w.sources
     → Passes (walks_at ns r w turns block) r (place_of turns block ∷ []) ns q turns (block + 1)
 reached-none ns r w q turns block none places reached next insts rows sources f name s c h =
@@ -100,7 +100,7 @@ reached-none ns r w q turns block none places reached next insts rows sources f 
 -- a place that begins: its edges, and the condition on which control is there
 pub record PlaceBegins (ns ms : List TermNode) (w q : Walk) (turns block : ℕ) (at : WalkPoint) : Type 0 where
   pub some : led_to w.ahead.here.items block ≡ [] → ⊥
-  pub reached : IsReached w.ahead.here.items block q.ahead.here.items
+  pub reached : BlockIsReached w.ahead.here.items block q.ahead.here.items
   pub next : q.ahead.next ≡ w.ahead.next
   pub insts : q.insts ≡ w.insts
   pub rows : q.rows ≡ w.rows
@@ -272,7 +272,7 @@ module _ (ns : List TermNode) (r : Region) (w : Walk) (turns block : ℕ) (l : b
 
 -- what begins is the place to which these edges lead
 pub begins-by : (ns ms : List TermNode) (w q : Walk) (turns block : ℕ) (at : WalkPoint) (into fs : List Edge) → into ≡ led_to w.ahead.here.items block → fs ≡ into → (led_to w.ahead.here.items block ≡ [] → ⊥)
-    → IsReached w.ahead.here.items block q.ahead.here.items → q.ahead.next ≡ w.ahead.next → q.insts ≡ w.insts → q.rows ≡ w.rows → q.sources ≡ w.sources → Grows ns ms
+    → BlockIsReached w.ahead.here.items block q.ahead.here.items → q.ahead.next ≡ w.ahead.next → q.insts ≡ w.insts → q.rows ≡ w.rows → q.sources ≡ w.sources → Grows ns ms
     → IsBegun w.places.items block into q.places.items → BeginsJoined w.places.items into q.places.items → at.place ≡ length w.places.items → at.block ≡ block → at.turns ≡ turns
     → StandsForTree ms at.cond (any_taken (edges_on ns fs)) → PlaceBegins ns ms w q turns block at
 begins-by ns ms w q turns block at into fs e f some reached next insts rows sources grows begun joined place of_block of_turns cond = record {

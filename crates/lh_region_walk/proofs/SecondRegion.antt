@@ -38,7 +38,7 @@ use Rattle.lh_region.specs.Stands.{refusal_of}
 use Rattle.lh_region.specs.Walking.{Story, TellsKnown, AreEdges}
 use Rattle.lh_region_walk.specs.Walked.{process_by, region_text, IsRegion, StopsFor}
 use Rattle.lh_region_walk.specs.Turns.{IsWalk, IsStart, CanStart, GoesThrough, GoesNot}
-use Rattle.lh_region_walk.specs.Both.{GoesFirst, FirstStops, IsBehind, IsTarget, HasTarget, SecondRows, SecondStops}
+use Rattle.lh_region_walk.specs.Both.{GoesFirst, FirstStops, SecondPlaceIsBehind, IsTarget, HasTarget, SecondRows, SecondStops}
 use Rattle.lh_region_walk.proofs.First.{formed, plain, head-same}
 use Rattle.lh_region.proofs.LeadingEdges.{edges-grown}
 use Rattle.lh_region_places.proofs.ToldValues.{tells-grown}
@@ -179,7 +179,7 @@ pub record IsNextPlace (past again r : Region) (target : ℕ) (ns ms : List Term
   pub past_head : past.head ≡ r.head
   pub past_is : past.is_past ≡ true
   pub grows : Grows ns ms
-  pub behind : IsBehind w target ms qs at
+  pub behind : SecondPlaceIsBehind w target ms qs at
 
 -- the region by the values before, and the one that ends at its head
 abbrev pub past-of : Region → Region
@@ -188,7 +188,7 @@ past-of r = record { flat = r.flat; parts = r.parts; head = r.head; is_past = tr
 abbrev pub again-of : Region → Region
 again-of r = record { flat = r.flat; parts = r.parts; head = r.head; is_past = r.is_past; ends_at_head = true }
 
-pub next-place : (r : Region) (target : ℕ) (ns ms : List TermNode) (w : Walk) (qs : List PlaceState) (at : WalkPoint) → r.is_past ≡ false → Grows ns ms → IsBehind w target ms qs at → IsNextPlace (past-of r) (again-of r) r target ns ms w qs at
+pub next-place : (r : Region) (target : ℕ) (ns ms : List TermNode) (w : Walk) (qs : List PlaceState) (at : WalkPoint) → r.is_past ≡ false → Grows ns ms → SecondPlaceIsBehind w target ms qs at → IsNextPlace (past-of r) (again-of r) r target ns ms w qs at
 next-place r target ns ms w qs at now g b = record {
   flat = refl;
   parts = refl;

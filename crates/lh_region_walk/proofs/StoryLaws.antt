@@ -34,7 +34,7 @@ continues-on s r q a b = record {
   known = λ i k l t. b.known i k (omega (arith, l, a.places)) (a.known i k l t);
 }
 
--- the place that is treated gives a term: what was told at the places before it is told still
+-- the place that is treated gives a term: what was told at the places before it is still told
 pub continues-given : (ns : List TermNode) (qs : List PlaceState) (before now : Story) (i v : ℕ) (k : Knowledge) (a : Known) (x : Tree) → before.places ≡ i → ContinuesStory before now
     → TellsGiven ns qs now i v k a x → ContinuesStory before (with_term now i v x)
 continues-given ns qs before now i v k a x p c g = record {

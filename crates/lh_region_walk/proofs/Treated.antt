@@ -36,7 +36,7 @@ use Rattle.lh_region.specs.declared.rows.RegionFault.{RegionFault}
 use Rattle.lh_region.specs.declared.rows.RegionFault.TheVariants as fault
 use Rattle.lh_region.specs.Stands.{refusal_of}
 use Rattle.lh_region.specs.Walking.{Story}
-use Rattle.lh_region_walk.specs.Walked.{process_by, region_text, leads_nowhere, IsCourse, course_at, IsBetween, CanTake, takes_line, TakesLine, EndsLine, EndsFor, StopsFor, IsOpened, CanTreat, treated, Treats, TreatsNot}
+use Rattle.lh_region_walk.specs.Walked.{process_by, region_text, leads_nowhere, IsCourse, course_at, IsBetween, CanTake, takes_line, WalksLine, EndsLine, EndsFor, StopsFor, IsOpened, CanTreat, treated, Treats, TreatsNot}
 use Rattle.lh_region_walk.specs.Merges.{merge_lines, midst_at, CanTakeAll, LeadNowhere, takes_lines, TakesLines, EndsLast, EndsLines, EndsLinesFor, TakesMerges}
 use Rattle.lh_region_walk.proofs.Regional.{block-text-at}
 use Rattle.lh_region_walk.proofs.Opened.{block-below, block-read}
@@ -165,7 +165,7 @@ takes-none ns r w at f name before h insts b done rest m bt = subst (λ (ds : Li
 pub lines-none : (ns : List TermNode) (r : Region) (w : Walk) (at : WalkPoint) (seen : List FlatInst) → seen ≡ [] → LinesSoFar ns r w at seen ns w
 lines-none ns r w at seen e = subst (λ (ls : List FlatInst). LinesSoFar ns r w at ls ns w) (sym e) (record { grows = grows-none ns; takes = takes-none ns r w at })
 
-takes-next : (ns ms os : List TermNode) (r : Region) (w q p : Walk) (at : WalkPoint) (seen : List FlatInst) (l : FlatInst) → TakesLines ns r w at seen ms q → TakesLine ms r q at l os p
+takes-next : (ns ms os : List TermNode) (r : Region) (w q p : Walk) (at : WalkPoint) (seen : List FlatInst) (l : FlatInst) → TakesLines ns r w at seen ms q → WalksLine ms r q at l os p
     → TakesLines ns r w at (seen ++ l ∷ []) os p
 takes-next ns ms os r w q p at seen l t u f name before h insts b done rest m bt =
     let a = t f name before h insts b done (flat_line_text f l ∷ rest) m (subst (λ (ys : List LineText). IsBetween ns f name r w at before h insts b done ys m) (next-lines f seen l [] rest) bt) in
@@ -173,7 +173,7 @@ takes-next ns ms os r w q p at seen l t u f name before h insts b done rest m bt
     subst (λ (ys : List LineText). IsBetween os f name r p at before h insts b ys rest (takes_lines f r h (seen ++ l ∷ []) m)) (done-lines f done seen l)
     (subst (IsBetween os f name r p at before h insts b ((done ++ map (flat_line_text f) seen) ++ flat_line_text f l ∷ []) rest) (sym (takes-more f r h seen l m)) d)
 
-pub lines-next : (ns ms os : List TermNode) (r : Region) (w q p : Walk) (at : WalkPoint) (seen after : List FlatInst) (l : FlatInst) → after ≡ seen ++ l ∷ [] → Grows ms os → TakesLine ms r q at l os p
+pub lines-next : (ns ms os : List TermNode) (r : Region) (w q p : Walk) (at : WalkPoint) (seen after : List FlatInst) (l : FlatInst) → after ≡ seen ++ l ∷ [] → Grows ms os → WalksLine ms r q at l os p
     → LinesSoFar ns r w at seen ms q → LinesSoFar ns r w at after os p
 lines-next ns ms os r w q p at seen after l e g u s =
     subst (λ (ls : List FlatInst). LinesSoFar ns r w at ls os p) (sym e) (record { grows = grows_on ns ms os s.grows g; takes = takes-next ns ms os r w q p at seen l s.takes u })

@@ -63,7 +63,7 @@ pub record HasTarget (r : Region) (target : ℕ) : Type 0 where
   pub is : IsTarget naming r target
 
 -- Behind the places of a walk begins one of the target of its ends, which the walk is at in its first turn.
-pub record IsBehind (w : Walk) (target : ℕ) (ns : List TermNode) (qs : List PlaceState) (at : WalkPoint) : Type 0 where
+pub record SecondPlaceIsBehind (w : Walk) (target : ℕ) (ns : List TermNode) (qs : List PlaceState) (at : WalkPoint) : Type 0 where
   pub begun : IsBegun w.places.items target w.sources qs
   pub joins : BeginsJoined w.places.items w.sources qs
   pub place : at.place ≡ length w.places.items

@@ -23,13 +23,13 @@ use Rattle.lh_region_walk.specs.Walked.{leads_nowhere}
 
 -- ---- instructions
 
-abbrev pub IsProbe : Inst → Type 0
-IsProbe (inst.Prb of) = Unit {0}
-IsProbe _ = ⊥
+abbrev pub IsProbeInst : Inst → Type 0
+IsProbeInst (inst.Prb of) = Unit {0}
+IsProbeInst _ = ⊥
 
-abbrev pub IsDrive : Inst → Type 0
-IsDrive (inst.Drv to value after cond) = Unit {0}
-IsDrive _ = ⊥
+abbrev pub IsDriveInst : Inst → Type 0
+IsDriveInst (inst.Drv to value after cond) = Unit {0}
+IsDriveInst _ = ⊥
 
 -- it gives a value or nothing, and does no more
 abbrev pub gives_alone : Inst → Bool
@@ -70,13 +70,13 @@ abbrev pub MayTest : List TermNode → List PlaceState → Option ValueId → (i
 MayTest ns ps None i = Unit {0}
 MayTest ns ps (Some v) i = CanTest ns ps v.0 i
 
-abbrev pub IsTested : KnownTerms → Option ValueId → (i : ℕ) → Type 0
-IsTested told None i = Unit {0}
-IsTested told (Some v) i = is_some (told i v.0) ≡ true
+abbrev pub ConditionIsTold : KnownTerms → Option ValueId → (i : ℕ) → Type 0
+ConditionIsTold told None i = Unit {0}
+ConditionIsTold told (Some v) i = is_some (told i v.0) ≡ true
 
--- What was told before, of that value too, is told still.
+-- What was told before, of that value too, is still told.
 abbrev pub StillTested : List TermNode → List PlaceState → List TermNode → List PlaceState → Option ValueId → (i : ℕ) → Type 0
-StillTested ns ps ms qs v i = (told : KnownTerms) → Tells ns ps told → IsTested told v i → Tells ms qs told
+StillTested ns ps ms qs v i = (told : KnownTerms) → Tells ns ps told → ConditionIsTold told v i → Tells ms qs told
 
 -- The term is the condition c, and what is told of the value after `if`.
 abbrev pub IsDriveCond : List TermNode → List PlaceState → List TermNode → Option ValueId → (i : ℕ) → Tree → TermId → Type 0

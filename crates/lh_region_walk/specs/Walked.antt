@@ -1,4 +1,4 @@
--- A walk through the places of a region by ids beside the walk of the definition: in the midst of a place, and between places.
+-- A walk through the places of a region by ids beside the walk of the definition: in the middle of a place, and between places.
 use Rattle.std.specs.Prelude.{◌≡◌, ◌⊎◌, ℕ, ◌+◌, ◌≤◌, List, [], ◌∷◌, ◌++◌, length, Bool, true, false, Option, Some, None, slice_get}
 use Rattle.lh_unit_names.specs.declared.name.UnitName.{UnitName}
 use Rattle.lh_unit.specs.Contents.{LineText, UnitText}
@@ -81,7 +81,7 @@ pub record IsCourse (ns : List TermNode) (f : Naming) (r : Region) (w : Walk) (t
   pub places : s.places ≡ length w.places.items
   pub tells : Tells ns w.places.items s.told
 
--- ---- in the midst of a place
+-- ---- in the middle of a place
 
 -- the place stands at this block, after this many turns
 pub record IsAt (f : Naming) (r : Region) (at : WalkPoint) (h : Here) (b : FlatBlock) : Type 0 where
@@ -93,7 +93,7 @@ pub record IsAt (f : Naming) (r : Region) (at : WalkPoint) (h : Here) (b : FlatB
 abbrev pub course_at : (insts : ℕ) → Midst → Course
 course_at n m = record { insts = n; edges = m.edges; rows = m.rows }
 
--- In the midst of a place, the last one, the edges and ends so far are from places before it, of which one story tells; and by another, which goes on from that, what is told at it is known.
+-- In the middle of a place, the last one, the edges and ends so far are from places before it, of which one story tells; and by another, which goes on from that, what is told at it is known.
 pub record IsMidst (ns : List TermNode) (f : Naming) (r : Region) (w : Walk) (at : WalkPoint) (before : Story) (h : Here) (insts : ℕ) (m : Midst) : Type 0 where
   pub so_far : IsSoFar ns f r w at.turns (at.block + 1) before (course_at insts m)
   pub now : Story
@@ -113,7 +113,7 @@ pub record KnowsFor (u : UnitText) (b : FlatBlockText) (done rest : List LineTex
   pub there : KnowsThere u (as_block b) done k
   pub phis : PhisGiven k rest
 
--- in the midst of a place, between two lines of its block
+-- in the middle of a place, between two lines of its block
 pub record IsBetween (ns : List TermNode) (f : Naming) (name : UnitName) (r : Region) (w : Walk) (at : WalkPoint) (before : Story) (h : Here) (insts : ℕ) (b : FlatBlock) (done rest : List LineText)
     (m : Midst) : Type 0 where
   pub region : IsRegion f r
@@ -151,8 +151,8 @@ abbrev pub takes_line : Naming → Region → Here → FlatInst → Midst → Mi
 takes_line f r h l m = takes (region_text f r) h (flat_line_text f l).inst (flat_line_text f l).result m
 
 -- What a line that is no terminator does is what it does in the definition.
-abbrev pub TakesLine : List TermNode → Region → Walk → WalkPoint → FlatInst → List TermNode → Walk → Type 0
-TakesLine ns r w at l ms q =
+abbrev pub WalksLine : List TermNode → Region → Walk → WalkPoint → FlatInst → List TermNode → Walk → Type 0
+WalksLine ns r w at l ms q =
     (f : Naming) (name : UnitName) (before : Story) (h : Here) (insts : ℕ) (b : FlatBlock) (done rest : List LineText) (m : Midst)
     → IsBetween ns f name r w at before h insts b done (flat_line_text f l ∷ rest) m →
     IsBetween ms f name r q at before h insts b (done ++ flat_line_text f l ∷ []) rest (takes_line f r h l m)

@@ -7,7 +7,7 @@ ghost use Rattle.lh_region_joins.specs.Joins.{IsConditionAt};
 ghost use Rattle.lh_region_places.specs.Asked.{CanAsk, SamePlaces};
 ghost use Rattle.lh_region.specs.Taken.{IsOperation};
 ghost use Rattle.lh_region_walk.specs.Lines as lines;
-ghost use Rattle.lh_region_walk.specs.Walked.{leads_nowhere, CanTake, TakesLine};
+ghost use Rattle.lh_region_walk.specs.Walked.{leads_nowhere, CanTake, WalksLine};
 
 use crate::walk::{Region, Walk, WalkPoint};
 use lh_flat::FlatInst;
@@ -38,7 +38,7 @@ impl Walk {
         requires can { CanTake terms.old region.now self.old at line.now }
         requires inner { leads_nowhere line.now.inst ≡ true }
         ensures kept { Grows terms.old terms.new }
-        ensures taken { OnOk result (TakesLine terms.old region.now self.old at line.now terms.new self.new) }
+        ensures taken { OnOk result (WalksLine terms.old region.now self.old at line.now terms.new self.new) }
     {
         match &line.inst {
             Inst::St { to, value } => give_value(
@@ -77,7 +77,7 @@ impl Walk {
         requires can { CanTake terms.old region.now self.old at line.now }
         requires alone { lines.gives_alone line.now.inst ≡ true }
         ensures kept { Grows terms.old terms.new }
-        ensures taken { OnOk result (TakesLine terms.old region.now self.old at line.now terms.new self.new) }
+        ensures taken { OnOk result (WalksLine terms.old region.now self.old at line.now terms.new self.new) }
     {
         let Some(result) = line.result else {
             return Ok(());
@@ -108,7 +108,7 @@ impl Walk {
     ) -> Result<(), NoMemory>
         requires { CanTake terms.old region.now self.old at (lines.operation_line to op args.now) }
         ensures kept { Grows terms.old terms.new }
-        ensures taken { OnOk result (TakesLine terms.old region.now self.old at (lines.operation_line to op args.now) terms.new self.new) }
+        ensures taken { OnOk result (WalksLine terms.old region.now self.old at (lines.operation_line to op args.now) terms.new self.new) }
     {
         if region.parts.step(to).is_some() {
             return Ok(());
@@ -125,9 +125,9 @@ impl Walk {
         line: &FlatInst,
     ) -> Result<(), NoMemory>
         requires can { CanTake terms.old region.now self.old at line.now }
-        requires probe { lines.IsProbe line.now.inst }
+        requires probe { lines.IsProbeInst line.now.inst }
         ensures kept { Grows terms.old terms.new }
-        ensures taken { OnOk result (TakesLine terms.old region.now self.old at line.now terms.new self.new) }
+        ensures taken { OnOk result (WalksLine terms.old region.now self.old at line.now terms.new self.new) }
     {
         let Inst::Prb(signal) = &line.inst else {
             unreachable!()
@@ -150,9 +150,9 @@ impl Walk {
         line: &FlatInst,
     ) -> Result<(), NoMemory>
         requires can { CanTake terms.old region.now self.old at line.now }
-        requires drive { lines.IsDrive line.now.inst }
+        requires drive { lines.IsDriveInst line.now.inst }
         ensures kept { Grows terms.old terms.new }
-        ensures taken { OnOk result (TakesLine terms.old region.now self.old at line.now terms.new self.new) }
+        ensures taken { OnOk result (WalksLine terms.old region.now self.old at line.now terms.new self.new) }
     {
         let Inst::Drv {
             to,

@@ -159,7 +159,7 @@ fn place_behind(
     target: u32,
 ) -> Result<(Places, WalkPoint), NoMemory>
     ensures kept { Grows terms.old terms.new }
-    ensures behind { IfOk result (λ x. both.IsBehind walk target terms.new x.0.items x.1) }
+    ensures behind { IfOk result (λ x. both.SecondPlaceIsBehind walk target terms.new x.0.items x.1) }
 {
     let Walk {
         mut places,

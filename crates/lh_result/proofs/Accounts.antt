@@ -5,7 +5,7 @@ use Rattle.lh_io.specs.Streams.{Rose, Appends}
 use Rattle.lh_io.specs.declared.stream.Failed.{Failed}
 use Rattle.lh_watch.specs.Members.{Member}
 use Rattle.lh_result.specs.StatusLines.{status_line}
-use Rattle.lh_result.specs.Account.{Use, use_of, Faulted, IsPrefix, IsProperPrefix, Puts, Performs, Account, OfSource, IsResultOrNoMemory}
+use Rattle.lh_result.specs.Account.{SinkUse, use_of, Faulted, IsPrefix, IsProperPrefix, Puts, Performs, Account, OfSource, IsResultOrNoMemory}
 use Rattle.lh_result.specs.declared.status.Status.{Status}
 use Rattle.lh_result.specs.declared.status.Status.TheVariants.{Usage, ReadFault, SourceTooLong, Refused, Top, OutputTooLong, WriteFault, Runaway, AssertFailed, Done, OutOfMemory}
 use Rattle.lh_result.proofs.Results.{IsResult-unique}
@@ -35,7 +35,7 @@ rises_late a b c le rose = λ below. let up : b < c = rose below in omega arith
 rises_early : (a b c : ℕ) → b ≤ c → Rose a b → Rose a c
 rises_early a b c le rose = λ below. let up : a < b = rose (omega arith) in omega arith
 
-account_of : (words : List (List ℕ)) (bytes : List ℕ) (ms : List Member) (ended : Status) (out : Use) (was held now : Option (List ℕ)) (was_faults held_faults faults : ℕ) (left : List Member)
+account_of : (words : List (List ℕ)) (bytes : List ℕ) (ms : List Member) (ended : Status) (out : SinkUse) (was held now : Option (List ℕ)) (was_faults held_faults faults : ℕ) (left : List Member)
     → Performs words bytes ms ended out (use_of was held was_faults held_faults) left → Line held now held_faults faults (status_line ended) → was_faults ≤ held_faults → held_faults ≤ faults
     → Account words bytes ms ended out (use_of was now was_faults faults) left
 account_of words bytes ms ended out was held now was_faults held_faults faults left p l first second = record {
@@ -50,7 +50,7 @@ account_of words bytes ms ended out was held now was_faults held_faults faults l
 }
 
 -- the account of a run, whatever became of its status line
-pub Account-run : (r : Result (Unit {0}) Failed) (words : List (List ℕ)) (source : Option (List ℕ)) (ms : List Member) (ended : Status) (out : Use) (was held now : Option (List ℕ)) (was_faults
+pub Account-run : (r : Result (Unit {0}) Failed) (words : List (List ℕ)) (source : Option (List ℕ)) (ms : List Member) (ended : Status) (out : SinkUse) (was held now : Option (List ℕ)) (was_faults
     held_faults faults : ℕ) (left : List Member) → OfSource source (λ bytes. Performs words bytes ms ended out (use_of was held was_faults held_faults) left)
     → Puts r (use_of held now held_faults faults) (status_line ended) → was_faults ≤ held_faults → held_faults ≤ faults
     → OfSource source (λ bytes. Account words bytes ms ended out (use_of was now was_faults faults) left)
@@ -59,16 +59,16 @@ Account-run r words source ms ended out was held now was_faults held_faults faul
     (λ bytes. Account words bytes ms ended out (use_of was now was_faults faults) left)
     (λ bytes p. account_of words bytes ms ended out was held now was_faults held_faults faults left p (line_of r held now held_faults faults (status_line ended) puts) first second) performs
 
-settled_at : (words : List (List ℕ)) (bytes : List ℕ) (ms : List Member) (ended : Status) (out log : Use) (now : List Member) (p : Performs words bytes ms ended out log now) → ended ≡ p.status
+settled_at : (words : List (List ℕ)) (bytes : List ℕ) (ms : List Member) (ended : Status) (out log : SinkUse) (now : List Member) (p : Performs words bytes ms ended out log now) → ended ≡ p.status
     → IsResultOrNoMemory words bytes ms ended
 settled_at words bytes ms ended out log now p is status o l left result = inl (is ∙ sym (IsResult-unique words bytes ms p.status status p.out_text p.log_text o l p.left left p.result result).0)
 
-no_write_fault : (out log : Use) (a b c d : List ℕ) → (IsProperPrefix a b × Faulted out) ⊎ (IsProperPrefix c d × Faulted log) → (Faulted out → ⊥) → (Faulted log → ⊥) → ⊥
+no_write_fault : (out log : SinkUse) (a b c d : List ℕ) → (IsProperPrefix a b × Faulted out) ⊎ (IsProperPrefix c d × Faulted log) → (Faulted out → ⊥) → (Faulted log → ⊥) → ⊥
 no_write_fault out log a b c d (inl (part, rose)) o l = o rose
 no_write_fault out log a b c d (inr (part, rose)) o l = l rose
 
 -- where no faults rose, the status is that of the result, or memory ran out
-complete_at : (words : List (List ℕ)) (bytes : List ℕ) (ms : List Member) (ended : Status) (out log : Use) (now : List Member) (was_faults faults : ℕ) → Performs words bytes ms ended out log now
+complete_at : (words : List (List ℕ)) (bytes : List ℕ) (ms : List Member) (ended : Status) (out log : SinkUse) (now : List Member) (was_faults faults : ℕ) → Performs words bytes ms ended out log now
     → (ended ≡ ReadFault → Rose was_faults faults) → (Rose was_faults faults → ⊥) → (Faulted out → ⊥) → (Faulted log → ⊥) → IsResultOrNoMemory words bytes ms ended
 complete_at words bytes ms Usage out log now was_faults faults p rose s o l = settled_at words bytes ms Usage out log now p p.sinks.by_status.0
 complete_at words bytes ms SourceTooLong out log now was_faults faults p rose s o l = settled_at words bytes ms SourceTooLong out log now p p.sinks.by_status.0
@@ -82,7 +82,7 @@ complete_at words bytes ms OutOfMemory out log now was_faults faults p rose s o 
 complete_at words bytes ms ReadFault out log now was_faults faults p rose s o l = absurd (s (rose refl))
 complete_at words bytes ms WriteFault out log now was_faults faults p rose s o l = absurd (no_write_fault out log p.sinks.out_part p.out_text p.sinks.log_part p.log_text p.sinks.by_status o l)
 
-pub IsResultOrNoMemory-run : (words : List (List ℕ)) (source : Option (List ℕ)) (ms : List Member) (ended : Status) (out : Use) (was now : Option (List ℕ)) (log_was log_faults : ℕ)
+pub IsResultOrNoMemory-run : (words : List (List ℕ)) (source : Option (List ℕ)) (ms : List Member) (ended : Status) (out : SinkUse) (was now : Option (List ℕ)) (log_was log_faults : ℕ)
     (left : List Member) (was_faults faults : ℕ) → OfSource source (λ bytes. Account words bytes ms ended out (use_of was now log_was log_faults) left) → (ended ≡ ReadFault → Rose was_faults faults)
     → IfSome source (λ bytes. (Rose was_faults faults → ⊥) → (Faulted out → ⊥) → (Rose log_was log_faults → ⊥) → IsResultOrNoMemory words bytes ms ended)
 IsResultOrNoMemory-run words None ms ended out was now log_was log_faults left was_faults faults account rose = tt

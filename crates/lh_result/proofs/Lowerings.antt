@@ -9,7 +9,7 @@ use Rattle.lh_args.specs.Forms.{lower}
 use Rattle.lh_lower_def.specs.Lowering.{lowered, report}
 use Rattle.lh_lower_def.specs.Report.{report_text}
 use Rattle.lh_result.specs.Result.{source_limit, is_too_long, ResultOfLowering}
-use Rattle.lh_result.specs.Account.{Use, use_of, Gained, BreaksOff}
+use Rattle.lh_result.specs.Account.{SinkUse, use_of, Gained, WriteBreaksOff}
 use Rattle.lh_result.specs.Steps.{Carries}
 use Rattle.lh_result.specs.Written.{WritesLowered, IsTexts}
 use Rattle.lh_result.specs.declared.texts.Texts.{Texts}
@@ -30,7 +30,7 @@ makes-none file ms e = subst (λ (b : Bool). ResultOfLowering b file ms OutputTo
 
 -- ---- what is left
 
-pub Carries-lowered : (file : List ItemText) (ms : List Member) (ended : Status) (out log : Use) → WritesLowered file ended out log → Carries lower file ms ended out log ms
+pub Carries-lowered : (file : List ItemText) (ms : List Member) (ended : Status) (out log : SinkUse) → WritesLowered file ended out log → Carries lower file ms ended out log ms
 Carries-lowered file ms Done out log w = record {
   status = Done;
   out_text = canon (lowered file);
@@ -69,7 +69,7 @@ Carries-lowered file ms OutputTooLong out log w = record {
 }
 Carries-lowered file ms WriteFault out log w = by w.1
   where
-    by : (BreaksOff out (canon (lowered file)) × Gained log []) ⊎ (Gained out (canon (lowered file)) × BreaksOff log (report_text (report file))) → Carries lower file ms WriteFault out log ms
+    by : (WriteBreaksOff out (canon (lowered file)) × Gained log []) ⊎ (Gained out (canon (lowered file)) × WriteBreaksOff log (report_text (report file))) → Carries lower file ms WriteFault out log ms
     by (inl (off, none)) = record {
       status = Done;
       out_text = canon (lowered file);

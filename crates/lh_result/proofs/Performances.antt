@@ -17,7 +17,7 @@ use Rattle.lh_selftest.specs.Answer.{answer_of}
 use Rattle.lh_result.specs.Called.{Calls, IsMisuse}
 use Rattle.lh_result.specs.Simulated.{status_by, fault_of, ResultOfRun}
 use Rattle.lh_result.specs.Result.{source_limit, is_too_long, ResultOfLowering, ResultOfCommand, MayLeave, usage, tested, source_too_long, refused, made}
-use Rattle.lh_result.specs.Account.{Use, use_of, IsStatusFor, Leaves, AreLeft, Performs, OfSource, IsCountFor, IsReadToEnd}
+use Rattle.lh_result.specs.Account.{SinkUse, use_of, IsStatusFor, SinksAreLeft, AreLeft, Performs, OfSource, IsCountFor, IsReadToEnd}
 use Rattle.lh_result.specs.Steps.{IsLoaded, Loads, AreLeftBy, Carries, WritesSelfTest}
 use Rattle.lh_result.specs.declared.status.Status.{Status}
 use Rattle.lh_result.specs.declared.status.Status.TheVariants.{Usage, ReadFault, SourceTooLong, Refused, Top, OutputTooLong, WriteFault, Runaway, AssertFailed, Done, OutOfMemory}
@@ -29,11 +29,11 @@ Appends_nothing None = tt
 Appends_nothing (Some written) = ap Some (sym (append-nil written))
 
 -- a sink that nothing was written to
-abbrev pub unused : Option (List ℕ) → ℕ → Use
+abbrev pub unused : Option (List ℕ) → ℕ → SinkUse
 unused written faults = use_of written written faults faults
 
 -- nothing came to the sinks, and the result has no texts
-quiet : (ended status : Status) (ow lw : Option (List ℕ)) (of lf : ℕ) → IsStatusFor ended status [] [] (unused ow of) (unused lw lf) [] [] → Leaves ended status [] [] (unused ow of) (unused lw lf)
+quiet : (ended status : Status) (ow lw : Option (List ℕ)) (of lf : ℕ) → IsStatusFor ended status [] [] (unused ow of) (unused lw lf) [] [] → SinksAreLeft ended status [] [] (unused ow of) (unused lw lf)
 quiet ended status ow lw of lf by_status = record {
   out_part = [];
   log_part = [];
@@ -47,7 +47,7 @@ quiet ended status ow lw of lf by_status = record {
 
 -- nothing came to the sinks, whatever the texts of the result
 pub silent : (ended status : Status) (out_text log_text : List ℕ) (ow lw : Option (List ℕ)) (of lf : ℕ) → IsStatusFor ended status out_text log_text (unused ow of) (unused lw lf) [] []
-    → Leaves ended status out_text log_text (unused ow of) (unused lw lf)
+    → SinksAreLeft ended status out_text log_text (unused ow of) (unused lw lf)
 silent ended status out_text log_text ow lw of lf by_status = record {
   out_part = [];
   log_part = [];
@@ -139,7 +139,7 @@ AreLeft_of words bytes ms left now a file Done calls reads p = p
 AreLeft_of words bytes ms left now a file OutOfMemory calls reads p = inr (a, file, calls, reads, p)
 
 -- a command that was carried out on the file
-pub Performs-carried : (words : List (List ℕ)) (bytes : List ℕ) (ms : List Member) (a : FileRequest) (file : List ItemText) (ended : Status) (out log : Use) (now : List Member) → Calls words ms a
+pub Performs-carried : (words : List (List ℕ)) (bytes : List ℕ) (ms : List Member) (a : FileRequest) (file : List ItemText) (ended : Status) (out log : SinkUse) (now : List Member) → Calls words ms a
     → IsLoaded bytes file → Carries a file ms ended out log now → Performs words bytes ms ended out log now
 Performs-carried words bytes ms a file ended out log now calls loaded c = record {
   status = c.status;
@@ -152,7 +152,7 @@ Performs-carried words bytes ms a file ended out log now calls loaded c = record
 }
 
 -- a self-test
-pub Performs-tested : GeneratedReads → (words : List (List ℕ)) (bytes : List ℕ) (ms : List Member) (links : ℕ) (ended : Status) (out : Use) (lw : Option (List ℕ)) (lf : ℕ)
+pub Performs-tested : GeneratedReads → (words : List (List ℕ)) (bytes : List ℕ) (ms : List Member) (links : ℕ) (ended : Status) (out : SinkUse) (lw : Option (List ℕ)) (lf : ℕ)
     → WordsAskForSelfTest words links → WritesSelfTest links ended out → Performs words bytes ms ended out (unused lw lf) ms
 Performs-tested law words bytes ms links Done out lw lf test (file, reads, gained) = record {
   status = Done;
@@ -265,7 +265,7 @@ IsCarriedStatus SourceTooLong = ⊥
 IsCarriedStatus (Refused why) = ⊥
 IsCarriedStatus _ = Unit {0}
 
-pub Carries-status : (a : FileRequest) (file : List ItemText) (ms : List Member) (ended : Status) (out log : Use) (now : List Member) → Carries a file ms ended out log now → IsCarriedStatus ended
+pub Carries-status : (a : FileRequest) (file : List ItemText) (ms : List Member) (ended : Status) (out log : SinkUse) (now : List Member) → Carries a file ms ended out log now → IsCarriedStatus ended
 Carries-status a file ms Usage out log now c = is_made Usage c.status c.sinks.by_status.0 (ResultOfCommand-status a file ms c.status c.out_text c.log_text c.left c.makes)
 Carries-status a file ms ReadFault out log now c = c.members
 Carries-status a file ms SourceTooLong out log now c = is_made SourceTooLong c.status c.sinks.by_status.0 (ResultOfCommand-status a file ms c.status c.out_text c.log_text c.left c.makes)
@@ -320,7 +320,7 @@ IsTestStatus Done = Unit {0}
 IsTestStatus OutOfMemory = Unit {0}
 IsTestStatus _ = ⊥
 
-pub WritesSelfTest-status : (links : ℕ) (ended : Status) (out : Use) → WritesSelfTest links ended out → IsTestStatus ended
+pub WritesSelfTest-status : (links : ℕ) (ended : Status) (out : SinkUse) → WritesSelfTest links ended out → IsTestStatus ended
 WritesSelfTest-status links Done out h = tt
 WritesSelfTest-status links WriteFault out h = tt
 WritesSelfTest-status links OutOfMemory out h = tt

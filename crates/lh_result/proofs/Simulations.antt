@@ -23,7 +23,7 @@ use Rattle.lh_wave.specs.BrokenOff.{HaveSeen, no_more, one_more, AppendsPrefix, 
 use Rattle.lh_wave.specs.ShownRun.{shown_from_first, ShownRun, ran_away, unless_stopped, shown_behind, shown_run, all_reports, any_failed}
 use Rattle.lh_args.specs.Forms.{SimulateRequest, check, simulate}
 use Rattle.lh_result.specs.Simulated.{fault_of, status_by, ResultOfRun, MayBeLeft}
-use Rattle.lh_result.specs.Account.{Use, use_of, Gained, IsPrefix, IsProperPrefix, IsStatusFor}
+use Rattle.lh_result.specs.Account.{SinkUse, use_of, Gained, IsPrefix, IsProperPrefix, IsStatusFor}
 use Rattle.lh_result.specs.Steps.{AreLeftBy, Carries, WritesCanon, ShowsRun, text_of, wave_status, IsTopStatus}
 use Rattle.lh_result.specs.declared.status.Status.{Status}
 use Rattle.lh_result.specs.declared.status.Status.TheVariants.{Usage, ReadFault, SourceTooLong, Refused, Top, OutputTooLong, WriteFault, Runaway, AssertFailed, Done, OutOfMemory}
@@ -109,7 +109,7 @@ ShowsRun-broken wave.WriteFault vcd d s asked now ow on lw of ofn lf cut rose se
 ShowsRun-broken wave.OutOfMemory vcd d s asked now ow on lw of ofn lf part rose seen = ShowsRun-starved vcd d s asked now ow on lw of ofn lf part seen
 
 -- the log broke off
-pub ShowsRun-unreported : (vcd : Bool) (d : Design) (r : trace.Run) (asked now : List Member) (out : Use) (lw ln : Option (List ℕ)) (lf lfn : ℕ) → Gained out (text_of vcd d (shown_run r asked))
+pub ShowsRun-unreported : (vcd : Bool) (d : Design) (r : trace.Run) (asked now : List Member) (out : SinkUse) (lw ln : Option (List ℕ)) (lf lfn : ℕ) → Gained out (text_of vcd d (shown_run r asked))
     → now ≡ (shown_run r asked).left → AppendsProperPrefix lw ln (all_reports (shown_run r asked)) → Rose lf lfn → ShowsRun vcd d (shown_run r asked) asked WriteFault out (use_of lw ln lf lfn) now
 ShowsRun-unreported vcd d r asked now out lw ln lf lfn gained left cut rose =
     let s = shown_run r asked in
@@ -128,7 +128,7 @@ ShowsRun-unreported vcd d r asked now out lw ln lf lfn gained left cut rose =
     }
 
 -- the status of a whole run is that of the result
-status_for : (e : End) (failed : Bool) (text reports : List ℕ) (out log : Use) → IsStatusFor (status_by e failed) (status_by e failed) text reports out log text reports
+status_for : (e : End) (failed : Bool) (text reports : List ℕ) (out log : SinkUse) → IsStatusFor (status_by e failed) (status_by e failed) text reports out log text reports
 status_for (end.Runaway i) failed text reports out log = (refl, refl, refl)
 status_for end.Quiet true text reports out log = (refl, refl, refl)
 status_for end.Quiet false text reports out log = (refl, refl, refl)
@@ -147,7 +147,7 @@ left_for (end.Stop place) true R C r = r
 left_for (end.Stop place) false R C r = r
 
 -- the run was shown, and reported
-pub ShowsRun-whole : (vcd : Bool) (d : Design) (s : ShownRun) (asked now : List Member) (out log : Use) (e : End) (failed : Bool) → e ≡ s.end → failed ≡ any_failed s → Gained out (text_of vcd d s)
+pub ShowsRun-whole : (vcd : Bool) (d : Design) (s : ShownRun) (asked now : List Member) (out log : SinkUse) (e : End) (failed : Bool) → e ≡ s.end → failed ≡ any_failed s → Gained out (text_of vcd d s)
     → Gained log (all_reports s) → now ≡ s.left → ShowsRun vcd d s asked (status_by e failed) out log now
 ShowsRun-whole vcd d s asked now out log e failed ends fails text reports left =
     let P : End → Type 0 = λ x. ShowsRun vcd d s asked (status_by x failed) out log now in
@@ -169,7 +169,7 @@ ShowsRun-whole vcd d s asked now out log e failed ends fails text reports left =
     subst P (sym ends) (subst Q (sym fails) whole)
 
 -- a simulation whose top elaborates
-pub Carries-shown : (s : SimulateRequest) (file : List ItemText) (ms asked : List Member) (d : Design) (ended : Status) (out log : Use) (now : List Member) → elab file s.top ≡ built d
+pub Carries-shown : (s : SimulateRequest) (file : List ItemText) (ms asked : List Member) (d : Design) (ended : Status) (out log : SinkUse) (now : List Member) → elab file s.top ≡ built d
     → asked ≡ kept s.titles ms → ShowsRun s.vcd d (shown_from_first file d s.steps asked) asked ended out log now → Carries (simulate s) file ms ended out log now
 Carries-shown s file ms asked d ended out log now elaborates chosen shows =
     let run = run_from max_instructions file d s.steps (first_world file d) in
@@ -254,7 +254,7 @@ Carries-refused s file ms AssertFailed ow lw of lf is = absurd is
 Carries-refused s file ms Done ow lw of lf is = absurd is
 
 -- the canonical text, or a part of it
-pub Carries-canon : (file : List ItemText) (ms : List Member) (ended : Status) (out : Use) (lw : Option (List ℕ)) (lf : ℕ) → WritesCanon file ended out
+pub Carries-canon : (file : List ItemText) (ms : List Member) (ended : Status) (out : SinkUse) (lw : Option (List ℕ)) (lf : ℕ) → WritesCanon file ended out
     → Carries check file ms ended out (unused lw lf) ms
 Carries-canon file ms Done out lw lf gained = record {
   status = Done;

@@ -3,9 +3,9 @@ use Rattle.std.proofs.Common.{◌≡◌, ℕ, ◌+◌, ◌-◌, ◌<◌, ◌≤�
 use Rattle.std.proofs.lemmas.List.{take-append-drop, length-drop}
 use Rattle.lh_io.specs.Streams.{Rose, Appends, AppendsProperPrefix}
 use Rattle.lh_io.specs.declared.stream.Failed.{Failed}
-use Rattle.lh_result.specs.Account.{Use, use_of, BreaksOff, Puts}
+use Rattle.lh_result.specs.Account.{SinkUse, use_of, WriteBreaksOff, Puts}
 
-pub BreaksOff_of : (was now : Option (List ℕ)) (was_faults faults : ℕ) (text : List ℕ) → AppendsProperPrefix was now text → Rose was_faults faults → BreaksOff (use_of was now was_faults faults) text
+pub BreaksOff_of : (was now : Option (List ℕ)) (was_faults faults : ℕ) (text : List ℕ) → AppendsProperPrefix was now text → Rose was_faults faults → WriteBreaksOff (use_of was now was_faults faults) text
 BreaksOff_of was now was_faults faults text cut rose = record {
   part = take cut.count text;
   is_prefix = record {
@@ -24,7 +24,7 @@ Puts_of (Ok _) was now was_faults faults text whole cut rose = whole
 Puts_of (Err _) was now was_faults faults text whole cut rose = BreaksOff_of was now was_faults faults text cut rose
 
 -- the first of two texts broke off
-pub BreaksOff_first : (u : Use) (a b : List ℕ) → BreaksOff u a → BreaksOff u (a ++ b)
+pub BreaksOff_first : (u : SinkUse) (a b : List ℕ) → WriteBreaksOff u a → WriteBreaksOff u (a ++ b)
 BreaksOff_first u a b off = record {
   part = off.part;
   is_prefix = record {
@@ -45,8 +45,8 @@ Appends_more (Some xs) mid now a b first second =
     told ∙ ap Some (append_assoc xs a b)
 
 -- the second of two texts broke off
-pub BreaksOff_second : (was mid now : Option (List ℕ)) (was_faults mid_faults faults : ℕ) (a b : List ℕ) → Appends was mid a → was_faults ≤ mid_faults → BreaksOff (use_of mid now mid_faults faults) b
-    → BreaksOff (use_of was now was_faults faults) (a ++ b)
+pub BreaksOff_second : (was mid now : Option (List ℕ)) (was_faults mid_faults faults : ℕ) (a b : List ℕ) → Appends was mid a → was_faults ≤ mid_faults → WriteBreaksOff (use_of mid now mid_faults faults) b
+    → WriteBreaksOff (use_of was now was_faults faults) (a ++ b)
 BreaksOff_second was mid now was_faults mid_faults faults a b first le off = record {
   part = a ++ off.part;
   is_prefix = record {
@@ -65,13 +65,13 @@ Puts_second (Ok _) was mid now was_faults mid_faults faults a b first le puts = 
 Puts_second (Err _) was mid now was_faults mid_faults faults a b first le puts = BreaksOff_second was mid now was_faults mid_faults faults a b first le puts
 
 -- texts may be grouped anew
-pub Puts_regrouped : (r : Result (Unit {0}) Failed) (u : Use) (a b c : List ℕ) → Puts r u (a ++ (b ++ c)) → Puts r u (a ++ b ++ c)
+pub Puts_regrouped : (r : Result (Unit {0}) Failed) (u : SinkUse) (a b c : List ℕ) → Puts r u (a ++ (b ++ c)) → Puts r u (a ++ b ++ c)
 Puts_regrouped r u a b c puts =
     let P : List ℕ → Type 0 = λ t. Puts r u t in
     subst P (sym (append_assoc a b c)) puts
 
 -- the same text
-pub Puts_same : (r : Result (Unit {0}) Failed) (u : Use) (text again : List ℕ) → text ≡ again → Puts r u text → Puts r u again
+pub Puts_same : (r : Result (Unit {0}) Failed) (u : SinkUse) (text again : List ℕ) → text ≡ again → Puts r u text → Puts r u again
 Puts_same r u text again same puts =
     let P : List ℕ → Type 0 = λ t. Puts r u t in
     subst P same puts

@@ -13,21 +13,21 @@ use Rattle.lh_result.specs.declared.status.Status.{Status}
 use Rattle.lh_result.specs.declared.status.Status.TheVariants.{Usage, ReadFault, SourceTooLong, WriteFault, OutOfMemory}
 
 -- a sink before and after: what was written, where it tells, and its count of faults
-pub record Use : Type 0 where
+pub record SinkUse : Type 0 where
   pub was : Option (List ℕ)
   pub now : Option (List ℕ)
   pub was_faults : ℕ
   pub faults : ℕ
 
-abbrev pub use_of : Option (List ℕ) → Option (List ℕ) → ℕ → ℕ → Use
+abbrev pub use_of : Option (List ℕ) → Option (List ℕ) → ℕ → ℕ → SinkUse
 use_of was now was_faults faults = record { was = was; now = now; was_faults = was_faults; faults = faults }
 
 -- the sink gained this text
-abbrev pub Gained : Use → List ℕ → Type 0
+abbrev pub Gained : SinkUse → List ℕ → Type 0
 Gained u text = Appends u.was u.now text
 
 -- the faults of the sink rose
-abbrev pub Faulted : Use → Type 0
+abbrev pub Faulted : SinkUse → Type 0
 Faulted u = Rose u.was_faults u.faults
 
 -- part is a prefix of the text
@@ -41,20 +41,20 @@ pub record IsProperPrefix (part text : List ℕ) : Type 0 where
   pub proper : 0 < length rest
 
 -- a write of the text broke off: the sink gained a proper prefix of it, and its faults rose
-pub record BreaksOff (u : Use) (text : List ℕ) : Type 0 where
+pub record WriteBreaksOff (u : SinkUse) (text : List ℕ) : Type 0 where
   pub part : List ℕ
   pub is_prefix : IsProperPrefix part text
   pub gained : Gained u part
   pub rose : Faulted u
 
 -- the sink gained the text, or the write of it broke off
-abbrev pub Puts : Result (Unit {0}) Failed → Use → List ℕ → Type 0
+abbrev pub Puts : Result (Unit {0}) Failed → SinkUse → List ℕ → Type 0
 Puts (Ok _) u text = Gained u text
-Puts (Err _) u text = BreaksOff u text
+Puts (Err _) u text = WriteBreaksOff u text
 
 -- Which status may be answered for the status of the result, and how much was then written of the texts for the output and the log.
 -- Of the three statuses that a source, a sink or memory brings about each says its cause, but running out of memory has none.
-abbrev pub IsStatusFor : Status → (status : Status) → (out_text log_text : List ℕ) → (out log : Use) → (out_part log_part : List ℕ) → Type 0
+abbrev pub IsStatusFor : Status → (status : Status) → (out_text log_text : List ℕ) → (out log : SinkUse) → (out_part log_part : List ℕ) → Type 0
 IsStatusFor ReadFault status out_text log_text out log out_part log_part = (out_part ≡ []) × (log_part ≡ [])
 IsStatusFor WriteFault status out_text log_text out log out_part log_part =
     (IsProperPrefix out_part out_text × Faulted out) ⊎ (IsProperPrefix log_part log_text × Faulted log)
@@ -63,7 +63,7 @@ IsStatusFor other status out_text log_text out log out_part log_part = (other �
 
 -- What came to the sinks before the status line, where these are the status and the texts of the result. The output gained a prefix
 -- of its text, and the log a prefix of its own, which is empty unless the output gained all.
-pub record Leaves (ended status : Status) (out_text log_text : List ℕ) (out log : Use) : Type 0 where
+pub record SinksAreLeft (ended status : Status) (out_text log_text : List ℕ) (out log : SinkUse) : Type 0 where
   pub out_part : List ℕ
   pub log_part : List ℕ
   pub by_status : IsStatusFor ended status out_text log_text out log out_part log_part
@@ -73,7 +73,7 @@ pub record Leaves (ended status : Status) (out_text log_text : List ℕ) (out lo
   pub out_gained : Gained out out_part
   pub log_gained : Gained log log_part
 
--- Which members are left, where the result leaves `left`. After a read fault they are as they were. After a write fault and for want of
+-- Which members are left, where the result leaves `left`. After a read fault they are as they were. After a write fault, and where there is no
 -- memory they are as they were, or those that may be left where a command did not come to its end.
 abbrev pub AreLeft : Status → (words : List (List ℕ)) → (bytes : List ℕ) → (ms left now : List Member) → Type 0
 AreLeft ReadFault words bytes ms left now = now ≡ ms
@@ -82,18 +82,18 @@ AreLeft OutOfMemory words bytes ms left now = (now ≡ ms) ⊎ ((a : FileRequest
 AreLeft other words bytes ms left now = now ≡ left
 
 -- A run up to its status line: the result by the words, the bytes and the members, what came to the sinks, and which members are left.
-pub record Performs (words : List (List ℕ)) (bytes : List ℕ) (ms : List Member) (ended : Status) (out log : Use) (now : List Member) : Type 0 where
+pub record Performs (words : List (List ℕ)) (bytes : List ℕ) (ms : List Member) (ended : Status) (out log : SinkUse) (now : List Member) : Type 0 where
   pub status : Status
   pub out_text : List ℕ
   pub log_text : List ℕ
   pub left : List Member
   pub result : IsResult words bytes ms status out_text log_text left
-  pub sinks : Leaves ended status out_text log_text out log
+  pub sinks : SinksAreLeft ended status out_text log_text out log
   pub members : AreLeft ended words bytes ms left now
 
 -- The account of a run with this status: what it did up to its status line, and then a prefix of that line in the log, which is whole
 -- where the log's faults did not rise.
-pub record Account (words : List (List ℕ)) (bytes : List ℕ) (ms : List Member) (ended : Status) (out log : Use) (now : List Member) : Type 0 where
+pub record Account (words : List (List ℕ)) (bytes : List ℕ) (ms : List Member) (ended : Status) (out log : SinkUse) (now : List Member) : Type 0 where
   -- what the log held before the line, where it tells, and its count of faults then
   pub held : Option (List ℕ)
   pub held_faults : ℕ

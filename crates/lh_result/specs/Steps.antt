@@ -30,7 +30,7 @@ use Rattle.lh_args.specs.Meant.{meant}
 use Rattle.lh_result.specs.Called.{Calls, IsMisuse}
 use Rattle.lh_result.specs.Simulated.{fault_of, status_by, mode_of}
 use Rattle.lh_result.specs.Result.{source_limit, HasFirstFault, IsRefusedFor, ResultOfCommand, MayLeave}
-use Rattle.lh_result.specs.Account.{Use, Gained, BreaksOff, Leaves}
+use Rattle.lh_result.specs.Account.{SinkUse, Gained, WriteBreaksOff, SinksAreLeft}
 use Rattle.lh_result.specs.declared.status.Refusal.TheVariants.{Syntax, UnitTooLarge, DuplicateName, Invalid}
 use Rattle.lh_result.specs.declared.status.Status.{Status}
 use Rattle.lh_result.specs.declared.status.Status.TheVariants.{ReadFault, SourceTooLong, Refused, Top, WriteFault, Done, OutOfMemory}
@@ -93,26 +93,26 @@ AreLeftBy OutOfMemory result cut_off = cut_off
 AreLeftBy _ result cut_off = result
 
 -- What a command leaves of a well-formed file.
-pub record Carries (a : FileRequest) (file : List ItemText) (ms : List Member) (ended : Status) (out log : Use) (now : List Member) : Type 0 where
+pub record Carries (a : FileRequest) (file : List ItemText) (ms : List Member) (ended : Status) (out log : SinkUse) (now : List Member) : Type 0 where
   pub status : Status
   pub out_text : List ℕ
   pub log_text : List ℕ
   pub left : List Member
   pub makes : ResultOfCommand a file ms status out_text log_text left
-  pub sinks : Leaves ended status out_text log_text out log
+  pub sinks : SinksAreLeft ended status out_text log_text out log
   pub members : AreLeftBy ended (now ≡ left) (MayLeave a file ms now)
 
 -- how much of the canonical text of a file came to the output, by how the writing of it ends
-abbrev pub WritesCanon : List ItemText → Status → (out : Use) → Type 0
+abbrev pub WritesCanon : List ItemText → Status → (out : SinkUse) → Type 0
 WritesCanon file Done out = Gained out (canon file)
-WritesCanon file WriteFault out = BreaksOff out (canon file)
+WritesCanon file WriteFault out = WriteBreaksOff out (canon file)
 WritesCanon file OutOfMemory out = Gained out []
 WritesCanon file _ out = ⊥
 
 -- how much of the text of a self-test came to the output, by how the writing of it ends
-abbrev pub WritesSelfTest : (links : ℕ) → Status → (out : Use) → Type 0
+abbrev pub WritesSelfTest : (links : ℕ) → Status → (out : SinkUse) → Type 0
 WritesSelfTest links Done out = (file : List ItemText) × Reads (generated links) file × Gained out (answer_of file)
-WritesSelfTest links WriteFault out = (file : List ItemText) × Reads (generated links) file × BreaksOff out (answer_of file)
+WritesSelfTest links WriteFault out = (file : List ItemText) × Reads (generated links) file × WriteBreaksOff out (answer_of file)
 WritesSelfTest links OutOfMemory out = Gained out []
 WritesSelfTest links _ out = ⊥
 
@@ -126,8 +126,8 @@ abbrev pub text_of : Bool → Design → ShownRun → List ℕ
 text_of vcd d shown = text_in (mode_of vcd) (shown_in d) (map shown_signal d.signals) shown
 
 -- What showing a run leaves: its text in the output and the reports in the log, or parts of them; and the members, each after all of the frames that are shown, or some of them.
-pub record ShowsRun (vcd : Bool) (d : Design) (shown : ShownRun) (asked : List Member) (ended : Status) (out log : Use) (now : List Member) : Type 0 where
-  pub sinks : Leaves ended (status_by shown.end (any_failed shown)) (text_of vcd d shown) (all_reports shown) out log
+pub record ShowsRun (vcd : Bool) (d : Design) (shown : ShownRun) (asked : List Member) (ended : Status) (out log : SinkUse) (now : List Member) : Type 0 where
+  pub sinks : SinksAreLeft ended (status_by shown.end (any_failed shown)) (text_of vcd d shown) (all_reports shown) out log
   pub members : AreLeftBy ended (now ≡ shown.left) (HaveSeen (pictures None shown.frames) asked now)
 
 -- the status says why a top is not simulated; running out of memory says nothing

@@ -11,7 +11,7 @@ use Rattle.lh_args.specs.Forms.{FileRequest, lower, WordsAskForSelfTest}
 use Rattle.lh_args.proofs.Forms.{one_form, no_file}
 use Rattle.lh_lower_def.specs.Lowering.{lowered, report}
 use Rattle.lh_lower_def.specs.Report.{report_text}
-use Rattle.lh_result.specs.Account.{Use, use_of, Puts, OfSource}
+use Rattle.lh_result.specs.Account.{SinkUse, use_of, Puts, OfSource}
 use Rattle.lh_result.specs.Called.{Calls}
 use Rattle.lh_run.specs.Faithful.{IsSameDesign, LowersFaithfully, KeepsTrace, LowersFile}
 use Rattle.lh_result.specs.Steps.{IsLoaded, Loads}
@@ -36,7 +36,7 @@ same-design bytes file reads k = record {
 }
 
 -- by what a command did on the file that was loaded
-pub faithful : (words : List (List ℕ)) (bytes : List ℕ) (ms : List Member) (a : FileRequest) (file : List ItemText) (ended : Status) (out log : Use) → Calls words ms a → IsLoaded bytes file
+pub faithful : (words : List (List ℕ)) (bytes : List ℕ) (ms : List Member) (a : FileRequest) (file : List ItemText) (ended : Status) (out log : SinkUse) → Calls words ms a → IsLoaded bytes file
     → LowersFile a ended file out log → LowersFaithfully words bytes ended out log
 faithful words bytes ms a file ended out log calls loaded lowers = record {
   where_done = λ said done. (let wrote = lowers.where_done (one_form words a lower calls.asks said) done in
@@ -44,15 +44,15 @@ faithful words bytes ms a file ended out log calls loaded lowers = record {
 }
 
 -- what was not loaded is not done
-pub unloaded : (words : List (List ℕ)) (bytes : List ℕ) (ended : Status) (out log : Use) → Loads bytes (Err ended) → LowersFaithfully words bytes ended out log
+pub unloaded : (words : List (List ℕ)) (bytes : List ℕ) (ended : Status) (out log : SinkUse) → Loads bytes (Err ended) → LowersFaithfully words bytes ended out log
 unloaded words bytes ended out log loads = record { where_done = λ said done. absurd (subst (λ (s : Status). Loads bytes (Err s)) done loads) }
 
 -- misuse is not done
-pub misused : (words : List (List ℕ)) (bytes : List ℕ) (out log : Use) → LowersFaithfully words bytes Usage out log
+pub misused : (words : List (List ℕ)) (bytes : List ℕ) (out log : SinkUse) → LowersFaithfully words bytes Usage out log
 misused words bytes out log = record { where_done = λ said done. absurd cc }
 
 -- a self-test is no `lower`
-pub no_lowering : (words : List (List ℕ)) (bytes : List ℕ) (links : ℕ) (ended : Status) (out log : Use) → WordsAskForSelfTest words links → LowersFaithfully words bytes ended out log
+pub no_lowering : (words : List (List ℕ)) (bytes : List ℕ) (links : ℕ) (ended : Status) (out log : SinkUse) → WordsAskForSelfTest words links → LowersFaithfully words bytes ended out log
 no_lowering words bytes links ended out log test = record { where_done = λ said done. absurd (no_file words links lower test said) }
 
 -- no line is written of what is done
@@ -66,7 +66,7 @@ no-line (Err _) held now was_faults faults off = absurd (no-part off.part off.is
     no-part (x ∷ part) rest e h = absurd cc
 
 -- with the status line
-pub faithful-run : (r : Result (Unit {0}) Failed) (words : List (List ℕ)) (source : Option (List ℕ)) (ended : Status) (out : Use) (was held now : Option (List ℕ)) (was_faults held_faults faults : ℕ)
+pub faithful-run : (r : Result (Unit {0}) Failed) (words : List (List ℕ)) (source : Option (List ℕ)) (ended : Status) (out : SinkUse) (was held now : Option (List ℕ)) (was_faults held_faults faults : ℕ)
     → OfSource source (λ bytes. LowersFaithfully words bytes ended out (use_of was held was_faults held_faults)) → Puts r (use_of held now held_faults faults) (status_line ended)
     → OfSource source (λ bytes. LowersFaithfully words bytes ended out (use_of was now was_faults faults))
 faithful-run r words source ended out was held now was_faults held_faults faults before puts =

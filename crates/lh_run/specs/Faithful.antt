@@ -9,7 +9,7 @@ use Rattle.lh_args.specs.Forms.{FileRequest, lower}
 use Rattle.lh_lower_def.specs.Kept.{Kept}
 use Rattle.lh_lower_def.specs.Lowering.{lowered, report}
 use Rattle.lh_lower_def.specs.Report.{RowText, report_text}
-use Rattle.lh_result.specs.Account.{Use, Gained}
+use Rattle.lh_result.specs.Account.{SinkUse, Gained}
 use Rattle.lh_result.specs.declared.status.Status.{Status}
 use Rattle.lh_result.specs.declared.status.Status.TheVariants.{Done}
 
@@ -29,7 +29,7 @@ pub record IsSameDesign (before after lines : List ℕ) : Type 0 where
   pub same_trace : SameTrace file written
 
 -- Where the words are `lower` and the run is done, the output gained the same design, and the log a line for each process.
-pub record LowersFaithfully (words : List (List ℕ)) (bytes : List ℕ) (ended : Status) (out log : Use) : Type 0 where
+pub record LowersFaithfully (words : List (List ℕ)) (bytes : List ℕ) (ended : Status) (out log : SinkUse) : Type 0 where
   pub where_done : words ≡ codes "lower" ∷ [] → ended ≡ Done → (text : List ℕ) × (lines : List ℕ) × Gained out text × Gained log lines × IsSameDesign bytes text lines
 
 -- ---- the steps to it
@@ -42,5 +42,5 @@ pub record KeepsTrace (file : List ItemText) : Type 0 where
   pub same : SameTrace file (lowered file)
 
 -- where a command on a file is `lower` and is done, it wrote the lowered file and the report
-pub record LowersFile (a : FileRequest) (ended : Status) (file : List ItemText) (out log : Use) : Type 0 where
+pub record LowersFile (a : FileRequest) (ended : Status) (file : List ItemText) (out log : SinkUse) : Type 0 where
   pub where_done : a ≡ lower → ended ≡ Done → KeepsTrace file × Gained out (canon (lowered file)) × Gained log (report_text (report file))

@@ -18,7 +18,7 @@ use lh_types::memory::NoMemory;
 use lh_verify::verify::Verified;
 use std::alloc::Global;
 
-/// Lowers and simulates a chain of so many links, and writes how it went; nothing is read.
+/// Lowers and simulates a chain of this many links, and writes how it went; nothing is read.
 pub fn test_itself<O: Sink>(alloc: Global, links: u32, out: &mut O) -> Status
     requires least { 1 ≤ links }
     requires most { links ≤ max_links }
@@ -42,7 +42,7 @@ fn write_test<O: Sink>(alloc: Global, links: u32, out: &mut O) -> Result<(), Sta
     Ok(())
 }
 
-/// The summary of the runs of a chain of so many links, as it is and lowered.
+/// The summary of the runs of a chain of this many links, as it is and lowered.
 fn selftest(alloc: Global, links: u32) -> Result<Vec<u8>, NoMemory>
     requires some { 1 ≤ links }
     requires few { links ≤ 1000 }

@@ -22,7 +22,7 @@ use Rattle.lh_selftest_design.specs.declared.summary.Counts.{Counts}
 use Rattle.lh_selftest_design.specs.declared.summary.RunSummary.{RunSummary}
 use Rattle.lh_selftest_design.specs.declared.summary.RunEnd.{RunEnd}
 use Rattle.lh_selftest_design.specs.declared.summary.RunEnd.TheVariants.{Quiet, Runaway}
-use Rattle.lh_selftest.specs.Courses.{course_behind, course_on, GoesOn, ComesTo}
+use Rattle.lh_selftest.specs.Courses.{course_behind, course_on, CourseGoesOn, StepComesTo}
 
 -- a run of which some frames were counted, and which has ended
 abbrev over : Counts → RunEnd → RunSummary
@@ -97,14 +97,14 @@ module _ (a : Arena) (d : Design) (seen : List Picture) (n : ℕ) (w : World) wh
 
 -- the step gave nothing
 pub comes_quiet : (s s' : Simulation) (w : World) (x : SimStep) (n : ℕ) (seen : List Picture) (old : Counts) → Stepped s w s' x → x ≡ sim_step.Quiet → old ≡ counts_of seen
-    → ComesTo (Some Quiet) s.arena s.design n (course_on s.arena s.design seen (suc n) w) s' old
+    → StepComesTo (Some Quiet) s.arena s.design n (course_on s.arena s.design seen (suc n) w) s' old
 comes_quiet s s' w x n seen old st e c =
     quiet_then s.arena s.design seen n w (subst (Stepped s w s') e st).0 ∙ ap (λ (k : Counts). over k Quiet) (sym c)
 
 -- it gave a frame
 pub comes_on : (s s' : Simulation) (w : World) (x : SimStep) (f : frames.Frame) (n : ℕ) (seen : List Picture) (new : Counts) → Stepped s w s' x → x ≡ sim_step.Frame f
     → new ≡ counts_of (seen ++ picture f ∷ [])
-    → ComesTo None s.arena s.design n (course_on s.arena s.design seen (suc n) w) s' new
+    → StepComesTo None s.arena s.design n (course_on s.arena s.design seen (suc n) w) s' new
 comes_on s s' w x f n seen new st e c =
     let y : IsNextFrame s w f None × StandsFor s' (world_then s w f.at) = subst (Stepped s w s') e st in
     let at : f.at ≡ y.0.at = ap (λ (p : Picture). p.at) y.0.shows in
@@ -119,7 +119,7 @@ comes_on s s' w x f n seen new st e c =
 -- it gave a frame in which an instance ran away
 pub comes_runaway : (s s' : Simulation) (w : World) (x : SimStep) (f : frames.Frame) (i n : ℕ) (seen : List Picture) (new : Counts) → Stepped s w s' x → x ≡ sim_step.Runaway f i
     → new ≡ counts_of (seen ++ picture f ∷ [])
-    → ComesTo (Some Runaway) s.arena s.design n (course_on s.arena s.design seen (suc n) w) s' new
+    → StepComesTo (Some Runaway) s.arena s.design n (course_on s.arena s.design seen (suc n) w) s' new
 comes_runaway s s' w x f i n seen new st e c =
     let y = (subst (Stepped s w s') e st).0 in
     runaway_then s.arena s.design seen n w y.at i (picture f) y.comes y.ends y.shows ∙ ap (λ (k : Counts). over k Runaway) (sym c)
@@ -127,7 +127,7 @@ comes_runaway s s' w x f i n seen new st e c =
 -- ---- step after step
 
 -- before the first step
-pub going_first : (a : Arena) (d : Design) (n m : ℕ) (w : World) (s : Simulation) (counts : Counts) → m ≡ n → StandsFor s w → counts ≡ counts_of [] → GoesOn a d m (course_on a d [] n w) s counts
+pub going_first : (a : Arena) (d : Design) (n m : ℕ) (w : World) (s : Simulation) (counts : Counts) → m ≡ n → StandsFor s w → counts ≡ counts_of [] → CourseGoesOn a d m (course_on a d [] n w) s counts
 going_first a d n m w s counts e st c = record {
   world = w;
   stands = st;
@@ -137,30 +137,30 @@ going_first a d n m w s counts e st c = record {
 }
 
 -- after one more, by what it came to
-going_next : (a a' : Arena) (d d' : Design) (n m : ℕ) (whole : RunSummary) (s s' : Simulation) (old new : Counts) (o : Option RunEnd) → a' ≡ a → d' ≡ d → m ≡ suc n → GoesOn a d m whole s old
-    → ((k : ℕ) (w : World) (seen : List Picture) → StandsFor s w → old ≡ counts_of seen → ComesTo o a' d' k (course_on a' d' seen (suc k) w) s' new) → ComesTo o a d n whole s' new
+going_next : (a a' : Arena) (d d' : Design) (n m : ℕ) (whole : RunSummary) (s s' : Simulation) (old new : Counts) (o : Option RunEnd) → a' ≡ a → d' ≡ d → m ≡ suc n → CourseGoesOn a d m whole s old
+    → ((k : ℕ) (w : World) (seen : List Picture) → StandsFor s w → old ≡ counts_of seen → StepComesTo o a' d' k (course_on a' d' seen (suc k) w) s' new) → StepComesTo o a d n whole s' new
 going_next a a' d d' n m whole s s' old new o ea ed em g h =
     let here = h n g.world g.seen g.stands g.counted in
-    let in_a = subst (λ (x : Arena). ComesTo o x d' n (course_on x d' g.seen (suc n) g.world) s' new) ea here in
-    let in_d = subst (λ (x : Design). ComesTo o a x n (course_on a x g.seen (suc n) g.world) s' new) ed in_a in
-    subst (λ (c : RunSummary). ComesTo o a d n c s' new) (sym (g.course ∙ ap (λ (k : ℕ). course_on a d g.seen k g.world) em)) in_d
+    let in_a = subst (λ (x : Arena). StepComesTo o x d' n (course_on x d' g.seen (suc n) g.world) s' new) ea here in
+    let in_d = subst (λ (x : Design). StepComesTo o a x n (course_on a x g.seen (suc n) g.world) s' new) ed in_a in
+    subst (λ (c : RunSummary). StepComesTo o a d n c s' new) (sym (g.course ∙ ap (λ (k : ℕ). course_on a d g.seen k g.world) em)) in_d
 
 -- a step after which the run goes on
-pub going_on : (a a' : Arena) (d d' : Design) (n m : ℕ) (whole : RunSummary) (s s' : Simulation) (old new : Counts) (o : Option RunEnd) → a' ≡ a → d' ≡ d → m ≡ suc n → GoesOn a d m whole s old
+pub going_on : (a a' : Arena) (d d' : Design) (n m : ℕ) (whole : RunSummary) (s s' : Simulation) (old new : Counts) (o : Option RunEnd) → a' ≡ a → d' ≡ d → m ≡ suc n → CourseGoesOn a d m whole s old
     → o ≡ None
-    → ((k : ℕ) (w : World) (seen : List Picture) → StandsFor s w → old ≡ counts_of seen → ComesTo o a' d' k (course_on a' d' seen (suc k) w) s' new) → GoesOn a d n whole s' new
+    → ((k : ℕ) (w : World) (seen : List Picture) → StandsFor s w → old ≡ counts_of seen → StepComesTo o a' d' k (course_on a' d' seen (suc k) w) s' new) → CourseGoesOn a d n whole s' new
 going_on a a' d d' n m whole s s' old new o ea ed em g e h =
-    subst (λ (x : Option RunEnd). ComesTo x a d n whole s' new) e (going_next a a' d d' n m whole s s' old new o ea ed em g h)
+    subst (λ (x : Option RunEnd). StepComesTo x a d n whole s' new) e (going_next a a' d d' n m whole s s' old new o ea ed em g h)
 
 -- a step at which the run ended
 pub going_over : (a a' : Arena) (d d' : Design) (n m : ℕ) (whole : RunSummary) (s s' : Simulation) (old new : Counts) (o : Option RunEnd) (ending : RunEnd) → a' ≡ a → d' ≡ d → m ≡ suc n
-    → GoesOn a d m whole s old → o ≡ Some ending
-    → ((k : ℕ) (w : World) (seen : List Picture) → StandsFor s w → old ≡ counts_of seen → ComesTo o a' d' k (course_on a' d' seen (suc k) w) s' new) → over new ending ≡ whole
+    → CourseGoesOn a d m whole s old → o ≡ Some ending
+    → ((k : ℕ) (w : World) (seen : List Picture) → StandsFor s w → old ≡ counts_of seen → StepComesTo o a' d' k (course_on a' d' seen (suc k) w) s' new) → over new ending ≡ whole
 going_over a a' d d' n m whole s s' old new o ending ea ed em g e h =
-    sym (subst (λ (x : Option RunEnd). ComesTo x a d n whole s' new) e (going_next a a' d d' n m whole s s' old new o ea ed em g h))
+    sym (subst (λ (x : Option RunEnd). StepComesTo x a d n whole s' new) e (going_next a a' d d' n m whole s s' old new o ea ed em g h))
 
 -- the bound is reached
-pub going_last : (a : Arena) (d : Design) (m : ℕ) (whole : RunSummary) (s : Simulation) (counts : Counts) (ending : RunEnd) → m ≡ 0 → GoesOn a d m whole s counts
+pub going_last : (a : Arena) (d : Design) (m : ℕ) (whole : RunSummary) (s : Simulation) (counts : Counts) (ending : RunEnd) → m ≡ 0 → CourseGoesOn a d m whole s counts
     → ((w : World) → StandsFor s w → ending ≡ ending_of (at_bound (next_instant w)).end) → over counts ending ≡ whole
 going_last a d m whole s counts ending em g h =
     let at_end = at_its_bound a d g.seen g.world in

@@ -25,7 +25,7 @@ course_on a d seen n w =
 
 -- A run goes on: some frames were seen and counted, and the simulation stands for the world from which the rest of the run goes, in at
 -- most n frames.
-pub record GoesOn (a : Arena) (d : Design) (n : ℕ) (whole : RunSummary) (s : Simulation) (counts : Counts) : Type 0 where
+pub record CourseGoesOn (a : Arena) (d : Design) (n : ℕ) (whole : RunSummary) (s : Simulation) (counts : Counts) : Type 0 where
   pub world : World
   pub stands : StandsFor s world
   pub seen : List Picture
@@ -33,6 +33,6 @@ pub record GoesOn (a : Arena) (d : Design) (n : ℕ) (whole : RunSummary) (s : S
   pub course : whole ≡ course_on a d seen n world
 
 -- what a step comes to: the run goes on, in at most n frames more, or it has ended
-abbrev pub ComesTo : Option RunEnd → Arena → Design → (n : ℕ) → (whole : RunSummary) → Simulation → Counts → Type 0
-ComesTo None a d n whole s counts = GoesOn a d n whole s counts
-ComesTo (Some ending) a d n whole s counts = whole ≡ record { counts = counts; ending = ending }
+abbrev pub StepComesTo : Option RunEnd → Arena → Design → (n : ℕ) → (whole : RunSummary) → Simulation → Counts → Type 0
+StepComesTo None a d n whole s counts = CourseGoesOn a d n whole s counts
+StepComesTo (Some ending) a d n whole s counts = whole ≡ record { counts = counts; ending = ending }

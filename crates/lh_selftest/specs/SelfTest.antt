@@ -31,14 +31,14 @@ units_of file =
       left = count_by (λ (r : RowText). not (is_lowered r.verdict)) (report file);
     }
 
--- The text of a chain of so many links reads as a file, and the answer is the summary of the run of the file and of the run of what the
+-- The text of a chain of this many links reads as a file, and the answer is the summary of the run of the file and of the run of what the
 -- file is lowered to.
 unfoldable pub IsSelfTest : (links : ℕ) → (answer : List ℕ) → Type 0
 IsSelfTest links answer = (file : List ItemText) × Reads (generated links) file × IsSummaryOf file (lowered file) (units_of file) answer
 
 -- ---- on the way to it
 
--- the text is that of a chain of so many links
+-- the text is that of a chain of this many links
 unfoldable pub IsTextOf : (links : ℕ) → (text : List ℕ) → Type 0
 IsTextOf links text = text ≡ generated links
 
@@ -60,7 +60,7 @@ pub record RunsAs (text : List ℕ) (file : List ItemText) : Type 0 where
   pub reads : Reads text file
   pub has_design : HasDesign file
 
--- so does the text of a chain of so many links
+-- so does the text of a chain of this many links
 pub record IsChain (links : ℕ) (file : List ItemText) : Type 0 where
   pub text : List ℕ
   pub is : IsTextOf links text

@@ -13,7 +13,7 @@ use lh_unit::module::Module;
 use lh_verify::verify::{Verified, VerifyCause, VerifyFault, verify};
 use std::alloc::Global;
 
-/// The file of a chain of so many links.
+/// The file of a chain of this many links.
 pub fn chain(alloc: Global, links: u32) -> Result<Verified, NoMemory>
     requires some { 1 ≤ links }
     requires few { links ≤ 1000 }
@@ -23,7 +23,7 @@ pub fn chain(alloc: Global, links: u32) -> Result<Verified, NoMemory>
     file_of(alloc, &text)
 }
 
-/// The text of a chain of so many links, which reads and has no fault.
+/// The text of a chain of this many links, which reads and has no fault.
 fn chain_text(alloc: Global, links: u32) -> Result<Vec<u8>, NoMemory>
     requires some { 1 ≤ links }
     requires few { links ≤ 1000 }

@@ -7,7 +7,7 @@ ghost use Rattle.lh_unit.specs.World.{World, next_instant};
 ghost use Rattle.lh_kernel.specs.Simulation.{StandsFor};
 ghost use Rattle.lh_selftest_design.specs.Summary.{WentSo, chain_name, counts_of, ending_of};
 ghost use Rattle.lh_selftest.specs.SelfTest.{HasDesign};
-ghost use Rattle.lh_selftest.specs.Courses.{ComesTo, course_on};
+ghost use Rattle.lh_selftest.specs.Courses.{StepComesTo, course_on};
 
 use crate::design::design_of;
 use lh_io::count::Count;
@@ -51,7 +51,7 @@ fn step<T: Tally>(
     counts: &mut Counts,
 ) -> Result<Option<RunEnd>, NoMemory>
     ensures comes { IfOk result (λ ending. (n : ℕ) (w : World) (seen : List Picture) → StandsFor sim.old w → counts.old ≡ counts_of seen →
-        ComesTo ending sim.old.arena sim.old.design n (course_on sim.old.arena sim.old.design seen (suc n) w) sim.new counts.new) }
+        StepComesTo ending sim.old.arena sim.old.design n (course_on sim.old.arena sim.old.design seen (suc n) w) sim.new counts.new) }
     ensures module { sim.new.arena ≡ sim.old.arena }
     ensures design { sim.new.design ≡ sim.old.design }
 {

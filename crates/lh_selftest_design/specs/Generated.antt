@@ -105,6 +105,6 @@ testbench =
     ++ codes "    halt\n"
     ++ codes "}\n"
 
--- The text of a chain of so many links.
+-- The text of a chain of this many links.
 abbrev pub generated : (links : ℕ) → List ℕ
 generated n = chain n ++ register ++ adder ++ testbench

@@ -141,6 +141,6 @@ testbench_unit = process "tb" (input "q" word ∷ output "clk" bit ∷ []) (test
 
 -- ---- the file
 
--- The items of the file of a chain of so many links: its entity, the register, the adder and the testbench.
+-- The items of the file of a chain of this many links: its entity, the register, the adder and the testbench.
 abbrev pub chain_file : (links : ℕ) → List ItemText
 chain_file n = unit_text (chain_unit n) ∷ unit_text register_unit ∷ unit_text adder_unit ∷ unit_text testbench_unit ∷ []

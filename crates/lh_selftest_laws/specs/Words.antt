@@ -1,4 +1,4 @@
--- Words by which the items of a file are told.
+-- Words in which the items of a file are written.
 use Rattle.std.specs.Prelude.{ℕ, List, [], ◌∷◌, Some, None, codes, true, false}
 use Prim.Native.String.{String}
 use Rattle.lh_types.specs.Types.{TypeTree, signal_type}

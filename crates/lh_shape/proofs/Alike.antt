@@ -24,7 +24,7 @@ use Rattle.lh_region.specs.declared.rows.EndRow.{EndRow}
 use Rattle.lh_region.specs.declared.rows.Rows.{Rows}
 use Rattle.lh_region.specs.declared.rows.Regions.{Regions}
 use Rattle.lh_shape.specs.Reasons.{is_empty, ends_halted, is_halt, is_once, in_some, is_timed, is_wait, is_same_wait, are_mixed, goes_to_head, waits_for_head, parts_waited, is_insensitive, second_drives, second_ends, row_reasons, first_holding}
-use Rattle.lh_shape.specs.ByIds.{some_way, every_way, is_other_wait, mixed, head_is_next, parts_on, drive_at, drives_at, DriveFits, DrivesFit, later_drives, later_ends, in_either, has_halt, has_assert, has_varying_delay, is_uncovered, is_deaf, drives_early, once_only, reasons_told}
+use Rattle.lh_shape.specs.ByIds.{some_way, every_way, is_other_wait, mixed, head_is_next, parts_on, drive_at, drives_at, DriveRowFits, DrivesFit, later_drives, later_ends, in_either, has_halt, has_assert, has_varying_delay, is_uncovered, is_deaf, drives_early, once_only, reasons_told}
 use Rattle.lh_shape.specs.declared.reason.Reason.{Reason}
 use Rattle.lh_shape.specs.declared.reason.Reason.TheVariants as reason
 
@@ -168,7 +168,7 @@ module _ (ns : List TermNode) where
 
   -- ---- typed drives
 
-  drive-fits : (d : DriveRow) (x : text.Drive) → IsDrive ns d x → DriveTyped x → DriveFits ns d
+  drive-fits : (d : DriveRow) (x : text.Drive) → IsDrive ns d x → DriveTyped x → DriveRowFits ns d
   drive-fits d x h t = record {
     cond = stands-condition ns d.cond x.cond h.cond t.cond;
     value_in = h.value.is_in;

@@ -30,20 +30,20 @@ use Rattle.lh_region.specs.declared.rows.DriveRow.{DriveRow}
 use Rattle.lh_region.proofs.RowLists.{drives-grown, drives-push}
 use Rattle.lh_shape.specs.Merging.{are_alike, merged_from}
 use Rattle.lh_shape.specs.Merged.{MergesDriveIf, MergesDrive}
-use Rattle.lh_shape.specs.ByIds.{drive_at, drives_at, DriveFits, DrivesFit}
+use Rattle.lh_shape.specs.ByIds.{drive_at, drives_at, DriveRowFits, DrivesFit}
 use Rattle.lh_shape.proofs.MergedDriveLaws.{part-alike}
 use Rattle.lh_shape.proofs.Alike.{drive-is}
 
 -- ---- drives as an arena grows
 
-pub drive-grown : (old new : List TermNode) (d : DriveRow) → Grows old new → DriveFits old d → drive_at new d ≡ drive_at old d
+pub drive-grown : (old new : List TermNode) (d : DriveRow) → Grows old new → DriveRowFits old d → drive_at new d ≡ drive_at old d
 drive-grown old new d g f =
     let a = tree_grown old new g d.cond f.cond.is_in in
     let b = tree_grown old new g d.value f.value_in in
     let c = tree_grown old new g d.delay f.delay_in in
     λ i. record { cond = a i; part = d.part; value = b i; delay = c i }
 
-pub fits-grown : (old new : List TermNode) (d : DriveRow) → Grows old new → DriveFits old d → DriveFits new d
+pub fits-grown : (old new : List TermNode) (d : DriveRow) → Grows old new → DriveRowFits old d → DriveRowFits new d
 fits-grown old new d g f = record {
   cond = condition-grown old new d.cond g f.cond;
   value_in = in_grown old new g d.value f.value_in;
@@ -67,7 +67,7 @@ is-grown old new d x g h = record {
   delay = stands_grown old new g d.delay x.delay h.delay;
 }
 
-pub is-itself : (ns : List TermNode) (d : DriveRow) → DriveFits ns d → IsDrive ns d (drive_at ns d)
+pub is-itself : (ns : List TermNode) (d : DriveRow) → DriveRowFits ns d → IsDrive ns d (drive_at ns d)
 is-itself ns d f = record {
   cond = record { is_in = f.cond.is_in; tree = refl };
   part = refl;
@@ -76,7 +76,7 @@ is-itself ns d f = record {
 }
 
 -- one drive for two is of the arena
-merged-fits : (now new : List TermNode) (a b next : DriveRow) → DriveFits now a → DriveFits now b → b.part ≡ a.part → IsDrive new next (drive_merged (drive_at now a) (drive_at now b)) → DriveFits new next
+merged-fits : (now new : List TermNode) (a b next : DriveRow) → DriveRowFits now a → DriveRowFits now b → b.part ≡ a.part → IsDrive new next (drive_merged (drive_at now a) (drive_at now b)) → DriveRowFits new next
 merged-fits now new a b next f g e h =
     let ca : Tree = tree_at (trees now) a.cond in
     let cb : Tree = tree_at (trees now) b.cond in
@@ -110,17 +110,17 @@ pub record MergedSoFar (old now : List TermNode) (all : List text.Drive) (merged
   pub grows : Grows old now
   pub done : List text.Drive
   pub are : AreDrives now merged done
-  pub fits : DriveFits now last
+  pub fits : DriveRowFits now last
   pub rest_fit : DrivesFit old rest
   pub so_far : done ++ merged_from (drive_at now last) (drives_at old rest) ≡ all
 
-pub merged-none : (old : List TermNode) (first last : DriveRow) (merged rest : List DriveRow) → merged ≡ [] → last ≡ first → DriveFits old first → DrivesFit old rest →
+pub merged-none : (old : List TermNode) (first last : DriveRow) (merged rest : List DriveRow) → merged ≡ [] → last ≡ first → DriveRowFits old first → DrivesFit old rest →
     MergedSoFar old old (merged_from (drive_at old first) (drives_at old rest)) merged last rest
 merged-none old first last merged rest m e f g = record {
   grows = grows-none old;
   done = [];
   are = subst (λ (ds : List DriveRow). AreDrives old ds []) (sym m) tt;
-  fits = subst (DriveFits old) (sym e) f;
+  fits = subst (DriveRowFits old) (sym e) f;
   rest_fit = g;
   so_far = ap (λ (d : DriveRow). merged_from (drive_at old d) (drives_at old rest)) e;
 }
@@ -130,7 +130,7 @@ module _ (old now new : List TermNode) (all : List text.Drive) (merged more : Li
   rests : DrivesFit old (d ∷ left)
   rests = subst (DrivesFit old) split h.rest_fit
 
-  pub next-fits : DriveFits now d
+  pub next-fits : DriveRowFits now d
   next-fits = fits-grown old now d h.grows rests.0
 
   same : drive_at now d ≡ drive_at old d
@@ -161,7 +161,7 @@ module _ (old now new : List TermNode) (all : List text.Drive) (merged more : Li
         done = h.done ++ drive_at now last ∷ [];
         are = subst (λ (ds : List DriveRow). AreDrives new ds (h.done ++ drive_at now last ∷ [])) (sym t.0)
             (drives-grown now new (merged ++ last ∷ []) (h.done ++ drive_at now last ∷ []) g (drives-push now merged h.done last (drive_at now last) h.are (is-itself now last h.fits)));
-        fits = subst (DriveFits new) (sym t.1) (fits-grown now new d g next-fits);
+        fits = subst (DriveRowFits new) (sym t.1) (fits-grown now new d g next-fits);
         rest_fit = rests.1;
         so_far =
             ap (λ (x : DriveRow). (h.done ++ drive_at now last ∷ []) ++ merged_from (drive_at new x) (drives_at old left)) t.1
@@ -203,7 +203,7 @@ beyond-conditions ns c d ts i w e =
 -- ---- `join`
 
 -- the choice between the values of two drives
-pub join-chooses : (old new : List TermNode) (a b : DriveRow) (t : TermId) → Grows old new → DriveFits old a → DriveFits old b → b.part ≡ a.part
+pub join-chooses : (old new : List TermNode) (a b : DriveRow) (t : TermId) → Grows old new → DriveRowFits old a → DriveRowFits old b → b.part ≡ a.part
     → StandsForTree new t (beyond (tree_at (trees old) a.cond) (tree_at (trees old) b.cond)) →
     Chooses (type_of (tree_at (trees new) t)) (type_of (tree_at (trees new) a.value)) (type_of (tree_at (trees new) b.value))
 join-chooses old new a b t g f k e h =
@@ -215,7 +215,7 @@ join-chooses old new a b t g f k e h =
     (one, va ∙ ap (λ (p : Part). p.ty) (sym e) ∙ sym vb)
 
 -- what was made is the drive of both
-pub join-is : (old one two new : List TermNode) (a b : DriveRow) (t value cond : TermId) → Grows old one → Grows one two → Grows two new → DriveFits old a → DriveFits old b →
+pub join-is : (old one two new : List TermNode) (a b : DriveRow) (t value cond : TermId) → Grows old one → Grows one two → Grows two new → DriveRowFits old a → DriveRowFits old b →
     StandsForTree one t (beyond (tree_at (trees old) a.cond) (tree_at (trees old) b.cond)) →
     StandsForTree two value (make_choice (tree_at (trees one) t) (tree_at (trees one) a.value) (tree_at (trees one) b.value)) →
     StandsForTree new cond (make_operation Or (tree_at (trees two) a.cond ∷ tree_at (trees two) b.cond ∷ [])) →

@@ -25,8 +25,8 @@ use Rattle.lh_region.specs.declared.rows.Regions.{Regions}
 use Rattle.lh_shape.specs.Reasons.{is_once, waits_for_head, parts_waited, second_drives, row_reasons, trigger_reasons, reasons, first_holding}
 use Rattle.lh_shape.specs.Merging.{merged_drives}
 use Rattle.lh_shape.specs.Shapes.{ShapeText, comb, edge, once, left, edge_row, shaped, unless_left, shape_by_rows}
-use Rattle.lh_shape.specs.ByIds.{head_is_next, parts_on, drive_at, drives_at, DriveFits, DrivesFit, later_drives, reasons_told, once_only}
-use Rattle.lh_shape.specs.Answers.{IsEdgeRow, AreEdgeRows, IsShape, IsTarget, ShowsEdge, AddsRow, EdgeRowOrReason, Finds, AddsFound, GivesRows}
+use Rattle.lh_shape.specs.ByIds.{head_is_next, parts_on, drive_at, drives_at, DriveRowFits, DrivesFit, later_drives, reasons_told, once_only}
+use Rattle.lh_shape.specs.Answers.{IsEdgeRow, AreEdgeRows, IsShape, IsShapeOf, ShowsEdge, AddsRow, EdgeRowOrReason, Finds, AddsFound, GivesRows}
 use Rattle.lh_shape.specs.declared.reason.Reason.{Reason}
 use Rattle.lh_shape.specs.declared.reason.Reason.TheVariants as reason
 use Rattle.lh_shape.specs.declared.kinds.Shape.{Shape}
@@ -152,7 +152,7 @@ module _ (old now new : List TermNode) (waited : List Part) (all : List text.Dri
   rests : DrivesFit old (d ∷ left)
   rests = subst (DrivesFit old) split h.rest_fit
 
-  pub row-fits : DriveFits now d
+  pub row-fits : DriveRowFits now d
   row-fits = fits-grown old now d h.grows rests.0
 
   -- the drive was added by what was found for its condition
@@ -289,7 +289,7 @@ module _ (ns : List TermNode) (r : Regions) (x : texts.Regions) (h : AreRegions 
 
   -- combinational or registers, as the region waits for the head or not
   by-target : (new : List TermNode) (s : Shape) (mid : List TermNode) (waited : List Part) (rows : List EdgeRow) → waited ≡ on → drives_at mid r.first.drives ≡ x.first.drives → Grows mid new
-      → AreEdgeRows mid rows (map (edge_row waited) (drives_at ns (later_drives r))) → (b : Bool) → waits_for_head x.first.ends ≡ b → IsTarget b mid new waited r.first.drives rows s
+      → AreEdgeRows mid rows (map (edge_row waited) (drives_at ns (later_drives r))) → (b : Bool) → waits_for_head x.first.ends ≡ b → IsShapeOf b mid new waited r.first.drives rows s
       → IsShape new s (shaped x)
   by-target new s mid waited rows v firsts g k true e t =
       let both : comb waited (merged_drives (drives_at mid r.first.drives)) ≡ comb on (merged_drives x.first.drives) = (λ i. comb (v i) (merged_drives (firsts i))) in
@@ -304,7 +304,7 @@ module _ (ns : List TermNode) (r : Regions) (x : texts.Regions) (h : AreRegions 
 
   pub conditions-shape : (mid new : List TermNode) (waited : List Part) (rows : List EdgeRow) (s : Shape) → waited ≡ parts_on r.first.ends → drives_at mid r.first.drives ≡ drives_at ns r.first.drives
       → Grows mid new
-      → GivesRows mid waited (drives_at ns (later_drives r)) rows → IsTarget (head_is_next r.first.ends) mid new waited r.first.drives rows s
+      → GivesRows mid waited (drives_at ns (later_drives r)) rows → IsShapeOf (head_is_next r.first.ends) mid new waited r.first.drives rows s
       → IsShape new s (unless_left (first_holding (trigger_reasons on (second_drives x))) (shaped x))
   conditions-shape mid new waited rows s w d g k t =
       let v : waited ≡ on = w ∙ waited-are in

@@ -49,9 +49,9 @@ IsShape ns _ _ = ⊥
 -- ---- what the calls compute on the way
 
 -- combinational with the merged drives, where the region waits for the head; else these registers
-abbrev pub IsTarget : Bool → (old new : List TermNode) → (waited : List Part) → List DriveRow → List EdgeRow → Shape → Type 0
-IsTarget true old new waited ds rs s = IsShape new s (comb waited (merged_drives (drives_at old ds)))
-IsTarget false old new waited ds rs s = s ≡ kind.Edge rs
+abbrev pub IsShapeOf : Bool → (old new : List TermNode) → (waited : List Part) → List DriveRow → List EdgeRow → Shape → Type 0
+IsShapeOf true old new waited ds rs s = IsShape new s (comb waited (merged_drives (drives_at old ds)))
+IsShapeOf false old new waited ds rs s = s ≡ kind.Edge rs
 
 -- the condition of a drive has few atoms and is edge-shown
 pub record ShowsEdge (waited : List Part) (d : Drive) : Type 0 where

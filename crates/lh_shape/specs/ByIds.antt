@@ -11,7 +11,7 @@ use Rattle.lh_edge.specs.Atoms.{contains_past}
 use Rattle.lh_region_def.specs.Rows as text
 use Rattle.lh_region_def.specs.Regions.{waited_parts}
 use Rattle.lh_region.specs.Stands.{way_text}
-pub use Rattle.lh_region.specs.Stands.{DriveFits, DrivesFit, later_drives, RegionsFit}
+pub use Rattle.lh_region.specs.Stands.{DriveRowFits, DrivesFit, later_drives, RegionsFit}
 use Rattle.lh_region.specs.declared.rows.DriveRow.{DriveRow}
 use Rattle.lh_region.specs.declared.rows.EndRow.{EndRow}
 use Rattle.lh_region.specs.declared.rows.Rows.{Rows}

@@ -4,7 +4,7 @@ ghost use Rattle.lh_region_joins.specs.Joins.{IsConditionAt};
 ghost use Rattle.lh_term.specs.Arena.{trees, tree_at, StandsForTree, Grows};
 ghost use Rattle.lh_region.specs.Stands.{IsDrive, AreDrives};
 ghost use Rattle.lh_region_def.specs.Adjacent.{beyond, drive_merged};
-ghost use Rattle.lh_shape.specs.ByIds.{drive_at, drives_at, DriveFits, DrivesFit};
+ghost use Rattle.lh_shape.specs.ByIds.{drive_at, drives_at, DriveRowFits, DrivesFit};
 ghost use Rattle.lh_shape.specs.Merging as spec;
 ghost use Rattle.lh_shape.specs.Merged.{MergesDrive};
 
@@ -36,7 +36,7 @@ fn merged_from(
     first: &DriveRow,
     rest: &[DriveRow],
 ) -> Result<DriveList, NoMemory>
-    requires first_fits { DriveFits terms.old first.now }
+    requires first_fits { DriveRowFits terms.old first.now }
     requires rest_fits { DrivesFit terms.old rest.now }
     ensures are { IfOk result (λ merged. AreDrives terms.new merged (spec.merged_from (drive_at terms.old first.now) (drives_at terms.old rest.now))) }
     ensures kept { Grows terms.old terms.new }
@@ -58,8 +58,8 @@ fn take(
     last: DriveRow,
     drive: &DriveRow,
 ) -> Result<DriveRow, NoMemory>
-    requires last_fits { DriveFits terms.old last }
-    requires drive_fits { DriveFits terms.old drive.now }
+    requires last_fits { DriveRowFits terms.old last }
+    requires drive_fits { DriveRowFits terms.old drive.now }
     ensures takes { IfOk result (λ next. MergesDrive terms.old terms.new merged.old last drive.now merged.new next) }
     ensures kept { Grows terms.old terms.new }
 {
@@ -80,8 +80,8 @@ fn take(
 
 /// Whether two drives drive one part after one delay.
 fn are_alike(terms: &Terms, a: &DriveRow, b: &DriveRow) -> bool
-    requires a_fits { DriveFits terms.now a.now }
-    requires b_fits { DriveFits terms.now b.now }
+    requires a_fits { DriveRowFits terms.now a.now }
+    requires b_fits { DriveRowFits terms.now b.now }
     ensures { result ≡ spec.are_alike (drive_at terms.now a.now) (drive_at terms.now b.now) }
 {
     a.part == b.part && terms.same(a.delay, b.delay)
@@ -94,8 +94,8 @@ fn join(
     first: &mut DriveRow,
     second: &DriveRow,
 ) -> Result<(), NoMemory>
-    requires first_fits { DriveFits terms.old first.old }
-    requires second_fits { DriveFits terms.old second.now }
+    requires first_fits { DriveRowFits terms.old first.old }
+    requires second_fits { DriveRowFits terms.old second.now }
     requires alike { second.now.part ≡ first.old.part }
     ensures is { OnOk result (IsDrive terms.new first.new (drive_merged (drive_at terms.old first.old) (drive_at terms.old second.now))) }
     ensures kept { Grows terms.old terms.new }

@@ -30,7 +30,7 @@ pub(crate) fn some_drives_past(
 
 /// Whether a value before is in what a drive drives, by the flags of all terms.
 fn has_past(_terms: &Terms, flags: &[bool], drive: &DriveRow) -> bool
-    requires fits { ids.DriveFits _terms.now drive.now }
+    requires fits { ids.DriveRowFits _terms.now drive.now }
     requires tell { TellPasts _terms.now flags.now }
     requires all { length flags.now ≡ length _terms.now }
     ensures { result ≡ ids.drives_past _terms.now drive.now }

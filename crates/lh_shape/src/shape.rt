@@ -5,7 +5,7 @@ ghost use Rattle.lh_term.specs.Types.{type_of};
 ghost use Rattle.lh_term.specs.Arena.{trees, tree_at, IsIn, Grows};
 ghost use Rattle.lh_region_def.specs.Regions.{Regions as RegionsOf};
 ghost use Rattle.lh_region.specs.Stands.{AreRegions};
-ghost use Rattle.lh_shape.specs.Answers.{IsShape, IsTarget, Finds, AddsFound, AreRegisters};
+ghost use Rattle.lh_shape.specs.Answers.{IsShape, IsShapeOf, Finds, AddsFound, AreRegisters};
 ghost use Rattle.lh_shape.specs.ByIds as ids;
 ghost use Rattle.lh_shape.specs.ByIds.{drives_at, later_drives, DrivesFit, RegionsFit};
 ghost use Rattle.lh_shape.specs.Reasons.{first_holding};
@@ -111,7 +111,7 @@ fn by_target(
     first: &Rows,
 ) -> Result<Shape, NoMemory>
     requires { DrivesFit terms.old first.now.drives }
-    ensures is { IfOk result (λ shape. IsTarget (ids.head_is_next first.now.ends) terms.old terms.new waited first.now.drives rows shape) }
+    ensures is { IfOk result (λ shape. IsShapeOf (ids.head_is_next first.now.ends) terms.old terms.new waited first.now.drives rows shape) }
     ensures kept { Grows terms.old terms.new }
 {
     if head_is_next(first.ends.as_slice()) {

@@ -10,7 +10,7 @@ use Rattle.std.proofs.lemmas.Bool.{or_cases, or_left, or_right}
 use Rattle.std.proofs.Math.Bool.{or-false}
 use Rattle.lh_types.specs.Same.{nat_eq-refl, nat_eq-is}
 use Rattle.lh_term.specs.Arena.{terms_in, ids_below, AreIn}
-use Rattle.lh_term.specs.Reach.{Leads, is_on, AllPass, Leaves, GoesOn, GoOn, none_left, PassesOn, AreReached}
+use Rattle.lh_term.specs.Reach.{Leads, is_on, AllPass, LeavesChildren, LooksFurther, GoOn, none_left, PassesOn, AreReached}
 use Rattle.lh_term.specs.declared.term.TermId.{TermId}
 use Rattle.lh_term.specs.declared.term.Term.{Term}
 use Rattle.lh_term.specs.declared.term.TermNode.{TermNode}
@@ -100,7 +100,7 @@ reached_start leads ns xs s f i e h = record {
     is q = h q ∙ ap (λ ks. is_on xs q || list_any (is_at (nat_cmp q)) ks) e ∙ or-false (is_on xs q)
 
 go_on_push : (leads : Leads) (ns : List TermNode) (f g : ℕ → Bool) (ids : List TermId) (x : TermId) → ((more : List TermId) (i : ℕ) → (is_on more i || f i) ≡ true → (is_on (more ++ x ∷ []) i || g i) ≡ true)
-    → ((k : Term) → slice_get (terms_in ns) x.0 ≡ Some k → GoesOn leads ns g x [] k) → GoOn leads ns f ids → GoOn leads ns g (ids ++ x ∷ [])
+    → ((k : Term) → slice_get (terms_in ns) x.0 ≡ Some k → LooksFurther leads ns g x [] k) → GoOn leads ns f ids → GoOn leads ns g (ids ++ x ∷ [])
 go_on_push leads ns f g [] x h s r = (s, tt)
 go_on_push leads ns f g (y ∷ ids) x h s r = (
   λ k at. let o = r.0 k at in record { shown = o.shown; on = pass_more (λ i. is_on ids i || f i) (λ i. is_on (ids ++ x ∷ []) i || g i) (leads k) (h ids) o.on },
@@ -109,7 +109,7 @@ go_on_push leads ns f g (y ∷ ids) x h s r = (
 
 -- a term was looked at
 pub reached_next : (leads : Leads) (ns : List TermNode) (xs ids : List TermId) (f g h : ℕ → Bool) (x : TermId) (k : Term) → slice_get (terms_in ns) x.0 ≡ Some k → Taken f g x.0
-    → Leaves leads ns x g h k → ReachedSoFar leads ns xs f ids → ReachedSoFar leads ns xs h (ids ++ x ∷ [])
+    → LeavesChildren leads ns x g h k → ReachedSoFar leads ns xs f ids → ReachedSoFar leads ns xs h (ids ++ x ∷ [])
 reached_next leads ns xs ids f g h x k at t u s = record {
   below = λ q e. elim (cases q e) [
     | inl o ↦ let a : q < x.0 = on_below x.0 to q u.below o in let b : x.0 < length ns = s.below x.0 t.was in omega arith
@@ -117,7 +117,7 @@ reached_next leads ns xs ids f g h x k at t u s = record {
   ];
   are_in = in_push (length ns) ids x s.are_in (s.below x.0 t.was);
   there = pass_more (λ i. is_on ids i || f i) (λ i. is_on (ids ++ x ∷ []) i || h i) xs (still ids) s.there;
-  go_on = go_on_push leads ns f h ids x still (λ m is. subst (λ (z : Term). GoesOn leads ns h x [] z) (same m is) (record { shown = u.shown; on = pass_own h to from_own })) s.go_on;
+  go_on = go_on_push leads ns f h ids x still (λ m is. subst (λ (z : Term). LooksFurther leads ns h x [] z) (same m is) (record { shown = u.shown; on = pass_own h to from_own })) s.go_on;
   only = λ p c e. pass_push p ids x (s.only p c e) (s.left p c e x.0 t.was);
   left = λ p c e q o. elim (cases q o) [
     | inl z ↦ pass_on p to q (c x.0 k at u.shown (s.left p c e x.0 t.was)) z
@@ -147,7 +147,7 @@ reached_next leads ns xs ids f g h x k at t u s = record {
     ]
 
 -- what is left to be looked at is before the term
-pub next_less : (leads : Leads) (ns : List TermNode) (f g h : ℕ → Bool) (x : TermId) (k : Term) → Taken f g x.0 → Leaves leads ns x g h k → (q : ℕ) → h q ≡ true → q < x.0
+pub next_less : (leads : Leads) (ns : List TermNode) (f g h : ℕ → Bool) (x : TermId) (k : Term) → Taken f g x.0 → LeavesChildren leads ns x g h k → (q : ℕ) → h q ≡ true → q < x.0
 next_less leads ns f g h x k t u q e = elim (or_cases (is_on (leads k) q) (g q) (sym (u.left q) ∙ e)) [
   | inl o ↦ on_below x.0 (leads k) q u.below o
   | inr r ↦ t.less q r
@@ -174,7 +174,7 @@ or_false : (a : Bool) → (a || false) ≡ true → a ≡ true
 or_false true e = refl
 or_false false e = e
 
-pub is_behind : (leads : Leads) (ns : List TermNode) (x : TermId) (more : List TermId) (k : Term) → GoesOn leads ns none_left x more k → AllPass (is_on more) (leads k)
+pub is_behind : (leads : Leads) (ns : List TermNode) (x : TermId) (more : List TermId) (k : Term) → LooksFurther leads ns none_left x more k → AllPass (is_on more) (leads k)
 is_behind leads ns x more k o = pass_more (λ i. is_on more i || false) (is_on more) (leads k) (λ i e. or_false (is_on more i) e) o.on
 
 -- those to which the term at a place leads are behind it

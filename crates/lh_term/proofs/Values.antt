@@ -24,7 +24,7 @@ count_row : (vs : List Val) → length vs ≡ part_count (data_row (map datum_of
 count_row [] = refl
 count_row (v ∷ vs) = omega (arith, count_row vs)
 
--- the type of an array is that of so many of its first
+-- the type of an array is that of as many of its first
 pub array_of : (vs : List Val) (v : Val) → slice_get vs 0 ≡ Some v
     → array_type (length vs) (value_type (datum_of v)) ≡ array_type (part_count (data_row (map datum_of vs))) (first_type (data_row (map datum_of vs)))
 array_of [] v e = cc
@@ -51,7 +51,7 @@ pub all_types : (fields : List TypeTree) (vs : List Val) (ds : List Datum) (i : 
     → row_of fields ≡ value_types (data_row ds)
 all_types fields vs ds i w e h = ap row_of (e ∙ ap (map (λ (v : Val). value_type (datum_of v))) (take_all vs i h)) ∙ types_in vs ∙ ap (λ xs. value_types (data_row xs)) w
 
--- the array is of so many of the first
+-- the array is of as many of the first
 pub whole_array : (vs : List Val) (ds : List Datum) (v : Val) (t : TypeTree) → map datum_of vs ≡ ds → slice_get vs 0 ≡ Some v → t ≡ value_type (datum_of v)
     → array_type (length vs) t ≡ value_type (array_value (data_row ds))
 whole_array vs ds v t w at e = ap (array_type (length vs)) e ∙ array_of vs v at ∙ ap (λ xs. value_type (array_value (data_row xs))) w

@@ -32,20 +32,20 @@ AllPass f [] = Unit {0}
 AllPass f (x ∷ xs) = (f x.0 ≡ true) × AllPass f xs
 
 -- the terms to which x, whose term is k, leads were left to be looked at; they are before it
-pub record Leaves (leads : Leads) (ns : List TermNode) (x : TermId) (old new : ℕ → Bool) (k : Term) : Type 0 where
+pub record LeavesChildren (leads : Leads) (ns : List TermNode) (x : TermId) (old new : ℕ → Bool) (k : Term) : Type 0 where
   pub shown : term_tree (trees ns) k ≡ tree_at (trees ns) x
   pub below : ids_below x.0 (leads k) ≡ true
   pub left : (q : ℕ) → new q ≡ (is_on (leads k) q || old q)
 
 -- k is the term of x, and those to which it leads are among more, or are still to be looked at
-pub record GoesOn (leads : Leads) (ns : List TermNode) (left : ℕ → Bool) (x : TermId) (more : List TermId) (k : Term) : Type 0 where
+pub record LooksFurther (leads : Leads) (ns : List TermNode) (left : ℕ → Bool) (x : TermId) (more : List TermId) (k : Term) : Type 0 where
   pub shown : term_tree (trees ns) k ≡ tree_at (trees ns) x
   pub on : AllPass (λ i. is_on more i || left i) (leads k)
 
 -- each of these terms leads to those behind it, or to what is still to be looked at
 abbrev pub GoOn : Leads → List TermNode → (ℕ → Bool) → List TermId → Type 0
 GoOn leads ns left [] = Unit {0}
-GoOn leads ns left (x ∷ more) = ((k : Term) → slice_get (terms_in ns) x.0 ≡ Some k → GoesOn leads ns left x more k) × GoOn leads ns left more
+GoOn leads ns left (x ∷ more) = ((k : Term) → slice_get (terms_in ns) x.0 ≡ Some k → LooksFurther leads ns left x more k) × GoOn leads ns left more
 
 abbrev pub none_left : ℕ → Bool
 none_left i = false

@@ -3,7 +3,7 @@ ghost use Rattle.std.specs.Prelude.{◌≡◌, ◌||◌, ℕ, Some, slice_get, n
 ghost use Rattle.std.specs.Ordering.{nat_cmp};
 ghost use Rattle.std.specs.BTreeSet as sorted;
 ghost use Rattle.lh_term.specs.Arena.{terms_in, IsIn, AreIn};
-ghost use Rattle.lh_term.specs.Reach.{operands_of, is_on, Leaves, AreReached};
+ghost use Rattle.lh_term.specs.Reach.{operands_of, is_on, LeavesChildren, AreReached};
 ghost use Rattle.lh_term.specs.declared.term.Term.{Term as TermOf};
 
 use crate::term::{Term, TermId};
@@ -33,7 +33,7 @@ impl Terms {
     /// Leaves the operands of a term to be looked at, by their ids.
     pub fn leave_operands(&self, x: TermId, left: &mut BTreeSet<usize>) -> Result<(), NoMemory>
         requires { IsIn self.now x }
-        ensures { OnOk result ((k : TermOf) → slice_get (terms_in self.now) x.0 ≡ Some k → Leaves operands_of self.now x (sorted.contains nat_cmp left.old) (sorted.contains nat_cmp left.new) k) }
+        ensures { OnOk result ((k : TermOf) → slice_get (terms_in self.now) x.0 ≡ Some k → LeavesChildren operands_of self.now x (sorted.contains nat_cmp left.old) (sorted.contains nat_cmp left.new) k) }
     {
         match self.view(x) {
             Term::Op { args, .. } => leave_all(args.as_slice(), left),

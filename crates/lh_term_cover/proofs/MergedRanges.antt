@@ -12,7 +12,7 @@ use Rattle.lh_term_cover.specs.Bits.{has_bit, is_waited}
 use Rattle.std.proofs.lemmas.Bool.Decides.{nat_tests}
 use Rattle.std.proofs.Math.Bool.{or_assoc}
 use Rattle.lh_term_cover.specs.declared.runs.CoverRun.{CoverRun}
-use Rattle.lh_term_cover.specs.Runs.{in_run, in_runs, IsBefore, IsBeforeAll, AreApart, IsCover, run_of, runs_of, touches, longer, merged_from, merged}
+use Rattle.lh_term_cover.specs.Runs.{in_run, in_runs, IsBefore, RunIsBeforeAll, AreApart, IsCover, run_of, runs_of, touches, longer, merged_from, merged}
 
 -- r begins no later than s
 pub record StartsBy (r s : CoverRun) : Type 0 where
@@ -44,10 +44,10 @@ before_longer x last r b = record { arg = b.arg; end = b.end }
 before_next : (x last r : CoverRun) → IsBefore x last → StartsBy last r → IsBefore x r
 before_next x last r b s = record { arg = omega (arith, b.arg, s.arg); end = λ e. omega (arith, b.arg, s.arg, b.end, s.lo) }
 
-pub before_merged : (x last : CoverRun) (rs : List CoverRun) → IsBefore x last → StartsFirst last rs → AreSorted rs → IsBeforeAll x (merged_from last rs)
+pub before_merged : (x last : CoverRun) (rs : List CoverRun) → IsBefore x last → StartsFirst last rs → AreSorted rs → RunIsBeforeAll x (merged_from last rs)
 before_merged x last [] b s u = (b, tt)
 before_merged x last (r ∷ rs) b s u =
-    elim (touches last r) as (λ t. IsBeforeAll x (if t then merged_from (longer last r) rs else last ∷ merged_from r rs)) [
+    elim (touches last r) as (λ t. RunIsBeforeAll x (if t then merged_from (longer last r) rs else last ∷ merged_from r rs)) [
       | true ↦ before_merged x (longer last r) rs (before_longer x last r b) (longer_starts last r rs s u.0) u.1
       | false ↦ (b, before_merged x r rs (before_next x last r b s) u.0 u.1)
     ]

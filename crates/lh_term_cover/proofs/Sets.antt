@@ -9,7 +9,7 @@ use Rattle.lh_term.specs.declared.part.Part.{Part}
 use Rattle.lh_term_cover.specs.declared.runs.CoverRun.{CoverRun}
 use Rattle.lh_term_cover.specs.declared.Cover.{Cover}
 use Rattle.lh_term_cover.specs.Bits.{has_bit, is_waited, are_waited, covers, same_bits}
-use Rattle.lh_term_cover.specs.Runs.{in_run, in_runs, IsBeforeAll, AreApart, IsCover, same_runs}
+use Rattle.lh_term_cover.specs.Runs.{in_run, in_runs, RunIsBeforeAll, AreApart, IsCover, same_runs}
 use Rattle.lh_term_cover.proofs.Within.{in_one, beyond}
 
 -- ---- the ranges are told by the bits
@@ -28,13 +28,13 @@ pub record NotBefore (r : CoverRun) (a b : ℕ) : Type 0 where
   pub arg : r.arg ≤ a
   pub lo : r.arg ≡ a → r.lo ≤ b
 
-not_before : (r : CoverRun) (rs : List CoverRun) (a b : ℕ) → r.lo < r.end → IsBeforeAll r rs → in_runs (r ∷ rs) a b ≡ true → NotBefore r a b
+not_before : (r : CoverRun) (rs : List CoverRun) (a b : ℕ) → r.lo < r.end → RunIsBeforeAll r rs → in_runs (r ∷ rs) a b ≡ true → NotBefore r a b
 not_before r rs a b f h e = elim (or_cases (in_run r a b) (in_runs rs a b) e) [
   | inl i ↦ let m = in_one r.arg r.lo r.end a b i in record { arg = omega (arith, m.0); lo = λ k. m.1 }
   | inr i ↦ record { arg = higher rs h i; lo = λ k. let m : r.end < b = beyond r rs a b h k i in omega arith }
 ]
   where
-    higher : (ss : List CoverRun) → IsBeforeAll r ss → in_runs ss a b ≡ true → r.arg ≤ a
+    higher : (ss : List CoverRun) → RunIsBeforeAll r ss → in_runs ss a b ≡ true → r.arg ≤ a
     higher [] h i = cc
     higher (s ∷ ss) h i = elim (or_cases (in_run s a b) (in_runs ss a b) i) [
       | inl k ↦ let m = in_one s.arg s.lo s.end a b k in omega (arith, m.0, h.0.arg)
@@ -68,14 +68,14 @@ ends_by r s rs ss p q e a l = at (nat_lt r.end s.end) refl
           | inr k ↦ let m : r.end < r.end = beyond r rs s.arg r.end p.1 a k in absurd (omega arith)
         ]
 
-not_later : (r : CoverRun) (rs : List CoverRun) (a b : ℕ) → IsBeforeAll r rs → in_run r a b ≡ true → in_runs rs a b ≡ false
+not_later : (r : CoverRun) (rs : List CoverRun) (a b : ℕ) → RunIsBeforeAll r rs → in_run r a b ≡ true → in_runs rs a b ≡ false
 not_later r rs a b h i = at (in_runs rs a b) refl
   where
     at : (x : Bool) → in_runs rs a b ≡ x → x ≡ false
     at false e = refl
     at true e = let m = in_one r.arg r.lo r.end a b i in let n : r.end < b = beyond r rs a b h m.0 e in absurd (omega (arith, m.2))
 
-rest_alike : (r : CoverRun) (rs ss : List CoverRun) → IsBeforeAll r rs → IsBeforeAll r ss → Alike (r ∷ rs) (r ∷ ss) → Alike rs ss
+rest_alike : (r : CoverRun) (rs ss : List CoverRun) → RunIsBeforeAll r rs → RunIsBeforeAll r ss → Alike (r ∷ rs) (r ∷ ss) → Alike rs ss
 rest_alike r rs ss p q e a b = at (in_run r a b) refl (e a b)
   where
     at : (x : Bool) → in_run r a b ≡ x → (x || in_runs rs a b) ≡ (x || in_runs ss a b) → in_runs rs a b ≡ in_runs ss a b

@@ -10,7 +10,7 @@ use Rattle.lh_term.specs.declared.part.Part.{Part}
 use Rattle.lh_term_cover.specs.declared.runs.CoverRun.{CoverRun}
 use Rattle.lh_term_cover.specs.declared.Cover.{Cover}
 use Rattle.lh_term_cover.specs.Bits.{is_waited, are_waited, covers}
-use Rattle.lh_term_cover.specs.Runs.{in_run, in_runs, IsBefore, IsBeforeAll, AreApart, IsCover, run_of, starts_by, ends_within}
+use Rattle.lh_term_cover.specs.Runs.{in_run, in_runs, IsBefore, RunIsBeforeAll, AreApart, IsCover, run_of, starts_by, ends_within}
 
 -- ---- what the code finds
 
@@ -47,7 +47,7 @@ last_within r (s ∷ x ∷ ss) (suc n) d f a l t u =
     ∙ sym (ap (λ y. y || within (x ∷ ss) r) (passed s x r a.1.0 (t 1 x (omega arith)) f))
 
 -- those that begin no later come first
-before_at : (s : CoverRun) (ss : List CoverRun) (k : ℕ) (d : CoverRun) → IsBeforeAll s ss → k < length ss → IsBefore s (get_or ss k d)
+before_at : (s : CoverRun) (ss : List CoverRun) (k : ℕ) (d : CoverRun) → RunIsBeforeAll s ss → k < length ss → IsBefore s (get_or ss k d)
 before_at s [] k d b l = absurd (omega arith)
 before_at s (x ∷ ss) zero d b l = b.0
 before_at s (x ∷ ss) (suc k) d b l = before_at s ss k d b.1 (omega arith)
@@ -80,7 +80,7 @@ pub in_one : (ra rl re a b : ℕ) → (nat_eq ra a && (nat_le rl b && nat_lt b r
 in_one ra rl re a b e = (grind (arith, nat_tests), grind (arith, nat_tests), grind (arith, nat_tests))
 
 -- bits of later ranges are beyond the end
-pub beyond : (r : CoverRun) (ss : List CoverRun) (a b : ℕ) → IsBeforeAll r ss → r.arg ≡ a → in_runs ss a b ≡ true → r.end < b
+pub beyond : (r : CoverRun) (ss : List CoverRun) (a b : ℕ) → RunIsBeforeAll r ss → r.arg ≡ a → in_runs ss a b ≡ true → r.end < b
 beyond r [] a b h e i = cc
 beyond r (s ∷ ss) a b h e i = elim (or_cases (in_run s a b) (in_runs ss a b) i) [
   | inl k ↦ let m = in_one s.arg s.lo s.end a b k in omega (arith, h.0.end, m.0, m.1)
@@ -92,7 +92,7 @@ first_in ss a lo zero e = subst (λ (b : ℕ). in_runs ss a b ≡ true) (add-zer
 first_in ss a lo (suc n) e = first_in ss a lo n (second_so _ _ e)
 
 -- where the first bit is of the first range, so are all
-reaches : (r : CoverRun) (ss : List CoverRun) (lo n : ℕ) → IsBeforeAll r ss → lo < r.end → all_in (r ∷ ss) r.arg lo n ≡ true → lo + n ≤ r.end
+reaches : (r : CoverRun) (ss : List CoverRun) (lo n : ℕ) → RunIsBeforeAll r ss → lo < r.end → all_in (r ∷ ss) r.arg lo n ≡ true → lo + n ≤ r.end
 reaches r ss lo zero h f e = omega arith
 reaches r ss lo (suc n) h f e =
     let k : lo + n ≤ r.end = reaches r ss lo n h f (second_so _ _ e) in

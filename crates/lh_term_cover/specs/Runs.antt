@@ -21,14 +21,14 @@ pub record IsBefore (r s : CoverRun) : Type 0 where
   pub end : r.arg ≡ s.arg → r.end < s.lo
 
 -- r is before each
-abbrev pub IsBeforeAll : CoverRun → List CoverRun → Type 0
-IsBeforeAll r [] = Unit {0}
-IsBeforeAll r (s ∷ ss) = IsBefore r s × IsBeforeAll r ss
+abbrev pub RunIsBeforeAll : CoverRun → List CoverRun → Type 0
+RunIsBeforeAll r [] = Unit {0}
+RunIsBeforeAll r (s ∷ ss) = IsBefore r s × RunIsBeforeAll r ss
 
 -- ranges in order that have bits, of which no two meet or touch
 abbrev pub AreApart : List CoverRun → Type 0
 AreApart [] = Unit {0}
-AreApart (r ∷ rs) = (r.lo < r.end) × IsBeforeAll r rs × AreApart rs
+AreApart (r ∷ rs) = (r.lo < r.end) × RunIsBeforeAll r rs × AreApart rs
 
 -- the set has exactly the bits of the parts
 pub record IsCover (cover : Cover) (parts : List Part) : Type 0 where

@@ -115,7 +115,7 @@ impl Text {
         self.bytes.clear();
     }
 
-    /// Gives the text up: it is no longer whole. For whoever wants memory for one of its parts.
+    /// Gives the text up: it is no longer whole. For whoever has no memory for one of its parts.
     pub fn abandon(&mut self)
         ensures { self.new.is_whole ≡ false }
     {

@@ -19,7 +19,7 @@ use Rattle.lh_unit.proofs.Lists.{Each-left, Each-right}
 use Rattle.lh_unit.proofs.RenderedPieces.{lexemes-render}
 use Rattle.lh_text_laws.specs.ItemLines.{item_line}
 use Rattle.lh_text_laws.specs.Laws.{PrintableIsSpelled}
-use Rattle.lh_text_laws.specs.Printable.{HasLine, HasInstLine, HasLabelLine, IsLabelled, result_repeats, results_repeat, label_repeats, labels_repeat, IsPrintable}
+use Rattle.lh_text_laws.specs.Printable.{HasLine, HasInstLine, HasLabelLine, BlockIsLabelled, result_repeats, results_repeat, label_repeats, labels_repeat, IsPrintable}
 use Rattle.lh_text_laws.proofs.Apart.{opened, walk-append}
 use Rattle.lh_text_laws.proofs.Readings.{read_to, walked-spelled}
 use Rattle.lh_unit.proofs.Defined.{lines_define-append}
@@ -111,7 +111,7 @@ results-split args seen (x ∷ xs) ys h =
     let q = results-split args (seen ++ x ∷ []) xs ys p.1 in
     (rw e q.0, subst (λ z. results_repeat args z ys ≡ false) (append_assoc seen (x ∷ []) xs) q.1)
 
-full-after : (b : BlockText) (bs : List BlockText) → Each IsLabelled (b ∷ bs) → place_after (b ∷ bs) ≡ in_block
+full-after : (b : BlockText) (bs : List BlockText) → Each BlockIsLabelled (b ∷ bs) → place_after (b ∷ bs) ≡ in_block
 full-after b [] h = let e : has_lines b.lines ≡ true = h.0.1 in rw e refl
 full-after b (c ∷ bs) h = full-after c bs h.1
 
@@ -170,7 +170,7 @@ module _ (k : UnitKind) (n : UnitName) (args : List ArgText) (r : Option TypeTre
       on (with_blocks done) (with_blocks (done ++ block (Some l) [] ∷ [])) (with_blocks (done ++ block (Some l) lines ∷ []))
       (label-way done l h (m l) d) (insts-way done (Some l) [] lines w (omega arith) (subst (λ q. results_repeat args q lines ≡ false) (sym (append-nil (lines_of done))) v))
 
-  blocks-way : ((bs : List BlockText) → place_in k bs ≡ place_after bs) → (done rest : List BlockText) → Each IsLabelled rest → Each HasInstLine (lines_of rest)
+  blocks-way : ((bs : List BlockText) → place_in k bs ≡ place_after bs) → (done rest : List BlockText) → Each BlockIsLabelled rest → Each HasInstLine (lines_of rest)
       → ((l : List ℕ) → may_stand (place_in k done) (label_item l) ≡ true)
       → line_count done + line_count rest ≤ most_lines → labels_repeat done rest ≡ false → results_repeat args (lines_of done) (lines_of rest) ≡ false
       → Way (with_blocks done) (with_blocks (done ++ rest))
@@ -204,7 +204,7 @@ entity-way n args r (b ∷ []) p =
     (insts-way kind.Entity n args r [] None [] b.lines w (omega arith) v)
 entity-way n args r (b ∷ c ∷ bs) p = absurd p.shaped
 
-labelled-way : (k : UnitKind) (n : UnitName) (args : List ArgText) (r : Option TypeTree) (bs : List BlockText) → ((cs : List BlockText) → place_in k cs ≡ place_after cs) → Each IsLabelled bs
+labelled-way : (k : UnitKind) (n : UnitName) (args : List ArgText) (r : Option TypeTree) (bs : List BlockText) → ((cs : List BlockText) → place_in k cs ≡ place_after cs) → Each BlockIsLabelled bs
     → IsPrintable (unit_of k n args r bs) → Way (with_blocks k n args r []) (with_blocks k n args r bs)
 labelled-way k n args r bs f h p =
     let c : line_count bs ≤ most_lines = p.fits in

@@ -17,7 +17,7 @@ use Rattle.lh_unit.specs.declared.inst.UnitKind.TheVariants as kind
 use Rattle.lh_unit.proofs.Lists.{or_false}
 use Rattle.lh_unit.proofs.ContentsLemmas.{last_unit-push, change_last-push}
 use Rattle.lh_text_laws.specs.Laws.{SpelledIsPrintable}
-use Rattle.lh_text_laws.specs.Printable.{HasLine, HasInstLine, HasLabelLine, IsLabelled, HasShape, result_repeats, results_repeat, label_repeats, labels_repeat, IsPrintable, IsPrintableItem}
+use Rattle.lh_text_laws.specs.Printable.{HasLine, HasInstLine, HasLabelLine, BlockIsLabelled, HasShape, result_repeats, results_repeat, label_repeats, labels_repeat, IsPrintable, IsPrintableItem}
 use Rattle.lh_text_laws.proofs.Apart.{opened, Fine, alone-stands}
 use Rattle.lh_text_laws.proofs.Items.{item-again}
 use Rattle.lh_text_laws.proofs.PrintableUnits.{unit_of, block, start_blocks, headed-start, lines_of-last, line_count-last, blocks_define-lines}
@@ -31,7 +31,7 @@ use Rattle.lh_unit.proofs.ModuleLaws.{Each-push}
 abbrev PartLabelled : List BlockText → Type 0
 PartLabelled [] = Unit {0}
 PartLabelled (b ∷ []) = HasLabelLine b.label
-PartLabelled (b ∷ c ∷ more) = IsLabelled b × PartLabelled (c ∷ more)
+PartLabelled (b ∷ c ∷ more) = BlockIsLabelled b × PartLabelled (c ∷ more)
 
 abbrev PartShape : UnitKind → List BlockText → Type 0
 PartShape kind.Entity (b ∷ []) = b.label ≡ None
@@ -162,7 +162,7 @@ part-inst u l h m c d p =
     }
 
 -- the end
-labelled-close : (b : BlockText) (bs : List BlockText) → may_stand (place_after (b ∷ bs)) close_item ≡ true → PartLabelled (b ∷ bs) → Each IsLabelled (b ∷ bs)
+labelled-close : (b : BlockText) (bs : List BlockText) → may_stand (place_after (b ∷ bs)) close_item ≡ true → PartLabelled (b ∷ bs) → Each BlockIsLabelled (b ∷ bs)
 labelled-close b [] m p = ((p, has (has_lines b.lines) refl m), tt)
   where
     has : (t : Bool) → has_lines b.lines ≡ t → may_stand (if t then in_block else in_empty_block) close_item ≡ true → has_lines b.lines ≡ true

@@ -22,15 +22,15 @@ HasLabelLine None = ⊥
 HasLabelLine (Some n) = HasLine (label_item n)
 
 -- a block with a label and an instruction
-abbrev pub IsLabelled : BlockText → Type 0
-IsLabelled b = HasLabelLine b.label × (has_lines b.lines ≡ true)
+abbrev pub BlockIsLabelled : BlockText → Type 0
+BlockIsLabelled b = HasLabelLine b.label × (has_lines b.lines ≡ true)
 
 -- an entity has one block without a label; another unit has one block or more, each with a label and an instruction
 abbrev pub HasShape : UnitKind → List BlockText → Type 0
 HasShape kind.Entity (b ∷ []) = b.label ≡ None
 HasShape kind.Entity _ = ⊥
 HasShape _ [] = ⊥
-HasShape _ (b ∷ more) = Each IsLabelled (b ∷ more)
+HasShape _ (b ∷ more) = Each BlockIsLabelled (b ∷ more)
 
 -- whether a result has the name of an argument or of an earlier result
 abbrev pub result_repeats : List ArgText → (seen : List LineText) → Option (List ℕ) → Bool

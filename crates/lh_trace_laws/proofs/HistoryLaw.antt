@@ -9,7 +9,7 @@ use Rattle.lh_unit.specs.Contents.{ItemText}
 use Rattle.lh_unit.specs.Hierarchy.{Instance}
 use Rattle.lh_unit.specs.Design.{Design}
 use Rattle.lh_unit.specs.World.{State, Moment, Act, Rules, rules_of, unit_of, World, moment_of, acts_from, acts_at, kept, made_by, next_world, instant_after, next_instant, IsNext}
-use Rattle.lh_trace_laws.specs.Wishes.{IsBelow, IsInOrder, ActsInOrder, ReachedFrom, at_start, after_frame, IsMadeBy, HistoryIsSound, FirstHistoryIsSound, HistoryStaysSound}
+use Rattle.lh_trace_laws.specs.Wishes.{IsBelow, IsInOrder, ActsInOrder, ReachedFrom, at_start, after_frame, IsMadeByFrame, HistoryIsSound, FirstHistoryIsSound, HistoryStaysSound}
 use Rattle.lh_history_laws.specs.Claims.{MadeTogether}
 use Rattle.lh_history_laws.proofs.Instants.{le_self}
 use Rattle.lh_history_laws.proofs.Claims.{among_parts, made_together}
@@ -123,7 +123,7 @@ one_in_frame t k (a ∷ more) c d o h j b u i = at (among_made (kept t k a.wish)
         let p = from_frame t (k + 1) more c x in let q = among_kept t k a.wish d y in absurd (omega (arith, p.who, q.who, i))
     at (inr x) (inr y) ih = ih x y
 
-later_than : (w : World) (t : Instant) (o : Option Instant) → w.last ≡ o → next_instant w ≡ Some t → (c : Claim) → IsMadeBy o c → instant_lt c.made t ≡ true
+later_than : (w : World) (t : Instant) (o : Option Instant) → w.last ≡ o → next_instant w ≡ Some t → (c : Claim) → IsMadeByFrame o c → instant_lt c.made t ≡ true
 later_than w t None e n c m = absurd m
 later_than w t (Some l) e n c m = instant_lt-le_lt c.made l t m
     (after (instant_after (Some l) w.history w.states) (next_computes l w.history w.states) (ap (λ x. instant_after x w.history w.states) (sym e) ∙ n))

@@ -6,30 +6,30 @@ use Rattle.lh_unit.specs.Contents.{ItemText}
 use Rattle.lh_unit.specs.Design.{Design, Elaborated, refused, built, elab}
 use Rattle.lh_unit.specs.World.{World, acts_at, first_world, world_after, next_instant}
 use Rattle.lh_unit.specs.Trace.{Frame, steps, Run, least_runaway, frame_of, before, goes_on, at_bound, run_at, run_from, trace_by, trace_within}
-use Rattle.lh_trace_laws.specs.Frames.{HasOneMore, TraceHasOneMore, TraceIsPrefix, frame_count, TraceIsWithin, BitsStay, EqualSameTrace, SameTraceTurns, SameTraceLinks}
+use Rattle.lh_trace_laws.specs.Frames.{HasOneMoreFrame, TraceHasOneMore, TraceIsPrefix, frame_count, TraceIsWithin, BitsStay, EqualSameTrace, SameTraceTurns, SameTraceLinks}
 use Rattle.lh_trace_laws.proofs.Worlds.{bits_stay}
 
-one_more_before : (f : Frame) (o : Option ℕ) (a b : Run) → HasOneMore a b → HasOneMore (goes_on f o a) (goes_on f o b)
+one_more_before : (f : Frame) (o : Option ℕ) (a b : Run) → HasOneMoreFrame a b → HasOneMoreFrame (goes_on f o a) (goes_on f o b)
 one_more_before f (Some i) a b h = inl refl
 one_more_before f None a b (inl e) = inl (ap (before f) e)
 one_more_before f None a b (inr h) = inr (h.0, (h.1.0, ap (λ fs. f ∷ fs) h.1.1))
 
-one_more_first : (f : Frame) (o : Option ℕ) (p : Option Instant) → HasOneMore (record { frames = []; end = steps }) (goes_on f o (at_bound p))
+one_more_first : (f : Frame) (o : Option ℕ) (p : Option Instant) → HasOneMoreFrame (record { frames = []; end = steps }) (goes_on f o (at_bound p))
 one_more_first f (Some i) p = inr (refl, (f, refl))
 one_more_first f None None = inr (refl, (f, refl))
 one_more_first f None (Some t) = inr (refl, (f, refl))
 
 module _ (bound : ℕ) (items : List ItemText) (d : Design) where
-  one_more_at : (w : World) (o : Option Instant) (more more' : World → Run) → ((v : World) → HasOneMore (more v) (more' v))
-      → HasOneMore (run_at bound items d w o more) (run_at bound items d w o more')
+  one_more_at : (w : World) (o : Option Instant) (more more' : World → Run) → ((v : World) → HasOneMoreFrame (more v) (more' v))
+      → HasOneMoreFrame (run_at bound items d w o more) (run_at bound items d w o more')
   one_more_at w None more more' h = inl refl
   one_more_at w (Some t) more more' h = one_more_before _ (least_runaway 0 (acts_at bound items d w t)) _ _ (h (world_after w t (acts_at bound items d w t)))
 
-  first_at : (w : World) (o : Option Instant) → HasOneMore (at_bound o) (run_at bound items d w o (run_from bound items d zero))
+  first_at : (w : World) (o : Option Instant) → HasOneMoreFrame (at_bound o) (run_at bound items d w o (run_from bound items d zero))
   first_at w None = inl refl
   first_at w (Some t) = one_more_first _ (least_runaway 0 (acts_at bound items d w t)) (next_instant (world_after w t (acts_at bound items d w t)))
 
-  one_more : (n : ℕ) (w : World) → HasOneMore (run_from bound items d n w) (run_from bound items d (suc n) w)
+  one_more : (n : ℕ) (w : World) → HasOneMoreFrame (run_from bound items d n w) (run_from bound items d (suc n) w)
   one_more zero w = first_at w (next_instant w)
   one_more (suc n) w = one_more_at w (next_instant w) (run_from bound items d n) (run_from bound items d (suc n)) (one_more n)
 

@@ -25,12 +25,12 @@ BitsStay = (bound : ℕ) (items : List ItemText) (d : Design) (w : World) (t : I
     bits_of (next_world bound items d w t) ≡ bits_at w.history w.init t
 
 -- a run is whole, or it is cut and the other has one more frame
-abbrev pub HasOneMore : Run → Run → Type 0
-HasOneMore a b = (a ≡ b) ⊎ ((a.end ≡ steps) × ((f : Frame) × (b.frames ≡ a.frames ++ f ∷ [])))
+abbrev pub HasOneMoreFrame : Run → Run → Type 0
+HasOneMoreFrame a b = (a ≡ b) ⊎ ((a.end ≡ steps) × ((f : Frame) × (b.frames ≡ a.frames ++ f ∷ [])))
 
 abbrev pub TraceHasOneMore : Trace → Trace → Type 0
 TraceHasOneMore (refuses r) b = refuses r ≡ b
-TraceHasOneMore (ran instances signals a) (ran instances' signals' b) = (instances ≡ instances') × (signals ≡ signals') × HasOneMore a b
+TraceHasOneMore (ran instances signals a) (ran instances' signals' b) = (instances ≡ instances') × (signals ≡ signals') × HasOneMoreFrame a b
 TraceHasOneMore _ _ = ⊥
 
 -- The trace up to n is a prefix of that up to n + 1.

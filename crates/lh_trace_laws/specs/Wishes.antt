@@ -41,14 +41,14 @@ pub data ReachedFrom (bound : ℕ) (items : List ItemText) (d : Design) (from : 
   after_frame : (w : World) (t : Instant) → ReachedFrom bound items d from w → next_instant w ≡ Some t → ReachedFrom bound items d from (next_world bound items d w t)
 
 -- an entry was made at the last frame or before it; before the first frame there is none
-abbrev pub IsMadeBy : (last : Option Instant) → Claim → Type 0
-IsMadeBy None c = ⊥
-IsMadeBy (Some l) c = instant_le c.made l ≡ true
+abbrev pub IsMadeByFrame : (last : Option Instant) → Claim → Type 0
+IsMadeByFrame None c = ⊥
+IsMadeByFrame (Some l) c = instant_le c.made l ≡ true
 
 -- no two entries of a world's history compete, and none was made later than its last frame
 pub record HistoryIsSound (w : World) : Type 0 where
   pub one_each : OneEach (claims w.history)
-  pub made : (c : Claim) → IsAmong c (claims w.history) → IsMadeBy w.last c
+  pub made : (c : Claim) → IsAmong c (claims w.history) → IsMadeByFrame w.last c
 
 -- It is so of the first world of a design.
 abbrev pub FirstHistoryIsSound : Type 0

@@ -7,7 +7,7 @@
 //! | `log ..` | as `run`, without the output |
 //! | `size ..` | as `run`, with how many bytes the output has in place of it |
 //! | `faults ..` | what the program leaves by the words behind it, and what it leaves where each call of a stream fails in turn, each of at most 50 bytes |
-//! | `narrow HOLD PIECE ..` | as `run`, where the output holds so many bytes, and a call of a stream moves at most so many |
+//! | `narrow HOLD PIECE ..` | as `run`, where the output holds HOLD bytes, and a call of a stream moves at most PIECE bytes |
 //! | `long N ..` | by the words behind it on N bytes `!`: the code with which the program ends, and how many bytes of the source are left |
 //! | `verify` | whether the file is well formed, or the first fault, without a name |
 //! | `same` | whether the program writes the text as it is |

@@ -4,7 +4,7 @@ use lh_types::memory::NoMemory;
 use lh_types::text::{put, put_number};
 use std::alloc::Global;
 
-/// So many bytes a call moves.
+/// How many bytes a call moves.
 const PIECE: usize = 50;
 
 /// The most calls of a stream that fail in turn.
@@ -143,7 +143,7 @@ fn share(part: &[u8], whole: &[u8]) -> &'static [u8] {
     }
 }
 
-/// Streams of which the output holds so many bytes, and a call of each moves at most so many: `HOLD PIECE`, and the words behind them.
+/// Streams of which the output holds a number of bytes, and a call of each moves at most a number of bytes: `HOLD PIECE`, and the words behind them.
 pub fn narrow(words: &str) -> (Streams, &str) {
     let (hold, rest) = words.split_once(' ').unwrap_or((words, ""));
     let (piece, rest) = rest.split_once(' ').unwrap_or((rest, ""));
@@ -155,7 +155,7 @@ pub fn narrow(words: &str) -> (Streams, &str) {
     (streams, rest)
 }
 
-/// The code with which a run ends on a text of so many bytes, which is none of the language, and how many of them are not taken.
+/// The code with which a run ends on a text of this many bytes, which is none of the language, and how many of them are not taken.
 pub fn on_long_text<P: Program>(
     alloc: Global,
     program: &P,

@@ -54,7 +54,7 @@ pub trait Program {
     ) -> Result<Ran, NoMemory>;
 }
 
-/// A sink that holds so many bytes, of which a call takes at most so many; the call of this number fails.
+/// A sink that holds `hold` bytes, of which a call takes at most `piece`; the call of this number fails.
 pub fn sink(alloc: Global, hold: usize, piece: usize, fails: u64) -> Result<MemSink, NoMemory> {
     let fails = Vec::from_slice(alloc, &[fails])?;
     Ok(MemSink::new(alloc, hold, piece.max(1), fails)?)

@@ -12,7 +12,7 @@ use lh_unit::module::Module;
 use lh_wave::value::put_value;
 use std::alloc::Global;
 
-/// At most so many frames of a simulation: all that it tells before, in and behind each step.
+/// At most this many frames of a simulation: all that it tells before, in and behind each step.
 pub fn stepped(alloc: Global, m: &Module, design: Design, steps: u32) -> Result<Vec<u8>, NoMemory>
     requires { IsDesignOf m.now design }
 {
@@ -103,7 +103,7 @@ fn put_values(to: &mut Text, sim: &Sim<'_>) -> Result<(), NoMemory> {
     Ok(())
 }
 
-/// At most so many frames of a simulation: the instant of each, the activations so far, and the instances that sense each signal
+/// At most this many frames of a simulation: the instant of each, the activations so far, and the instances that sense each signal
 /// then.
 pub fn sensed(alloc: Global, m: &Module, design: Design, steps: u32) -> Result<Vec<u8>, NoMemory>
     requires { IsDesignOf m.now design }

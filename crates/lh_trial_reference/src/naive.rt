@@ -34,7 +34,7 @@ struct Naive<'m> {
     runaway: Option<u32>,
 }
 
-/// At most so many frames by the definition, in the words of the simulation.
+/// At most this many frames by the definition, in the words of the simulation.
 pub fn defined(alloc: Global, m: &Module, design: &Design, steps: u32) -> Result<Vec<u8>, NoMemory>
     requires { IsDesignOf m.now design.now }
 {
@@ -112,7 +112,7 @@ impl Naive<'_> {
         first
     }
 
-    /// At most so many frames, each with the senses and the values after it.
+    /// At most this many frames, each with the senses and the values after it.
     fn put_steps(&mut self, to: &mut Text, steps: u32) -> Result<(), NoMemory> {
         for _ in 0..steps {
             let goes = self.put_step(to)?;

@@ -1,4 +1,4 @@
--- What a list that is mostly short is seen as.
+-- How contracts see a list that is mostly short.
 use Rattle.std.specs.Prelude.{List}
 use Rattle.lh_types.specs.declared.few.Few.{Few}
 use Rattle.lh_types.specs.declared.few.Few.TheVariants.{One, Two, Other}

@@ -1,4 +1,4 @@
--- Whether two values are one.
+-- Whether two values are equal.
 use Rattle.std.specs.Prelude.{Bool, true, false, ◌&&◌, nat_eq}
 use Rattle.lh_types.specs.Values.{Datum, DatumRow, int_value, time_value, array_value, tuple_value, no_values, more_values}
 use Rattle.lh_types.specs.ValueOf.{datum_of}

@@ -1,4 +1,4 @@
--- What the node of a type is seen as.
+-- How contracts see the node of a type.
 use Rattle.std.specs.Prelude.{[], ◌∷◌}
 use Rattle.lh_types.specs.Types.{TypeTree, int_type, time_type, void_type, array_type, tuple_type, signal_type, pointer_type, row_of}
 use Rattle.lh_types.specs.declared.ty.TypeNode.{TypeNode}

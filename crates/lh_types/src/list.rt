@@ -29,7 +29,7 @@ impl<T> ListOf<T> {
         }
     }
 
-    /// An empty list with room for so many items, so that adding these makes no other room.
+    /// An empty list with room for this many items, so that adding these makes no other room.
     pub fn with_room(alloc: Global, room: usize) -> Result<ListOf<T>, NoMemory>
         ensures { IfOk result (λ list. list ≡ []) }
     {

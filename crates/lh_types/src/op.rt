@@ -69,7 +69,7 @@ pub enum OpClass {
     PutPart(Step),
     /// The elements of an array.
     Array,
-    /// An element, and the array of so many copies.
+    /// An element, and the array of this many copies.
     Repeat(u32),
     /// The fields of a struct.
     Tuple,

@@ -6,7 +6,7 @@ ghost use Rattle.lh_types.specs.Raised.{raised};
 pub trait Tally {
     ghost count: { Self → ℕ };
 
-    /// Raises the count by one, or leaves it where it stands at 2^64 - 1.
+    /// Raises the count by one, unless it is 2^64 - 1 already.
     fn tick(&mut self)
         ensures { count self.new ≡ raised (count self.old) 1 };
 }

@@ -145,7 +145,7 @@ impl TyList {
         }
     }
 
-    /// An empty list with room for so many types, so that adding these makes no other room.
+    /// An empty list with room for this many types, so that adding these makes no other room.
     pub fn with_room(alloc: Global, room: usize) -> Result<TyList, NoMemory>
         ensures { IfOk result (λ list. list ≡ []) }
     {

@@ -59,7 +59,7 @@ impl ValList {
         }
     }
 
-    /// An empty list with room for so many values, so that adding these makes no other room.
+    /// An empty list with room for this many values, so that adding these makes no other room.
     pub fn with_room(alloc: Global, room: usize) -> Result<ValList, NoMemory>
         ensures { IfOk result (λ list. list ≡ []) }
     {

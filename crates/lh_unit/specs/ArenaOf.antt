@@ -1,4 +1,4 @@
--- What the fields of a module are seen as.
+-- How contracts see the fields of a module.
 use Rattle.lh_unit.specs.Arena.{Arena}
 use Rattle.lh_unit.specs.declared.module.Module.TheInside.{Inside}
 

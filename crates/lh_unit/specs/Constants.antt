@@ -1,4 +1,4 @@
--- What the constant of an instruction is seen as.
+-- How contracts see the constant of an instruction.
 use Rattle.lh_types.specs.Values.{Datum, int_value}
 use Rattle.lh_types.specs.ValueOf.{datum_of}
 use Rattle.lh_unit.specs.declared.constant.KeptValue.{KeptValue}

@@ -1,4 +1,4 @@
--- What the fields of a unit are seen as.
+-- How contracts see the fields of a unit.
 use Rattle.lh_unit.specs.Table.{Table, IsTable, Definitions}
 use Rattle.lh_unit.specs.declared.table.UnitTable.TheInside.{Inside}
 

@@ -15,7 +15,7 @@ use Rattle.lh_unit_graph.specs.declared.search.Mark.TheVariants as mark
 use Rattle.lh_unit_graph.specs.declared.search.OpenUnit.{OpenUnit}
 use Rattle.lh_unit_graph.specs.declared.search.UnitSearch.{UnitSearch}
 use Rattle.lh_unit_graph.specs.Measures.{Measuring, node_at, targets_at, NodesWithin, Measures}
-use Rattle.lh_unit_graph.specs.Searches.{mark_at, IsDone, Covered, InPlace, IsSettled, Settles, Stays, Opens, units, entered, passed, Steps, StepsBy, StepsTo}
+use Rattle.lh_unit_graph.specs.Searches.{mark_at, IsDone, Covered, OpenUnitsAreMarked, IsSettled, Settles, SearchStays, Opens, units, entered, passed, Steps, StepsBy, StepsTo}
 use Rattle.lh_unit_graph.proofs.SearchState.{Below, Over, SearchingBy, Searching, Below-first, Below-enter, Below-pass, Below-finish, Below-cycle, Below-covers, Covered-close, Covered-new, mark-within}
 
 module _ {N M : Type 0} (C : Measuring N M) where
@@ -90,12 +90,12 @@ module _ {N M : Type 0} (C : Measuring N M) where
   Searching-stop g top f s t u e o k p = stop-by g top f t u (slice_get (targets_at C g f.unit.0) f.next) e (below g top f s t o k) refl p
 
   -- which changes nothing
-  stays-marked : (f : OpenUnit M) (t u : UnitSearch M) (x : UnitId) (m : Mark M) (e : DescentFault) → StepsTo C m f x t u (Err e) → Stays t u
+  stays-marked : (f : OpenUnit M) (t u : UnitSearch M) (x : UnitId) (m : Mark M) (e : DescentFault) → StepsTo C m f x t u (Err e) → SearchStays t u
   stays-marked f t u x mark.New e s = s.1
   stays-marked f t u x mark.Opened e s = s.1
   stays-marked f t u x (mark.Done m) e s = s.1
 
-  stays-by : (g : List N) (f : OpenUnit M) (t u : UnitSearch M) (n : Option UnitId) (e : DescentFault) → StepsBy C n g f t u (Err e) → Stays t u
+  stays-by : (g : List N) (f : OpenUnit M) (t u : UnitSearch M) (n : Option UnitId) (e : DescentFault) → StepsBy C n g f t u (Err e) → SearchStays t u
   stays-by g f t u None e s = let r = s.0 in cc
   stays-by g f t u (Some x) e s = stays-marked f t u x (mark_at t.marks.items x.0) e s
 
@@ -222,7 +222,7 @@ module _ {N M : Type 0} (C : Measuring N M) where
       (Below-first C g top s.marks.items o.covered n l)
 
   -- what is settled stays so
-  pub Settled-stays : (g : List N) (s t : UnitSearch M) → IsSettled C g s → Stays s t → IsSettled C g t
+  pub Settled-stays : (g : List N) (s t : UnitSearch M) → IsSettled C g s → SearchStays s t → IsSettled C g t
   Settled-stays g s t o z = record { covered = subst (λ ms. Covered C g ms []) (sym z.marks) o.covered; empty = z.stack ∙ o.empty }
 
   -- no unit is open in a search that is settled
@@ -248,7 +248,7 @@ module _ {N M : Type 0} (C : Measuring N M) where
       → Each (λ (p : OpenUnit M). p.unit.0 < length (set ms u x)) fs
   placed-set ms u x fs h = subst (λ n. Each (λ (p : OpenUnit M). p.unit.0 < n) fs) (sym (length-set ms u x)) h
 
-  pub Closing-first : (s t : UnitSearch M) (f : OpenUnit M) → InPlace s f → t.marks.items ≡ set s.marks.items f.unit.0 mark.New
+  pub Closing-first : (s t : UnitSearch M) (f : OpenUnit M) → OpenUnitsAreMarked s f → t.marks.items ≡ set s.marks.items f.unit.0 mark.New
       → t.stack.items ≡ s.stack.items → Closing s f t
   Closing-first s t f o e k = record {
     covered = λ g c. subst (λ ms. Covered C g ms (reverse t.stack.items)) (sym e)
@@ -287,13 +287,13 @@ module _ {N M : Type 0} (C : Measuring N M) where
 
   -- what is open when a step ends the search has marks
   pub InPlace-stop : (g : List N) (top : ℕ) (f : OpenUnit M) (s t u : UnitSearch M) (e : DescentFault) → Searching C g top s → TakesOpenUnit f s t
-      → Steps C g f t u (Err e) → InPlace u f
+      → Steps C g f t u (Err e) → OpenUnitsAreMarked u f
   InPlace-stop g top f s t u e o k p =
       subst (λ ms. (f.unit.0 < length ms) × Each (λ (q : OpenUnit M). q.unit.0 < length ms) (reverse u.stack.items)) (sym z.marks)
       (subst (λ fs. (f.unit.0 < length t.marks.items) × Each (λ (q : OpenUnit M). q.unit.0 < length t.marks.items) (reverse fs)) (sym z.stack)
       (within f.unit.0 (inl refl), placed-all (length t.marks.items) (reverse t.stack.items) (λ v i. within v (inr i))))
     where
-      z : Stays t u
+      z : SearchStays t u
       z = stays-by g f t u (slice_get (targets_at C g f.unit.0) f.next) e p
 
       within : (v : ℕ) → IsIn (units (f ∷ reverse t.stack.items)) v → v < length t.marks.items

@@ -24,18 +24,18 @@ abbrev pub units : {M : Type 0} → List (OpenUnit M) → List ℕ
 units {M} fs = map (λ (f : OpenUnit M). f.unit.0) fs
 
 -- a unit taken from the stack, and those on it, have marks
-abbrev pub InPlace : {M : Type 0} → UnitSearch M → OpenUnit M → Type 0
-InPlace {M} s f = (f.unit.0 < length s.marks.items) × Each (λ (p : OpenUnit M). p.unit.0 < length s.marks.items) (reverse s.stack.items)
+abbrev pub OpenUnitsAreMarked : {M : Type 0} → UnitSearch M → OpenUnit M → Type 0
+OpenUnitsAreMarked {M} s f = (f.unit.0 < length s.marks.items) × Each (λ (p : OpenUnit M). p.unit.0 < length s.marks.items) (reverse s.stack.items)
 
 -- nothing is changed
-pub record Stays {M : Type 0} (old new : UnitSearch M) : Type 0 where
+pub record SearchStays {M : Type 0} (old new : UnitSearch M) : Type 0 where
   pub marks : new.marks.items ≡ old.marks.items
   pub stack : new.stack.items ≡ old.stack.items
 
 -- what holds after a call that may find no memory; nothing is changed then
 abbrev pub Done : {M : Type 0} → Result (Unit {0}) DescentFault → (old new : UnitSearch M) → Type 0 → Type 0
 Done (Ok x) old new P = P
-Done (Err e) old new P = (e ≡ fault.OutOfMemory) × Stays old new
+Done (Err e) old new P = (e ≡ fault.OutOfMemory) × SearchStays old new
 
 module _ {N M : Type 0} (c : Measuring N M) where
   -- below the unit u no edge leads to an open unit, where the search has left none of those that are open
@@ -93,7 +93,7 @@ module _ {N M : Type 0} (c : Measuring N M) where
   -- by the mark of the next target
   abbrev pub StepsTo : Mark M → OpenUnit M → UnitId → (old new : UnitSearch M) → Result (Unit {0}) DescentFault → Type 0
   StepsTo mark.New f t old new r = Done r old new (Opens (f ∷ []) t old new)
-  StepsTo mark.Opened f t old new r = (r ≡ Err (fault.Cycle t)) × Stays old new
+  StepsTo mark.Opened f t old new r = (r ≡ Err (fault.Cycle t)) × SearchStays old new
   StepsTo (mark.Done m) f t old new r = Done r old new (Passed f m old new)
 
   -- by the next target, if there is one

@@ -2,7 +2,7 @@
 //! unit serves every further question.
 ghost use Rattle.std.specs.Prelude.{◌≡◌, ◌<◌, ◌^◌, ◌-◌, ◌∷◌, [], length, vec_len, slice_get, IsSome, IfOk, Ok};
 ghost use Rattle.lh_unit_graph.specs.Measures.{targets_at, NodesWithin, Measures};
-ghost use Rattle.lh_unit_graph.specs.Searches.{mark_at, entered, passed, InPlace, IsSettled, StartsSettled, Settles, Opens, Finishes, Passed, Done, Steps};
+ghost use Rattle.lh_unit_graph.specs.Searches.{mark_at, entered, passed, OpenUnitsAreMarked, IsSettled, StartsSettled, Settles, Opens, Finishes, Passed, Done, Steps};
 
 use crate::fault::DescentFault;
 use crate::measured::Measured;
@@ -119,7 +119,7 @@ impl<M: Measured> UnitSearch<M> {
 
     /// Gives the search up below an open unit, which was taken from the stack: no unit is open then.
     fn close(&mut self, frame: OpenUnit<M>)
-        requires { InPlace self.old frame }
+        requires { OpenUnitsAreMarked self.old frame }
         ensures { Settles M.measuring self.old self.new frame }
     {
         self.marks[frame.unit.0 as usize] = Mark::New;

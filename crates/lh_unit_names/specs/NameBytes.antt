@@ -1,4 +1,4 @@
--- What the bytes of a name are seen as.
+-- How contracts see the bytes of a name.
 use Rattle.std.specs.Prelude.{ℕ, ◌≤◌, List, take}
 use Rattle.lh_unit_names.specs.declared.name.NameBytes.{NameBytes}
 use Rattle.lh_unit_names.specs.declared.name.NameBytes.TheVariants.{Short, Long}

@@ -1,4 +1,4 @@
--- What the names of one kind in a unit are seen as.
+-- How contracts see the names of one kind in a unit.
 use Rattle.std.specs.Prelude.{ℕ, List}
 use Rattle.lh_unit_names.specs.declared.table.KeptNames.{KeptNames}
 use Rattle.lh_unit_names.specs.declared.table.KeptNames.TheVariants.{Indexed, Listed}

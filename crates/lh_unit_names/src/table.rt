@@ -16,7 +16,7 @@ use std::mem;
 const ROOM: usize = 64;
 
 /// Names in the order in which they came, no two alike. They are found by an index, which takes some 30 bytes a name, about as much
-/// as the names do. The first name makes it; it is given back where no more are to come, and a name that comes all the same makes it anew.
+/// as the names do. The first name makes it; it is given back where no more are to come, and a name that comes nevertheless makes it again.
 #[derive(Drop)]
 pub struct NameTable {
     kept: KeptNames,

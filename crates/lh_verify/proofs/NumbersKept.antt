@@ -6,10 +6,10 @@ use Rattle.std.proofs.lemmas.Option.{slice_get-get_or}
 use Rattle.lh_types.specs.Types.{TypeTree}
 use Rattle.lh_unit.specs.Arena.{Arena, args_at}
 use Rattle.lh_unit.specs.declared.inst.Arg.{Arg}
-use Rattle.lh_verify_values.specs.Numbers.{Grows, AreNumbersOf, NumbersParams}
+use Rattle.lh_verify_values.specs.Numbers.{NumbersGrow, AreNumbersOf, NumbersParams}
 use Rattle.lh_verify_values.proofs.TypeNumbers.{numbers-grow}
 
-pub params-grow : (old new : List TypeTree) (a : Arena) (params : List (List ℕ)) → Grows old new → NumbersParams old a params → NumbersParams new a params
+pub params-grow : (old new : List TypeTree) (a : Arena) (params : List (List ℕ)) → NumbersGrow old new → NumbersParams old a params → NumbersParams new a params
 params-grow old new a params g n = record { long = n.long; numbers = λ u ns e. numbers-grow old new (args_at a u) ns g (n.numbers u ns e) }
 
 -- the number of one argument

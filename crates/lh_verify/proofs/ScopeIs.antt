@@ -26,7 +26,7 @@ use Rattle.lh_unit.proofs.ByIdPlaces.{places-by_id, inst_places-insts}
 use Rattle.lh_verify_values.specs.declared.scope.Scope.{Scope}
 use Rattle.lh_verify_values.specs.declared.scope.Fact.{Fact}
 use Rattle.lh_verify_values.specs.FactsOfUnit.{FactAfter, FactsAfter}
-use Rattle.lh_verify_labels.specs.Marking.{IsProbed, MarksLabels}
+use Rattle.lh_verify_labels.specs.Marking.{MarksProbed, MarksLabels}
 use Rattle.lh_types.specs.Types.{TypeTree}
 use Rattle.lh_verify_values.specs.Numbers.{NumbersParams}
 use Rattle.lh_verify_values.specs.Facts.{IsScope, FactHolds, text_in, naming_in, sizes_in, from_probe}
@@ -92,7 +92,7 @@ module _ (a : Arena) (u : ℕ) (o : IsArena a) (h : u < unit_count a) where
 
 pub scope-is : (s : Scope) → IsArena s.module.now → s.unit.0 < unit_count s.module.now
     → FactsAfter s.types.now (value_count s.module.now s.unit.0) (naming s.module.now s.unit.0) (args_at s.module.now s.unit.0) (table_at s.module.now s.unit.0).lines s.facts.now
-    → IsProbed s.module.now s.unit.0 s.probed.now → MarksLabels s.module.now s.unit.0 s.labels.now → NumbersParams s.types.now s.module.now s.params.now → IsScope s
+    → MarksProbed s.module.now s.unit.0 s.probed.now → MarksLabels s.module.now s.unit.0 s.labels.now → NumbersParams s.types.now s.module.now s.params.now → IsScope s
 unfolding text_in naming_in sizes_in from_probe
 scope-is s o h k r st p =
     let e : inst_count s.module.now s.unit.0 + 1 ≡ suc (length (places (unit_text_at s.module.now s.unit.0))) = omega (arith, length-places s.module.now s.unit.0 o h) in

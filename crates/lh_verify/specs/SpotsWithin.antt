@@ -2,6 +2,6 @@
 use Rattle.std.specs.Prelude.{ℕ, ◌<◌}
 use Rattle.lh_verify.specs.declared.spots.Spot.{Spot}
 
--- there are more than so many instructions
+-- there are more than this many instructions
 abbrev pub SpotWithin : ℕ → Spot → Type 0
 SpotWithin n x = x.inst.0 < n

@@ -8,7 +8,7 @@ ghost use Rattle.lh_verify.specs.FirstFound.{FindsFault, LacksFirst, found_or};
 ghost use Rattle.lh_verify.specs.Faults.{hides_paths as spot_hides_paths};
 ghost use Rattle.lh_verify.specs.PhisById.{wrong_phi_at};
 ghost use Rattle.lh_verify.specs.Spots.{spots_of};
-ghost use Rattle.lh_verify_values.specs.Numbers.{Grows, NumbersParams};
+ghost use Rattle.lh_verify_values.specs.Numbers.{NumbersGrow, NumbersParams};
 ghost use Rattle.lh_verify_values.specs.Facts.{IsScope, items_in, text_in};
 ghost use Rattle.lh_verify.specs.SpotsWithin.{SpotWithin};
 
@@ -47,7 +47,7 @@ pub fn first_fault(
     requires begun { IsSome (kind_at m.now unit.0) }
     requires params { NumbersParams types.old m.now params.now }
     ensures found { IfOk result (λ found. FindsFault (contents m.now) (unit_text_at m.now unit.0) found) }
-    ensures grows { OnOk result (Grows types.old types.new) }
+    ensures grows { OnOk result (NumbersGrow types.old types.new) }
 {
     let list = spots(alloc, m, unit)?;
     let insts = m.inst_count(unit);

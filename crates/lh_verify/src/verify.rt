@@ -4,7 +4,7 @@ ghost use Rattle.lh_unit.specs.Arena.{contents};
 ghost use Rattle.lh_unit.specs.WellFormed.{IsSpelled, IsWellFormed};
 ghost use Rattle.lh_verify.specs.FirstFound.{IsFew};
 ghost use Rattle.lh_unit.specs.Placed.{IsItemOf};
-ghost use Rattle.lh_verify_values.specs.Numbers.{Grows, NumbersParams};
+ghost use Rattle.lh_verify_values.specs.Numbers.{NumbersGrow, NumbersParams};
 ghost use Rattle.lh_verify.specs.Verifying.{Verifies, FirstFaultOf, FirstFaultOfItem, ItemBegun, named_fault};
 
 use crate::unit::{InstFault, first_fault};
@@ -152,7 +152,7 @@ fn find_in(
     requires begun { ItemBegun m.now item.now }
     requires params { NumbersParams types.old m.now params.now }
     ensures says { IfOk result (λ fault. FirstFaultOfItem m.now item.now fault) }
-    ensures grows { OnOk result (Grows types.old types.new) }
+    ensures grows { OnOk result (NumbersGrow types.old types.new) }
 {
     match item {
         Item::Declare(_) => Ok(None),

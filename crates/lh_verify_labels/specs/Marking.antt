@@ -50,6 +50,6 @@ pub record Advances (lines : List TableLine) (old : List Bool) (n : ℕ) (marks 
   pub marked : (v : ℕ) (x : Bool) → slice_get marks v ≡ Some x → x ≡ option_map_or (comes_from old) (inst_making lines v) false
 
 -- in a unit with a `sig`, the marks say which values come from a `prb`
-pub record IsProbed (a : Arena) (u : ℕ) (marks : List Bool) : Type 0 where
+pub record MarksProbed (a : Arena) (u : ℕ) (marks : List Bool) : Type 0 where
   pub long : length marks ≡ value_count a u
   pub reached : any_sig (table_at a u).lines ≡ true → Reaches a u (inst_count a u + 1) marks

@@ -4,7 +4,7 @@ ghost use Rattle.std.specs.List.{list_any};
 ghost use Rattle.lh_unit.specs.Table.{line_at};
 ghost use Rattle.lh_unit.specs.Arena.{unit_count, value_count, inst_count, table_at};
 ghost use Rattle.lh_unit.specs.declared.table.TableLine.{TableLine};
-ghost use Rattle.lh_verify_labels.specs.Marking.{IsProbed, Reaches, Advances, comes_from as inst_comes_from};
+ghost use Rattle.lh_verify_labels.specs.Marking.{MarksProbed, Reaches, Advances, comes_from as inst_comes_from};
 ghost use Rattle.lh_verify_labels.specs.Turns.{turn_of as value_turn, is_before, comes_by, result_led, all_led, with_turns};
 ghost use Rattle.lh_verify_values.specs.Facts.{any_sig};
 
@@ -21,7 +21,7 @@ use std::alloc::Global;
 pub fn probed(alloc: Global, m: &Module, unit: UnitId, insts: u32) -> Result<Vec<bool>, NoMemory>
     requires unit { unit.0 < unit_count m.now }
     requires insts { insts ≡ inst_count m.now unit.0 }
-    ensures { IfOk result (λ marks. IsProbed m.now unit.0 marks.items) }
+    ensures { IfOk result (λ marks. MarksProbed m.now unit.0 marks.items) }
 {
     if !has_sig(m, unit, insts) {
         return no_marks(alloc, m.values(unit));

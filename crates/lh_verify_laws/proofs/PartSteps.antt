@@ -11,14 +11,14 @@ use Rattle.lh_types.specs.declared.part.Step.TheVariants.{Field, Slice}
 use Rattle.lh_unit.specs.Contents.{OperandText, pure_text, UnitText}
 use Rattle.lh_unit.specs.Effects.{step_of}
 use Rattle.lh_unit.specs.Typing.{result_type}
-use Rattle.lh_verify_laws.specs.Parts.{LeadsTo, TakesPart, HasPart}
+use Rattle.lh_verify_laws.specs.Parts.{StepLeadsTo, TakesPart, HasPart}
 
 pub same-operand : (x y : OperandText) → x ∷ [] ≡ y ∷ [] → x ≡ y
 same-operand x y e = cc
 
 -- a step into a signal leads to the signal of a part
-pub leads-is : (s : Step) (w of t : TypeTree) → LeadsTo s w of → w ≡ signal_type t → (z : Parts.Part) × (step_part t s ≡ Some z) × (of ≡ signal_type z.of)
-leads-is s w of t l e = subst (λ (x : TypeTree). LeadsTo s x of) e l
+pub leads-is : (s : Step) (w of t : TypeTree) → StepLeadsTo s w of → w ≡ signal_type t → (z : Parts.Part) × (step_part t s ≡ Some z) × (of ≡ signal_type z.of)
+leads-is s w of t l e = subst (λ (x : TypeTree). StepLeadsTo s x of) e l
 
 pub takes-part : (u : UnitText) (o : Op) (s : Step) (os : List OperandText) → step_of o ≡ Some s → HasPart u (pure_text o os) → TakesPart u s os
 takes-part u (op.Extf k) s os q h = subst (λ (x : Step). TakesPart u x os) (same_Some (Field k) s q) h

@@ -12,18 +12,18 @@ use Rattle.lh_unit.specs.Contents.{OperandText, InstText, pure_text, UnitText}
 use Rattle.lh_unit.specs.Typing.{first_type}
 use Rattle.lh_unit.specs.TypingRows.{part_type, OperationRow, takes_part, puts_part, operation_row}
 use Rattle.lh_verify_laws.specs.Operands.{IsOf, OperationIs, RowIs}
-use Rattle.lh_verify_laws.specs.Parts.{LeadsTo, PartIs, HasPart, PartsAreThere, PartsHaveRanges}
+use Rattle.lh_verify_laws.specs.Parts.{StepLeadsTo, PartIs, HasPart, PartsAreThere, PartsHaveRanges}
 use Rattle.lh_verify_laws.proofs.RowsLaw.{rows_are}
 
 mapped : (f : TypeTree → TypeTree) (o : Option Part) (of : TypeTree) → option_map (λ (p : Part). f p.of) o ≡ Some of → (p : Part) × (o ≡ Some p) × (of ≡ f p.of)
 mapped f None of h = absurd (none-some _ h)
 mapped f (Some p) of h = (p, refl, let e : Some of ≡ Some (f p.of) = sym h in cc)
 
-leads : (s : Step) (whole of : TypeTree) → part_type s whole ≡ Some of → LeadsTo s whole of
+leads : (s : Step) (whole of : TypeTree) → part_type s whole ≡ Some of → StepLeadsTo s whole of
 leads s (signal_type t) of h = mapped signal_type (step_part t s) of h
 leads s t of h = mapped (λ x. x) (step_part t s) of h
 
-data_part : (s : Step) (t of : TypeTree) → is_data t ≡ true → LeadsTo s t of → (p : Part) × (step_part t s ≡ Some p) × (of ≡ p.of)
+data_part : (s : Step) (t of : TypeTree) → is_data t ≡ true → StepLeadsTo s t of → (p : Part) × (step_part t s ≡ Some p) × (of ≡ p.of)
 data_part s (signal_type t) of d h = absurd (false≢true d)
 data_part s t of d h = h
 

@@ -10,9 +10,9 @@ use Rattle.lh_verify_laws.specs.Sites.{AtEachSite}
 use Rattle.lh_verify_laws.specs.Operands.{IsOf}
 
 -- a step leads from a data type to a part of it, and from a signal to the signal of a part of what it carries
-abbrev pub LeadsTo : Step → (whole of : TypeTree) → Type 0
-LeadsTo s (signal_type t) of = (p : Part) × (step_part t s ≡ Some p) × (of ≡ signal_type p.of)
-LeadsTo s t of = (p : Part) × (step_part t s ≡ Some p) × (of ≡ p.of)
+abbrev pub StepLeadsTo : Step → (whole of : TypeTree) → Type 0
+StepLeadsTo s (signal_type t) of = (p : Part) × (step_part t s ≡ Some p) × (of ≡ signal_type p.of)
+StepLeadsTo s t of = (p : Part) × (step_part t s ≡ Some p) × (of ≡ p.of)
 
 -- `extf` and `exts`: the one operand has the part, and its type is the one that is written
 pub record TakesPart (u : UnitText) (s : Step) (args : List OperandText) : Type 0 where
@@ -22,7 +22,7 @@ pub record TakesPart (u : UnitText) (s : Step) (args : List OperandText) : Type 
   pub is : IsOf u whole operand.value
   pub of : TypeTree
   pub written : operand.ty ≡ Some of
-  pub leads : LeadsTo s whole of
+  pub leads : StepLeadsTo s whole of
 
 -- `insf` and `inss`: the first operand is data of the type that is written and has the part, and the second is of the part's type
 pub record PutsPart (u : UnitText) (s : Step) (args : List OperandText) : Type 0 where

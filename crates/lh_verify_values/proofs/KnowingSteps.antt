@@ -18,7 +18,7 @@ use Rattle.lh_unit.proofs.Lists.{Same, same, other, same_or, nat_eq-refl, nat_eq
 use Rattle.lh_verify_values.specs.declared.scope.Fact.{Fact}
 use Rattle.lh_verify_values.specs.FactsOfUnit.{FactAfter, FactsAfter, GivenBy, GivenArg, FactOfInst, FactOfArg, Marks, blank, line_kind, line_type, arg_type}
 use Rattle.lh_types.specs.Types.{TypeTree}
-use Rattle.lh_verify_values.specs.Numbers.{Grows}
+use Rattle.lh_verify_values.specs.Numbers.{NumbersGrow}
 use Rattle.lh_verify_values.proofs.TypeNumbers.{number-grows}
 use Rattle.lh_unit.proofs.Tables.{is_made-push, is_arg-push}
 
@@ -294,9 +294,9 @@ pub written-back : {X : Type 0} → (new rest : List X) (n : ℕ) → length new
 written-back new rest n e = ap (λ k. take k (new ++ rest)) (sym e) ∙ front new rest
 
 -- what is known stays so where types get numbers
-known-grows : (old new : List TypeTree) (f : Naming) (args : List Arg) (lines : List TableLine) (v : ℕ) (x : Fact) → Grows old new → FactAfter old f args lines v x → FactAfter new f args lines v x
+known-grows : (old new : List TypeTree) (f : Naming) (args : List Arg) (lines : List TableLine) (v : ℕ) (x : Fact) → NumbersGrow old new → FactAfter old f args lines v x → FactAfter new f args lines v x
 known-grows old new f args lines v x g k = record { defined = k.defined; kind = k.kind; ty = number-grows old new x.ty (or_else (arg_type args v) (line_type f lines v)) g k.ty }
 
-pub knows-grows : (old new : List TypeTree) (n : ℕ) (f : Naming) (args : List Arg) (lines : List TableLine) (facts : List Fact) → Grows old new → FactsAfter old n f args lines facts
+pub knows-grows : (old new : List TypeTree) (n : ℕ) (f : Naming) (args : List Arg) (lines : List TableLine) (facts : List Fact) → NumbersGrow old new → FactsAfter old n f args lines facts
     → FactsAfter new n f args lines facts
 knows-grows old new n f args lines facts g k = record { long = k.long; known = λ v x e. known-grows old new f args lines v x g (k.known v x e) }

@@ -4,7 +4,7 @@ use Rattle.lh_types.specs.Types.{TypeTree}
 use Rattle.lh_types.proofs.Lists.{push_cases}
 use Rattle.lh_unit.specs.Arena.{Arena, args_at}
 use Rattle.lh_unit.specs.declared.inst.Arg.{Arg}
-use Rattle.lh_verify_values.specs.Numbers.{Grows, AreNumbersOf}
+use Rattle.lh_verify_values.specs.Numbers.{NumbersGrow, AreNumbersOf}
 use Rattle.lh_verify_values.proofs.TypeNumbers.{numbers-grow, numbers-push}
 use Rattle.lh_verify_values.proofs.KnowingSteps.{take-item, take-all}
 
@@ -19,7 +19,7 @@ long-none (x ∷ xs) numbers e = ap length e
 
 -- one argument more
 pub numbers-next : (old new : List TypeTree) (args : List Arg) (list more : List ℕ) (i : ℕ) (x : Arg) (n : ℕ) → i < length args → x ≡ get_or args i x → length list ≡ length (take i args)
-    → AreNumbersOf old (take i args) list → Grows old new → slice_get new n ≡ Some x.ty → more ≡ list ++ n ∷ [] → AreNumbersOf new (take (i + 1) args) more
+    → AreNumbersOf old (take i args) list → NumbersGrow old new → slice_get new n ≡ Some x.ty → more ≡ list ++ n ∷ [] → AreNumbersOf new (take (i + 1) args) more
 numbers-next old new args list more i x n h e l a g is w =
     let P : List Arg → Type 0 = λ xs. AreNumbersOf new xs (list ++ n ∷ []) in
     let Q : List ℕ → Type 0 = λ ns. AreNumbersOf new (take (i + 1) args) ns in
@@ -46,7 +46,7 @@ pub params-long : (old new : List (List ℕ)) (ns : List ℕ) (n : ℕ) → leng
 params-long old new ns n l e = ap length e ∙ length-append old (ns ∷ []) ∙ ap (λ k. k + 1) l
 
 pub params-push : {args : List Arg} → (old new : List TypeTree) (a : Arena) (params more : List (List ℕ)) (ns : List ℕ) (u : ℕ) → length params ≡ u → more ≡ params ++ ns ∷ []
-    → ((v : ℕ) (ms : List ℕ) → slice_get params v ≡ Some ms → AreNumbersOf old (args_at a v) ms) → Grows old new → args ≡ args_at a u → AreNumbersOf new args ns → (v : ℕ) (ms : List ℕ)
+    → ((v : ℕ) (ms : List ℕ) → slice_get params v ≡ Some ms → AreNumbersOf old (args_at a v) ms) → NumbersGrow old new → args ≡ args_at a u → AreNumbersOf new args ns → (v : ℕ) (ms : List ℕ)
     → slice_get more v ≡ Some ms → AreNumbersOf new (args_at a v) ms
 params-push {args} old new a params more ns u l e known g is has v ms h = elim (push_cases params ns ms v (ap (λ p. slice_get p v) (sym e) ∙ h)) [
   | inl p ↦ numbers-grow old new (args_at a v) ms g (known v ms p)

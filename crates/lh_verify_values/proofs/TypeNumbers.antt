@@ -14,10 +14,10 @@ use Rattle.lh_types.proofs.Rows.{row_of-drop}
 use Rattle.lh_types.proofs.Lists.{push_cases, get_last, get_below}
 use Rattle.lh_unit.proofs.Lists.{Same, same, other, same_or, nat_eq-refl, nat_eq-other, not_true, some_inj}
 use Rattle.lh_verify_values.specs.Digest.{mixed, digest_of, digest_of_row}
-use Rattle.lh_verify_values.specs.Numbers.{Grows, IsNumberOf, AreNumbersOf}
+use Rattle.lh_verify_values.specs.Numbers.{NumbersGrow, IsNumberOf, AreNumbersOf}
 
 -- types that get numbers change no number
-pub number-grows : (old new : List TypeTree) (n : Option ℕ) (t : Option TypeTree) → Grows old new → IsNumberOf old n t → IsNumberOf new n t
+pub number-grows : (old new : List TypeTree) (n : Option ℕ) (t : Option TypeTree) → NumbersGrow old new → IsNumberOf old n t → IsNumberOf new n t
 number-grows old new None None g e = refl
 number-grows old new None (Some t) g e = cc
 number-grows old new (Some n) None g e = cc
@@ -28,7 +28,7 @@ get-more [] ys n t e = cc
 get-more (x ∷ xs) ys zero t e = e
 get-more (x ∷ xs) ys (suc n) t e = get-more xs ys n t e
 
-pub grows-insert : (old new self : List TypeTree) (t : TypeTree) → old ≡ self → new ≡ insert_key same_type old t → Grows self new
+pub grows-insert : (old new self : List TypeTree) (t : TypeTree) → old ≡ self → new ≡ insert_key same_type old t → NumbersGrow self new
 grows-insert old new self t e w n u g = by (list_any (same_type t) old) w
   where
     by : (b : Bool) → new ≡ (if b then old else old ++ t ∷ []) → slice_get new n ≡ Some u
@@ -115,7 +115,7 @@ pub DigestAt-end : (all xs : List TypeTree) (i sum : ℕ) → DigestAt all xs i 
 DigestAt-end all xs i sum r h = ap (λ l. digest_of_row sum (row_of l)) (sym (drop_all i xs h)) ∙ r.rest
 
 -- the numbers of arguments, one more
-pub numbers-grow : (old new : List TypeTree) (args : List Arg) (numbers : List ℕ) → Grows old new → AreNumbersOf old args numbers → AreNumbersOf new args numbers
+pub numbers-grow : (old new : List TypeTree) (args : List Arg) (numbers : List ℕ) → NumbersGrow old new → AreNumbersOf old args numbers → AreNumbersOf new args numbers
 numbers-grow old new args numbers g a k x e = by (slice_get numbers k) (a k x e)
   where
     by : (o : Option ℕ) → option_and_then (slice_get old) o ≡ Some x.ty → option_and_then (slice_get new) o ≡ Some x.ty

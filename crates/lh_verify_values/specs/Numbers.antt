@@ -7,8 +7,8 @@ use Rattle.lh_unit.specs.declared.inst.Arg.{Arg}
 use Rattle.lh_verify_values.specs.declared.numbers.Numbered.{Numbered}
 
 -- each number still is that of its type
-abbrev pub Grows : (old new : List TypeTree) → Type 0
-Grows old new = (n : ℕ) (t : TypeTree) → slice_get old n ≡ Some t → slice_get new n ≡ Some t
+abbrev pub NumbersGrow : (old new : List TypeTree) → Type 0
+NumbersGrow old new = (n : ℕ) (t : TypeTree) → slice_get old n ≡ Some t → slice_get new n ≡ Some t
 
 -- the number of a type that may be absent
 abbrev pub IsNumberOf : List TypeTree → Option ℕ → Option TypeTree → Type 0

@@ -8,7 +8,7 @@ ghost use Rattle.lh_unit.specs.declared.table.TableLine.{TableLine};
 ghost use Rattle.lh_unit.specs.Arena.{unit_count, value_count, inst_count, table_at, args_at, naming};
 ghost use Rattle.lh_verify_values.specs.Facts.{kind_as};
 ghost use Rattle.lh_verify_values.specs.Given.{type_given};
-ghost use Rattle.lh_verify_values.specs.Numbers.{Grows};
+ghost use Rattle.lh_verify_values.specs.Numbers.{NumbersGrow};
 ghost use Rattle.lh_verify_values.specs.FactsOfUnit.{FactsAfter, Marks, FactOfInst, FactOfArg, blank};
 
 use crate::numbers::Types;
@@ -33,7 +33,7 @@ pub fn facts(
     requires unit { unit.0 < unit_count m.now }
     requires insts { insts ≡ inst_count m.now unit.0 }
     ensures facts { IfOk result (λ facts. FactsAfter types.new (value_count m.now unit.0) (naming m.now unit.0) (args_at m.now unit.0) (table_at m.now unit.0).lines facts.items) }
-    ensures grows { OnOk result (Grows types.old types.new) }
+    ensures grows { OnOk result (NumbersGrow types.old types.new) }
 {
     let values = m.values(unit);
     let mut facts = no_facts(alloc, values)?;
@@ -57,7 +57,7 @@ fn tell_all(
     requires old { facts.old ≡ replicate (value_count m.now unit.0) blank }
     requires marks { seen.old ≡ replicate (value_count m.now unit.0) false }
     ensures facts { OnOk result (FactsAfter types.new (value_count m.now unit.0) (naming m.now unit.0) (args_at m.now unit.0) (table_at m.now unit.0).lines facts.new) }
-    ensures grows { OnOk result (Grows types.old types.new) }
+    ensures grows { OnOk result (NumbersGrow types.old types.new) }
 {
     tell_insts(alloc, facts, m, unit, insts, types)?;
     tell_args(facts, seen, m.args(unit), types)
@@ -95,7 +95,7 @@ fn tell_insts(
     requires insts { insts ≡ inst_count m.now unit.0 }
     requires old { facts.old ≡ replicate (value_count m.now unit.0) blank }
     ensures facts { OnOk result (FactsAfter types.new (value_count m.now unit.0) (naming m.now unit.0) [] (table_at m.now unit.0).lines facts.new) }
-    ensures grows { OnOk result (Grows types.old types.new) }
+    ensures grows { OnOk result (NumbersGrow types.old types.new) }
 {
     for i in 0..insts {
         tell_inst(alloc, facts, m, unit, InstId(i), types)?;
@@ -115,7 +115,7 @@ fn tell_inst(
     requires inst { inst.0 < inst_count m.now unit.0 }
     requires long { length facts.old ≡ value_count m.now unit.0 }
     ensures facts { (ls : List TableLine) → FactsAfter types.old (value_count m.now unit.0) (naming m.now unit.0) [] ls facts.old → OnOk result (FactsAfter types.new (value_count m.now unit.0) (naming m.now unit.0) [] (ls ++ line_at (table_at m.now unit.0) inst.0 ∷ []) facts.new) }
-    ensures grows { OnOk result (Grows types.old types.new) }
+    ensures grows { OnOk result (NumbersGrow types.old types.new) }
 {
     match m.result_of(unit, inst) {
         None => Ok(()),
@@ -128,7 +128,7 @@ fn tell_inst(
 
 fn tell(alloc: Global, fact: &mut Fact, inst: &Inst, types: &mut Types) -> Result<(), NoMemory>
     ensures fact { (f : Naming) → OnOk result (FactOfInst types.new fact.old.defined f inst.now fact.old fact.new) }
-    ensures grows { OnOk result (Grows types.old types.new) }
+    ensures grows { OnOk result (NumbersGrow types.old types.new) }
 {
     if fact.defined {
         return Ok(());
@@ -157,7 +157,7 @@ fn tell_args(
     requires within { ArgsWithin (length facts.old) args.now }
     requires marks { seen.old ≡ replicate (length facts.old) false }
     ensures facts { (f : Naming) (lines : List TableLine) → FactsAfter types.old (length facts.old) f [] lines facts.old → OnOk result (FactsAfter types.new (length facts.old) f args.now lines facts.new) }
-    ensures grows { OnOk result (Grows types.old types.new) }
+    ensures grows { OnOk result (NumbersGrow types.old types.new) }
 {
     for arg in args {
         tell_arg_at(facts, seen, arg, types)?;
@@ -175,7 +175,7 @@ fn tell_arg_at(
     requires marks { length seen.old ≡ length facts.old }
     ensures marks { (args : List Arg) → Marks args (length facts.old) seen.old → OnOk result (Marks (args ++ arg.now ∷ []) (length facts.old) seen.new) }
     ensures facts { (f : Naming) (args : List Arg) (lines : List TableLine) → Marks args (length facts.old) seen.old → FactsAfter types.old (length facts.old) f args lines facts.old → OnOk result (FactsAfter types.new (length facts.old) f (args ++ arg.now ∷ []) lines facts.new) }
-    ensures grows { OnOk result (Grows types.old types.new) }
+    ensures grows { OnOk result (NumbersGrow types.old types.new) }
 {
     let value = arg.value.0 as usize;
     tell_arg(&mut facts[value], seen[value], arg, types)?;
@@ -185,7 +185,7 @@ fn tell_arg_at(
 
 fn tell_arg(fact: &mut Fact, seen: bool, arg: &Arg, types: &mut Types) -> Result<(), NoMemory>
     ensures fact { OnOk result (FactOfArg types.new seen arg.now fact.old fact.new) }
-    ensures grows { OnOk result (Grows types.old types.new) }
+    ensures grows { OnOk result (NumbersGrow types.old types.new) }
 {
     if seen {
         return Ok(());

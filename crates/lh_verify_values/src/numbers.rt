@@ -4,7 +4,7 @@ ghost use Rattle.std.specs.Option.{option_copied, option_map_or};
 ghost use Rattle.lh_types.specs.Types.{TypeTree, row_of, same_type};
 ghost use Rattle.lh_types.specs.Kind.{type_of_kind};
 ghost use Rattle.lh_verify_values.specs.Digest.{mixed, digest_of, digest_of_row};
-ghost use Rattle.lh_verify_values.specs.Numbers.{Grows, IsNumberOf};
+ghost use Rattle.lh_verify_values.specs.Numbers.{NumbersGrow, IsNumberOf};
 
 use indexmap::IndexSet;
 use lh_types::memory::NoMemory;
@@ -176,7 +176,7 @@ impl Types {
     /// The number of a type, which is added if it is not there.
     pub fn number(&mut self, ty: Ty) -> Result<u32, NoMemory>
         ensures made { IfOk result (λ n. slice_get self.new n ≡ Some ty) }
-        ensures grows { OnOk result (Grows self.old self.new) }
+        ensures grows { OnOk result (NumbersGrow self.old self.new) }
     {
         let (number, _) = self.set.insert_full(TypeKey { ty })?;
         if number > u32::MAX as usize {
@@ -188,7 +188,7 @@ impl Types {
     /// The number of an equal type. What came before mostly has it at hand; what is new is copied and added.
     pub fn number_like(&mut self, ty: &Ty) -> Result<u32, NoMemory>
         ensures made { IfOk result (λ n. slice_get self.new n ≡ Some ty.now) }
-        ensures grows { OnOk result (Grows self.old self.new) }
+        ensures grows { OnOk result (NumbersGrow self.old self.new) }
     {
         let place = (digest(ty) % RECENT as u64) as usize;
         if let Some(number) = self.checked(self.recent[place], ty) {
@@ -202,7 +202,7 @@ impl Types {
     /// The number of a type that may be absent.
     pub fn number_of(&mut self, ty: Option<&Ty>) -> Result<Option<u32>, NoMemory>
         ensures made { IfOk result (λ n. IsNumberOf self.new n (option_copied ty.entry)) }
-        ensures grows { OnOk result (Grows self.old self.new) }
+        ensures grows { OnOk result (NumbersGrow self.old self.new) }
     {
         match ty {
             None => Ok(None),

@@ -1,6 +1,6 @@
 //! The numbers of the types of the parameters of all units.
 ghost use Rattle.std.specs.Prelude.{◌≡◌, ◌++◌, ◌∷◌, [], IfOk, OnOk};
-ghost use Rattle.lh_verify_values.specs.Numbers.{Grows, AreNumbersOf, NumbersParams};
+ghost use Rattle.lh_verify_values.specs.Numbers.{NumbersGrow, AreNumbersOf, NumbersParams};
 
 use crate::numbers::Types;
 use lh_types::list::ListOf;
@@ -15,7 +15,7 @@ pub type NumberList = ListOf<u32>;
 /// By the ids of units, the numbers of the types of their parameters, where a type that has no number yet gets one; an error only when memory runs out.
 pub fn params(alloc: Global, m: &Module, types: &mut Types) -> Result<Vec<NumberList>, NoMemory>
     ensures numbers { IfOk result (λ params. NumbersParams types.new m.now params.items) }
-    ensures grows { OnOk result (Grows types.old types.new) }
+    ensures grows { OnOk result (NumbersGrow types.old types.new) }
 {
     let mut params = Vec::with_capacity(alloc, m.units() as usize)?;
     for unit in 0..m.units() {
@@ -36,7 +36,7 @@ fn put_numbers(params: &mut Vec<NumberList>, numbers: NumberList) -> Result<(), 
 /// The numbers of the types of arguments.
 fn arg_numbers(alloc: Global, args: &[Arg], types: &mut Types) -> Result<NumberList, NoMemory>
     ensures numbers { IfOk result (λ list. AreNumbersOf types.new args.now list) }
-    ensures grows { OnOk result (Grows types.old types.new) }
+    ensures grows { OnOk result (NumbersGrow types.old types.new) }
 {
     let mut list = NumberList::with_room(alloc, args.len())?;
     put_arg_numbers(&mut list, args, types)?;
@@ -47,7 +47,7 @@ fn arg_numbers(alloc: Global, args: &[Arg], types: &mut Types) -> Result<NumberL
 fn put_arg_numbers(list: &mut NumberList, args: &[Arg], types: &mut Types) -> Result<(), NoMemory>
     requires none { list.old ≡ [] }
     ensures numbers { OnOk result (AreNumbersOf types.new args.now list.new) }
-    ensures grows { OnOk result (Grows types.old types.new) }
+    ensures grows { OnOk result (NumbersGrow types.old types.new) }
 {
     for arg in args {
         let place = types.number_like(&arg.ty)?;

@@ -15,7 +15,7 @@ use Rattle.lh_types.specs.SameValueLaws.{same_datum-refl, same_datum-is}
 use Rattle.lh_types.specs.declared.val.Val.{Val}
 use Rattle.lh_wave.specs.WaveText.{value_line, differing_lines, any_differs}
 use Rattle.lh_wave.specs.declared.changed.Changed.{Changed}
-use Rattle.lh_wave.specs.Changed.{HasNone, IsNoted, with_number, present_value, present_values}
+use Rattle.lh_wave.specs.Changed.{HasNone, ChangesAreListed, with_number, present_value, present_values}
 use Rattle.lh_wave.proofs.ValueLines.{IsSameAt, values_drop, passed_over, differs_at, same_differ, from_not}
 
 -- the number stands in the list from this place on
@@ -266,8 +266,8 @@ within_more : (ks : List ℕ) (k count : ℕ) (n : Option Val) → All (λ (j : 
 within_more ks k count None h l = All-push (λ (j : ℕ). j < count) ks k h l
 within_more ks k count (Some x) h l = h
 
-pub noted_more : (c next : Changed) (count k : ℕ) (n : Option Val) (v : Val) → IsNoted c count → k < length c.values.items → n ≡ get_or c.values.items k n
-    → next.numbers.items ≡ with_number n k c.numbers.items → next.values.items ≡ set c.values.items k (Some v) → IsNoted next count
+pub noted_more : (c next : Changed) (count k : ℕ) (n : Option Val) (v : Val) → ChangesAreListed c count → k < length c.values.items → n ≡ get_or c.values.items k n
+    → next.numbers.items ≡ with_number n k c.numbers.items → next.values.items ≡ set c.values.items k (Some v) → ChangesAreListed next count
 noted_more c next count k n v is l e numbers values = record {
   level = ap length values ∙ length-set c.values.items k (Some v) ∙ is.level;
   within = subst (All (λ (j : ℕ). j < count)) (sym numbers) (within_more c.numbers.items k count n is.within (omega (arith, is.level)));

@@ -25,7 +25,7 @@ use Rattle.lh_wave.specs.declared.run.WaveFault.TheVariants.{WriteFault, OutOfMe
 use Rattle.lh_wave.specs.declared.ending.End.{End}
 use Rattle.lh_wave.specs.ShownRun.{ShownRun}
 use Rattle.lh_wave.specs.BrokenOff.{HaveSeen, no_more, in_part, one_more, AppendsPrefix, BreaksOff}
-use Rattle.lh_wave.specs.Going.{Going, Went, BrokeOff, IsNext, IsPut, IsPassedOn, IsTold, StopsShort, going, shows_one, text_left, text_ahead, pictures_ahead}
+use Rattle.lh_wave.specs.Going.{Going, Went, BrokeOff, IsNextToWrite, FrameIsPut, IsPassedOn, FrameIsTold, StopsShort, going, shows_one, text_left, text_ahead, pictures_ahead}
 
 -- two pieces that were appended are one
 pub told_both : (a b c : Option (List ℕ)) (x y : List ℕ) → Appends a b x → Appends b c y → Appends a c (x ++ y)
@@ -95,8 +95,8 @@ pub all_of : (e : WaveFault) (a b : Option (List ℕ)) (p t : List ℕ) → e �
 all_of e a b p t o h = behind_piece e a b b p t h (none_of e b t o)
 
 -- what was put behind what waited is told, and a piece of it is passed on
-pub told_on : (old new : Scribe) (before : Option (List Datum)) (f : Frame) (was now : Written) (rest : List ℕ) (a b : Option (List ℕ)) → IsPut old new before f was now → now.is_whole ≡ true
-    → IsPassedOn now.items rest a b → IsTold old new before f was.items rest a b
+pub told_on : (old new : Scribe) (before : Option (List Datum)) (f : Frame) (was now : Written) (rest : List ℕ) (a b : Option (List ℕ)) → FrameIsPut old new before f was now → now.is_whole ≡ true
+    → IsPassedOn now.items rest a b → FrameIsTold old new before f was.items rest a b
 told_on old new before f was now rest a b p w o = record {
   piece = o.piece;
   behind = p.behind;
@@ -112,15 +112,15 @@ stopped_short OutOfMemory start waits rest whole a b l h = subst (λ (o : Option
 
 -- the same by what passing it on came to
 pub told_by : {T : Type 0} (r : Result T WaveFault) (old new : Scribe) (shows : Picture) (was now : Written) (rest : List ℕ) (a b : Option (List ℕ))
-    → ((before : Option (List Datum)) (v : Frame) → IsNext old before v shows → IsPut old new before v was now)
+    → ((before : Option (List Datum)) (v : Frame) → IsNextToWrite old before v shows → FrameIsPut old new before v was now)
     → OnOk r (now.is_whole ≡ true) → OnOk r (IsPassedOn now.items rest a b)
-    → OnOk r ((before : Option (List Datum)) (v : Frame) → IsNext old before v shows → IsTold old new before v was.items rest a b)
+    → OnOk r ((before : Option (List Datum)) (v : Frame) → IsNextToWrite old before v shows → FrameIsTold old new before v was.items rest a b)
 told_by (Ok x) old new shows was now rest a b p w o = λ before v n. told_on old new before v was now rest a b (p before v n) w o
 told_by (Err x) old new shows was now rest a b p w o = tt
 
 pub told_short : {T : Type 0} (r : Result T WaveFault) (old new : Scribe) (shows : Picture) (was now : Written) (a b : Option (List ℕ))
-    → ((before : Option (List Datum)) (v : Frame) → IsNext old before v shows → IsPut old new before v was now) → IfErr r (λ e. StopsShort e now a b)
-    → IfErr r (λ e. (before : Option (List Datum)) (v : Frame) (more : List Frame) (left : List Member) (end : End) → IsNext old before v shows
+    → ((before : Option (List Datum)) (v : Frame) → IsNextToWrite old before v shows → FrameIsPut old new before v was now) → IfErr r (λ e. StopsShort e now a b)
+    → IfErr r (λ e. (before : Option (List Datum)) (v : Frame) (more : List Frame) (left : List Member) (end : End) → IsNextToWrite old before v shows
     → BreaksOff e a b (was.items ++ text_left old before (v ∷ more) left end))
 told_short (Ok x) old new shows was now a b p h = tt
 told_short (Err e) old new shows was now a b p h = λ before v more left end n.
@@ -187,8 +187,8 @@ broke_now a e written now o w m = record {
 
 -- a frame was told and shown
 pub frame_went : (t : Teller) (s' : Scribe) (waits : List ℕ) (before : Option (List Datum)) (v : Frame) (p : Picture) (ms ms' : List Member) (rest : ShownRun) (wr wr' : Option (List ℕ)) (rp rp' : List ℕ)
-    (failed : Bool) → IsNext t.scribe before v p
-    → IsTold t.scribe s' before v t.text.items waits wr wr' → ms' ≡ shown p ms → rp' ≡ rp ++ reports_of p ms → failed ≡ (t.failed || has_failed v.outcomes)
+    (failed : Bool) → IsNextToWrite t.scribe before v p
+    → FrameIsTold t.scribe s' before v t.text.items waits wr wr' → ms' ≡ shown p ms → rp' ≡ rp ++ reports_of p ms → failed ≡ (t.failed || has_failed v.outcomes)
     → Went (going t before ms (shows_one p ms v rest) wr rp) (record { scribe = s'; waits = waits; before = Some v.values; members = ms'; rest = rest; written = wr'; reports = rp'; failed = failed })
 frame_went t s' waits before v p ms ms' rest wr wr' rp rp' failed n told m r f = record {
   since = v ∷ [];
@@ -214,8 +214,8 @@ failed_next b was t os f before v e w o p =
 
 -- a frame was told, and memory ran out while it was shown
 pub frame_broke : (t : Teller) (s' : Scribe) (waits : List ℕ) (before : Option (List Datum)) (v : Frame) (p : Picture) (ms now : List Member) (rest : ShownRun) (e : WaveFault) (wr wr' : Option (List ℕ)) (rp : List ℕ)
-    → IsNext t.scribe before v p
-    → IsTold t.scribe s' before v t.text.items waits wr wr' → IsPartlyShown p ms now → e ≡ OutOfMemory → BrokeOff (going t before ms (shows_one p ms v rest) wr rp) e wr' now
+    → IsNextToWrite t.scribe before v p
+    → FrameIsTold t.scribe s' before v t.text.items waits wr wr' → IsPartlyShown p ms now → e ≡ OutOfMemory → BrokeOff (going t before ms (shows_one p ms v rest) wr rp) e wr' now
 frame_broke t s' waits before v p ms now rest e wr wr' rp n told part o = record {
   text = subst (BreaksOff e wr wr') (sym (told.text rest.frames rest.left rest.end)) (all_of e wr wr' told.piece (waits ++ text_left s' (Some v.values) rest.frames rest.left rest.end) o told.told);
   seen = in_part (picture_by before v) (pictures (Some v.values) rest.frames) ms now (subst (λ (q : Picture). IsPartlyShown q ms now) n.is part);

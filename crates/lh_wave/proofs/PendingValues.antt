@@ -13,7 +13,7 @@ use Rattle.lh_types.specs.declared.frame.Change.{Change}
 use Rattle.lh_types.specs.declared.val.Val.{Val}
 use Rattle.lh_wave.specs.declared.waveform.Waveform.{Waveform}
 use Rattle.lh_wave.specs.declared.changed.Changed.{Changed}
-use Rattle.lh_wave.specs.Changed.{IsNoted, HasNone, present_values}
+use Rattle.lh_wave.specs.Changed.{ChangesAreListed, HasNone, present_values}
 use Rattle.lh_wave.specs.WaveText.{WaveMoment}
 use Rattle.lh_wave.specs.Recorded.{values_now, left_text, changed_values}
 use Rattle.lh_wave.proofs.ChangedLemmas.{length_present, present_set, none_present}
@@ -35,11 +35,11 @@ set_none ns ws k v e past =
     sym (set_past (present_values ns ws) k v few)
 
 -- the values are those that they were, all being written
-pub same_moment : (c : Changed) (ws : List Val) (fs : ℕ) (now : List Datum) → IsNoted c (length ws) → ((k : ℕ) → HasNone c.values.items k) → map datum_of ws ≡ now
+pub same_moment : (c : Changed) (ws : List Val) (fs : ℕ) (now : List Datum) → ChangesAreListed c (length ws) → ((k : ℕ) → HasNone c.values.items k) → map datum_of ws ≡ now
     → moment_at fs (present_values c.values.items ws) ≡ moment_at fs now
 same_moment c ws fs now noted none written = ap (moment_at fs) (none_present c.values.items ws noted.level none ∙ written)
 
-pub same_moment_on : {T E : Type 0} (r : Result T E) (c : Changed) (ws : List Val) (fs : ℕ) (now : List Datum) → OnOk r (IsNoted c (length ws)) → OnOk r ((k : ℕ) → HasNone c.values.items k)
+pub same_moment_on : {T E : Type 0} (r : Result T E) (c : Changed) (ws : List Val) (fs : ℕ) (now : List Datum) → OnOk r (ChangesAreListed c (length ws)) → OnOk r ((k : ℕ) → HasNone c.values.items k)
     → OnOk r (map datum_of ws ≡ now) → OnOk r (moment_at fs (present_values c.values.items ws) ≡ moment_at fs now)
 same_moment_on (Ok x) c ws fs now noted none written = same_moment c ws fs now noted none written
 same_moment_on (Err x) c ws fs now noted none written = tt

@@ -24,21 +24,21 @@ use Rattle.lh_wave.specs.declared.run.WaveFault.TheVariants.{OutOfMemory}
 use Rattle.lh_wave.specs.ShownRun.{ShownRun, shown_behind, shows_none, end_of, any_failed, all_reports}
 use Rattle.lh_wave.specs.RunText.{head_in, text_in}
 use Rattle.lh_wave.specs.BrokenOff.{HaveSeen, no_more, BreaksOff}
-use Rattle.lh_wave.specs.Going.{Going, Went, BrokeOff, GoesOn, IsOver, Turned, going, shown_on, values_of_last, IsBehind, scribe_in, text_left}
+use Rattle.lh_wave.specs.Going.{Going, Went, BrokeOff, GoesOn, TellingIsOver, Turned, going, shown_on, values_of_last, HasWrittenUpTo, scribe_in, text_left}
 use Rattle.lh_wave.proofs.Courses.{went_on, stays_put, broke_on, told_both, behind_piece, broken_in_front, all_of}
 
 -- what a turn comes to from every world that the simulation stands for
 abbrev TurnsTo : Option End → Arena → Design → (s s' : Simulation) → (t t' : Teller) → (ms ms' : List Member) → (wr wr' : Option (List ℕ)) → (rp rp' : List ℕ) → Type 0
-TurnsTo e a d s s' t t' ms ms' wr wr' rp rp' = (n : ℕ) (w : World) → StandsFor s w → IsBehind t.scribe (values_of_last a d w)
+TurnsTo e a d s s' t t' ms ms' wr wr' rp rp' = (n : ℕ) (w : World) → StandsFor s w → HasWrittenUpTo t.scribe (values_of_last a d w)
     → Turned e a d n s' t' (going t (values_of_last a d w) ms (shown_on a d (suc n) w ms) wr rp) ms' wr' rp'
 
 -- how a turn breaks off from every world that the simulation stands for
 abbrev BreaksAt : WaveFault → Arena → Design → Simulation → Teller → (ms now : List Member) → (wr wr' : Option (List ℕ)) → (rp : List ℕ) → Type 0
-BreaksAt f a d s t ms now wr wr' rp = (n : ℕ) (w : World) → StandsFor s w → IsBehind t.scribe (values_of_last a d w)
+BreaksAt f a d s t ms now wr wr' rp = (n : ℕ) (w : World) → StandsFor s w → HasWrittenUpTo t.scribe (values_of_last a d w)
     → BrokeOff (going t (values_of_last a d w) ms (shown_on a d (suc n) w ms) wr rp) f wr' now
 
 pub course_start : (a : Arena) (d : Design) (m n : ℕ) (w : World) (s : Simulation) (t : Teller) (ms : List Member) (wr : Option (List ℕ)) (rp : List ℕ) → m ≡ n → StandsFor s w
-    → IsBehind t.scribe (values_of_last a d w)
+    → HasWrittenUpTo t.scribe (values_of_last a d w)
     → GoesOn a d m s t (going t (values_of_last a d w) ms (shown_on a d n w ms) wr rp) ms wr rp
 course_start a d m n w s t ms wr rp e st b = record {
   world = w;
@@ -73,7 +73,7 @@ module _ (a : Arena) (d : Design) (s s' : Simulation) (t t' : Teller) (ms ms' : 
             (going t' (values_of_last a d y.world) ms' (shown_on a d n y.world ms') wr' rp') to_here y.went;
       }
 
-  pub course_over : (e : Option End) (end : End) → e ≡ Some end → TurnsTo e s.arena s.design s s' t t' ms ms' wr wr' rp rp' → IsOver t' start end ms' wr' rp'
+  pub course_over : (e : Option End) (end : End) → e ≡ Some end → TurnsTo e s.arena s.design s s' t t' ms ms' wr wr' rp rp' → TellingIsOver t' start end ms' wr' rp'
   course_over e end eo h =
       let y = turned e (Some end) eo h in
       record {
@@ -94,7 +94,7 @@ at_the_bound vals ms None = refl
 at_the_bound vals ms (Some t) = refl
 
 pub course_end : (a : Arena) (d : Design) (m : ℕ) (s : Simulation) (t : Teller) (start : Going) (ms : List Member) (wr : Option (List ℕ)) (rp : List ℕ) (end : End) → m ≡ 0
-    → ((w : World) → StandsFor s w → end ≡ end_of (at_bound (next_instant w)).end) → GoesOn a d m s t start ms wr rp → IsOver t start end ms wr rp
+    → ((w : World) → StandsFor s w → end ≡ end_of (at_bound (next_instant w)).end) → GoesOn a d m s t start ms wr rp → TellingIsOver t start end ms wr rp
 course_end a d m s t start ms wr rp end em h course =
     let here : Went start (going t (values_of_last a d course.world) ms (shown_on a d 0 course.world ms) wr rp) =
     subst (λ (k : ℕ). Went start (going t (values_of_last a d course.world) ms (shown_on a d k course.world ms) wr rp)) em course.went in
@@ -106,9 +106,9 @@ course_end a d m s t start ms wr rp end em h course =
       went = subst (λ (r : ShownRun). Went start (going t (values_of_last a d course.world) ms r wr rp)) none here;
     }
 
-pub behind_new : (m : WaveMode) (s : Scribe) → s ≡ scribe_in m → IsBehind s None
-behind_new mode.Trace s e = subst (λ (x : Scribe). IsBehind x None) (sym e) tt
-behind_new mode.Vcd s e = subst (λ (x : Scribe). IsBehind x None) (sym e) refl
+pub behind_new : (m : WaveMode) (s : Scribe) → s ≡ scribe_in m → HasWrittenUpTo s None
+behind_new mode.Trace s e = subst (λ (x : Scribe). HasWrittenUpTo x None) (sym e) tt
+behind_new mode.Vcd s e = subst (λ (x : Scribe). HasWrittenUpTo x None) (sym e) refl
 
 -- the head, and what follows it
 parts : (m : WaveMode) (is : List Shown) (ss : List ShownSignal) (r : ShownRun) → head_in m is ss ++ text_left (scribe_in m) None r.frames r.left r.end ≡ text_in m is ss r
@@ -152,7 +152,7 @@ module _ {T : Type 0} (res : Result T WaveFault) (m : WaveMode) (is : List Shown
       at (Err f) k = (subst (BreaksOff f a c) (whole m t.scribe t.text.items is ss r sc te) (behind_piece f a b c (head_in m is ss) behind_head head_told k.text), k.seen)
 
 module _ (r : ShownRun) (t : Teller) (ms : List Member) (b : Option (List ℕ)) (rp : List ℕ) (t' : Teller) (ms' : List Member) (b' : Option (List ℕ)) (rp' : List ℕ) (end : End)
-    (over : IsOver t' (going t None ms r b rp) end ms' b' rp') where
+    (over : TellingIsOver t' (going t None ms r b rp) end ms' b' rp') where
   abbrev all_of_it : List ℕ
   all_of_it = t.text.items ++ text_left t.scribe None r.frames r.left r.end
 

@@ -16,12 +16,12 @@ use Rattle.lh_wave.specs.WaveText.{WaveMoment, waveform_text}
 use Rattle.lh_wave.specs.Recorded.{values_now, first_moment, left_text}
 use Rattle.lh_wave.specs.EndText.{end_line}
 use Rattle.lh_wave.specs.RunText.{moment_of}
-use Rattle.lh_wave.specs.Going.{IsNext, IsPut, IsBehind}
+use Rattle.lh_wave.specs.Going.{IsNextToWrite, FrameIsPut, HasWrittenUpTo}
 
 -- a frame of a trace
-pub trace_put : (s : Scribe) (p : Picture) (was now : Written) → s ≡ scribe.Trace → Writes was now (frame_text p) → (before : Option (List Datum)) (v : Frame) → IsNext s before v p
-    → IsPut s s before v was now
-trace_put s p was now e g before v n = subst (λ (x : Scribe). IsPut x x before v was now) (sym e) (record {
+pub trace_put : (s : Scribe) (p : Picture) (was now : Written) → s ≡ scribe.Trace → Writes was now (frame_text p) → (before : Option (List Datum)) (v : Frame) → IsNextToWrite s before v p
+    → FrameIsPut s s before v was now
+trace_put s p was now e g before v n = subst (λ (x : Scribe). FrameIsPut x x before v was now) (sym e) (record {
   behind = tt;
   text = λ more left end.
       let rest : List ℕ = flat_map frame_text (pictures (Some v.values) more) in
@@ -40,12 +40,12 @@ first_is before v p b e =
 
 -- a waveform begins with the first frame
 pub begun : (s : Scribe) (o : Option Waveform) (w : Waveform) (p : Picture) (to : Written) → s ≡ scribe.Vcd o → o ≡ None → values_now w ≡ (first_moment p).values
-    → ((ms : List WaveMoment) → left_text w ms ≡ waveform_text (first_moment p ∷ ms)) → (before : Option (List Datum)) (v : Frame) → IsNext s before v p → IsPut s (scribe.Vcd (Some w)) before v to to
+    → ((ms : List WaveMoment) → left_text w ms ≡ waveform_text (first_moment p ∷ ms)) → (before : Option (List Datum)) (v : Frame) → IsNextToWrite s before v p → FrameIsPut s (scribe.Vcd (Some w)) before v to to
 begun s o w p to e z vals left before v n =
     let is : s ≡ scribe.Vcd None = e ∙ ap scribe.Vcd z in
-    let none : before ≡ None = subst (λ (x : Scribe). IsBehind x before) is n.behind in
+    let none : before ≡ None = subst (λ (x : Scribe). HasWrittenUpTo x before) is n.behind in
     let first : first_moment p ≡ moment_of v = first_is before v p none n.is in
-    subst (λ (x : Scribe). IsPut x (scribe.Vcd (Some w)) before v to to) (sym is)
+    subst (λ (x : Scribe). FrameIsPut x (scribe.Vcd (Some w)) before v to to) (sym is)
     (record {
       behind = ap Some (sym (vals ∙ ap (λ (m : WaveMoment). m.values) first));
       text = λ more left' end.

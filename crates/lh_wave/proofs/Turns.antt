@@ -26,7 +26,7 @@ use Rattle.lh_wave.specs.declared.run.WaveFault.{WaveFault}
 use Rattle.lh_wave.specs.declared.ending.End.{End}
 use Rattle.lh_wave.specs.declared.ending.End.TheVariants.{Quiet, Runaway, Stop}
 use Rattle.lh_wave.specs.ShownRun.{ShownRun, ran_away, unless_stopped, shows_none, shown_behind, stop_at}
-use Rattle.lh_wave.specs.Going.{Going, Went, BrokeOff, IsBehind, IsReached, IsNext, going, shows_one, shown_on, run_on, values_of_last, IsOver, Turned}
+use Rattle.lh_wave.specs.Going.{Going, Went, BrokeOff, HasWrittenUpTo, ValuesAreReached, IsNextToWrite, going, shows_one, shown_on, run_on, values_of_last, TellingIsOver, Turned}
 use Rattle.lh_trace_laws.proofs.TraceLaw.{bits_stay_law}
 use Rattle.lh_wave.proofs.SameValues.{changes_reach}
 use Rattle.lh_wave.proofs.Courses.{stays_put}
@@ -103,17 +103,17 @@ module _ (a : Arena) (d : Design) (n : ℕ) (w : World) (ms : List Member) where
     shown_next : (p : Picture) (q : Option ℕ) → next_instant w ≡ Some t → p ≡ seen → least_runaway 0 acts ≡ q → shown_on a d (suc n) w ms ≡ shows_one p ms frame (behind_it q p)
     shown_next p q e s r = by_frame q e r ∙ split q ∙ ap (λ (x : Picture). shows_one x ms frame (behind_it q x)) (sym s)
 
-    reached_by : (last : Option Instant) (old : List Bool) → IsReached (option_map (λ (x : Instant). signal_values (design_text a d).signals old) last) frame
+    reached_by : (last : Option Instant) (old : List Bool) → ValuesAreReached (option_map (λ (x : Instant). signal_values (design_text a d).signals old) last) frame
     reached_by None old = tt
     reached_by (Some l) old = changes_reach (design_text a d).signals old (bits_at w.history w.init t)
 
-    is_next : (s : Scribe) (p : Picture) → IsBehind s (values_of_last a d w) → p ≡ seen → IsNext s (values_of_last a d w) frame p
+    is_next : (s : Scribe) (p : Picture) → HasWrittenUpTo s (values_of_last a d w) → p ≡ seen → IsNextToWrite s (values_of_last a d w) frame p
     is_next s p b e = record { behind = b; is = e; reached = reached_by w.last (bits_of w) }
 
     -- a turn that showed the frame, and ended with it or went on
     module _ (s' : Simulation) (t0 t1 : Teller) (p : Picture) (ms' : List Member) (wr wr' : Option (List ℕ)) (rp rp' : List ℕ) (e : next_instant w ≡ Some t) (is : p ≡ seen) (m : ms' ≡ shown p ms)
-        (b : IsBehind t0.scribe (values_of_last a d w)) (behind : (vals : Option (List Datum)) (v : Frame) → IsNext t0.scribe vals v p → IsBehind t1.scribe (Some v.values))
-        (went : (vals : Option (List Datum)) (v : Frame) (rest : ShownRun) → IsNext t0.scribe vals v p
+        (b : HasWrittenUpTo t0.scribe (values_of_last a d w)) (behind : (vals : Option (List Datum)) (v : Frame) → IsNextToWrite t0.scribe vals v p → HasWrittenUpTo t1.scribe (Some v.values))
+        (went : (vals : Option (List Datum)) (v : Frame) (rest : ShownRun) → IsNextToWrite t0.scribe vals v p
         → Went (going t0 vals ms (shows_one p ms v rest) wr rp) (going t1 (Some v.values) ms' rest wr' rp')) where
       abbrev was : Going
       was = going t0 (values_of_last a d w) ms (shown_on a d (suc n) w ms) wr rp
@@ -124,17 +124,17 @@ module _ (a : Arena) (d : Design) (n : ℕ) (w : World) (ms : List Member) where
           (subst (λ (x : ShownRun). Went (going t0 (values_of_last a d w) ms (shows_one p ms frame x) wr rp) (going t1 (Some frame.values) ms' rest wr' rp')) (sym f)
           (went (values_of_last a d w) frame rest (is_next t0.scribe p b is)))
 
-      over : (q : Option ℕ) (end : End) → least_runaway 0 acts ≡ q → behind_it q p ≡ shows_none ms' end → IsOver t1 was end ms' wr' rp'
+      over : (q : Option ℕ) (end : End) → least_runaway 0 acts ≡ q → behind_it q p ≡ shows_none ms' end → TellingIsOver t1 was end ms' wr' rp'
       over q end r f = record { before = Some frame.values; behind = behind (values_of_last a d w) frame (is_next t0.scribe p b is); went = to_rest q (shows_none ms' end) r f }
 
-      ran_over : (i : ℕ) → least_runaway 0 acts ≡ Some i → IsOver t1 was (Runaway i) ms' wr' rp'
+      ran_over : (i : ℕ) → least_runaway 0 acts ≡ Some i → TellingIsOver t1 was (Runaway i) ms' wr' rp'
       ran_over i r = over (Some i) (Runaway i) r (ap (λ (xs : List Member). shows_none xs (Runaway i)) (sym m))
 
       by_stop : (stop : Option ℕ) → first_stop p ms ≡ stop → least_runaway 0 acts ≡ None → StandsFor s' then → Turned (stop_at stop) a d n s' t1 was ms' wr' rp'
       by_stop None f r st = record {
         world = then;
         stands = st;
-        behind = subst (IsBehind t1.scribe) (sym values_then) (behind (values_of_last a d w) frame (is_next t0.scribe p b is));
+        behind = subst (HasWrittenUpTo t1.scribe) (sym values_then) (behind (values_of_last a d w) frame (is_next t0.scribe p b is));
         went = subst (λ (vals : Option (List Datum)). Went was (going t1 vals ms' (shown_on a d n then ms') wr' rp')) (sym values_then)
             (to_rest None (shown_on a d n then ms') r
             (ap (λ (o : Option ℕ). unless_stopped o false (shown p ms) (shown_on a d n then (shown p ms))) f ∙ ap (shown_on a d n then) (sym m)));
@@ -145,8 +145,8 @@ module _ (a : Arena) (d : Design) (n : ℕ) (w : World) (ms : List Member) where
     -- a turn that broke off at the frame
     frame_broken : (t0 : Teller) (p : Picture) (q : Option ℕ) (now : List Member) (f : WaveFault) (wr wr' : Option (List ℕ)) (rp : List ℕ) → next_instant w ≡ Some t → p ≡ seen
         → least_runaway 0 acts ≡ q
-        → IsBehind t0.scribe (values_of_last a d w)
-        → ((vals : Option (List Datum)) (v : Frame) (rest : ShownRun) → IsNext t0.scribe vals v p → BrokeOff (going t0 vals ms (shows_one p ms v rest) wr rp) f wr' now)
+        → HasWrittenUpTo t0.scribe (values_of_last a d w)
+        → ((vals : Option (List Datum)) (v : Frame) (rest : ShownRun) → IsNextToWrite t0.scribe vals v p → BrokeOff (going t0 vals ms (shows_one p ms v rest) wr rp) f wr' now)
         → BrokeOff (going t0 (values_of_last a d w) ms (shown_on a d (suc n) w ms) wr rp) f wr' now
     frame_broken t0 p q now f wr wr' rp e is r b h =
         subst (λ (x : ShownRun). BrokeOff (going t0 (values_of_last a d w) ms x wr rp) f wr' now) (sym (shown_next p q e is r))
@@ -162,9 +162,9 @@ module _ (s s' : Simulation) (w : World) (x : SimStep) (f : frames.Frame) (stepp
 
 turned_frame : (s s' : Simulation) (w : World) (x : SimStep) (f : frames.Frame) (n : ℕ) (stop : Option ℕ) (t0 t1 : Teller) (ms ms' : List Member) (wr wr' : Option (List ℕ)) (rp rp' : List ℕ)
     → Stepped s w s' x → x ≡ sim_step.Frame f
-    → ms' ≡ shown (picture f) ms → stop ≡ first_stop (picture f) ms → IsBehind t0.scribe (values_of_last s.arena s.design w)
-    → ((vals : Option (List Datum)) (v : Frame) → IsNext t0.scribe vals v (picture f) → IsBehind t1.scribe (Some v.values))
-    → ((vals : Option (List Datum)) (v : Frame) (rest : ShownRun) → IsNext t0.scribe vals v (picture f)
+    → ms' ≡ shown (picture f) ms → stop ≡ first_stop (picture f) ms → HasWrittenUpTo t0.scribe (values_of_last s.arena s.design w)
+    → ((vals : Option (List Datum)) (v : Frame) → IsNextToWrite t0.scribe vals v (picture f) → HasWrittenUpTo t1.scribe (Some v.values))
+    → ((vals : Option (List Datum)) (v : Frame) (rest : ShownRun) → IsNextToWrite t0.scribe vals v (picture f)
     → Went (going t0 vals ms (shows_one (picture f) ms v rest) wr rp) (going t1 (Some v.values) ms' rest wr' rp'))
     → Turned (stop_at stop) s.arena s.design n s' t1 (going t0 (values_of_last s.arena s.design w) ms (shown_on s.arena s.design (suc n) w ms) wr rp) ms' wr' rp'
 turned_frame s s' w x f n stop t0 t1 ms ms' wr wr' rp rp' st e m k b behind went =
@@ -175,9 +175,9 @@ turned_frame s s' w x f n stop t0 t1 ms ms' wr wr' rp rp' st e m k b behind went
 
 pub turned_end : (s s' : Simulation) (w : World) (x : SimStep) (f : frames.Frame) (n : ℕ) (stop : Option ℕ) (end : Option End) (t0 t1 : Teller) (ms ms' : List Member) (wr wr' : Option (List ℕ)) (rp
     rp' : List ℕ) → Stepped s w s' x → x ≡ sim_step.Frame f
-    → end ≡ stop_at stop → ms' ≡ shown (picture f) ms → stop ≡ first_stop (picture f) ms → IsBehind t0.scribe (values_of_last s.arena s.design w)
-    → ((vals : Option (List Datum)) (v : Frame) → IsNext t0.scribe vals v (picture f) → IsBehind t1.scribe (Some v.values))
-    → ((vals : Option (List Datum)) (v : Frame) (rest : ShownRun) → IsNext t0.scribe vals v (picture f)
+    → end ≡ stop_at stop → ms' ≡ shown (picture f) ms → stop ≡ first_stop (picture f) ms → HasWrittenUpTo t0.scribe (values_of_last s.arena s.design w)
+    → ((vals : Option (List Datum)) (v : Frame) → IsNextToWrite t0.scribe vals v (picture f) → HasWrittenUpTo t1.scribe (Some v.values))
+    → ((vals : Option (List Datum)) (v : Frame) (rest : ShownRun) → IsNextToWrite t0.scribe vals v (picture f)
     → Went (going t0 vals ms (shows_one (picture f) ms v rest) wr rp) (going t1 (Some v.values) ms' rest wr' rp'))
     → Turned end s.arena s.design n s' t1 (going t0 (values_of_last s.arena s.design w) ms (shown_on s.arena s.design (suc n) w ms) wr rp) ms' wr' rp'
 turned_end s s' w x f n stop end t0 t1 ms ms' wr wr' rp rp' st e z m k b behind went =
@@ -186,18 +186,18 @@ turned_end s s' w x f n stop end t0 t1 ms ms' wr wr' rp rp' st e z m k b behind 
 
 pub turned_runaway : (s s' : Simulation) (w : World) (x : SimStep) (f : frames.Frame) (i n : ℕ) (t0 t1 : Teller) (ms ms' : List Member) (wr wr' : Option (List ℕ)) (rp rp' : List ℕ) → Stepped s w s' x
     → x ≡ sim_step.Runaway f i
-    → ms' ≡ shown (picture f) ms → IsBehind t0.scribe (values_of_last s.arena s.design w)
-    → ((vals : Option (List Datum)) (v : Frame) → IsNext t0.scribe vals v (picture f) → IsBehind t1.scribe (Some v.values))
-    → ((vals : Option (List Datum)) (v : Frame) (rest : ShownRun) → IsNext t0.scribe vals v (picture f)
+    → ms' ≡ shown (picture f) ms → HasWrittenUpTo t0.scribe (values_of_last s.arena s.design w)
+    → ((vals : Option (List Datum)) (v : Frame) → IsNextToWrite t0.scribe vals v (picture f) → HasWrittenUpTo t1.scribe (Some v.values))
+    → ((vals : Option (List Datum)) (v : Frame) (rest : ShownRun) → IsNextToWrite t0.scribe vals v (picture f)
     → Went (going t0 vals ms (shows_one (picture f) ms v rest) wr rp) (going t1 (Some v.values) ms' rest wr' rp'))
-    → IsOver t1 (going t0 (values_of_last s.arena s.design w) ms (shown_on s.arena s.design (suc n) w ms) wr rp) (Runaway i) ms' wr' rp'
+    → TellingIsOver t1 (going t0 (values_of_last s.arena s.design w) ms (shown_on s.arena s.design (suc n) w ms) wr rp) (Runaway i) ms' wr' rp'
 turned_runaway s s' w x f i n t0 t1 ms ms' wr wr' rp rp' st e m b behind went =
     let y = ran_frame s s' w x f st i e in
     ran_over s.arena s.design n w ms y.at s' t0 t1 (picture f) ms' wr wr' rp rp' y.comes y.shows m b behind went i y.ends
 
 pub turned_quiet : (s s' : Simulation) (w : World) (x : SimStep) (n : ℕ) (t : Teller) (ms : List Member) (wr : Option (List ℕ)) (rp : List ℕ) → Stepped s w s' x → x ≡ sim_step.Quiet
-    → IsBehind t.scribe (values_of_last s.arena s.design w)
-    → IsOver t (going t (values_of_last s.arena s.design w) ms (shown_on s.arena s.design (suc n) w ms) wr rp) Quiet ms wr rp
+    → HasWrittenUpTo t.scribe (values_of_last s.arena s.design w)
+    → TellingIsOver t (going t (values_of_last s.arena s.design w) ms (shown_on s.arena s.design (suc n) w ms) wr rp) Quiet ms wr rp
 turned_quiet s s' w x n t ms wr rp st e b = record {
   before = values_of_last s.arena s.design w;
   behind = b;
@@ -207,8 +207,8 @@ turned_quiet s s' w x n t ms wr rp st e b = record {
 
 pub broken_frame : (s s' : Simulation) (w : World) (x : SimStep) (f : frames.Frame) (n : ℕ) (t0 : Teller) (ms now : List Member) (fault : WaveFault) (wr wr' : Option (List ℕ)) (rp : List ℕ)
     → Stepped s w s' x → x ≡ sim_step.Frame f
-    → IsBehind t0.scribe (values_of_last s.arena s.design w)
-    → ((vals : Option (List Datum)) (v : Frame) (rest : ShownRun) → IsNext t0.scribe vals v (picture f) → BrokeOff (going t0 vals ms (shows_one (picture f) ms v rest) wr rp) fault wr' now)
+    → HasWrittenUpTo t0.scribe (values_of_last s.arena s.design w)
+    → ((vals : Option (List Datum)) (v : Frame) (rest : ShownRun) → IsNextToWrite t0.scribe vals v (picture f) → BrokeOff (going t0 vals ms (shows_one (picture f) ms v rest) wr rp) fault wr' now)
     → BrokeOff (going t0 (values_of_last s.arena s.design w) ms (shown_on s.arena s.design (suc n) w ms) wr rp) fault wr' now
 broken_frame s s' w x f n t0 ms now fault wr wr' rp st e b h =
     let y = next_frame s s' w x f st e in
@@ -216,8 +216,8 @@ broken_frame s s' w x f n t0 ms now fault wr wr' rp st e b h =
 
 pub broken_runaway : (s s' : Simulation) (w : World) (x : SimStep) (f : frames.Frame) (i n : ℕ) (t0 : Teller) (ms now : List Member) (fault : WaveFault) (wr wr' : Option (List ℕ)) (rp : List ℕ)
     → Stepped s w s' x → x ≡ sim_step.Runaway f i
-    → IsBehind t0.scribe (values_of_last s.arena s.design w)
-    → ((vals : Option (List Datum)) (v : Frame) (rest : ShownRun) → IsNext t0.scribe vals v (picture f) → BrokeOff (going t0 vals ms (shows_one (picture f) ms v rest) wr rp) fault wr' now)
+    → HasWrittenUpTo t0.scribe (values_of_last s.arena s.design w)
+    → ((vals : Option (List Datum)) (v : Frame) (rest : ShownRun) → IsNextToWrite t0.scribe vals v (picture f) → BrokeOff (going t0 vals ms (shows_one (picture f) ms v rest) wr rp) fault wr' now)
     → BrokeOff (going t0 (values_of_last s.arena s.design w) ms (shown_on s.arena s.design (suc n) w ms) wr rp) fault wr' now
 broken_runaway s s' w x f i n t0 ms now fault wr wr' rp st e b h =
     let y = ran_frame s s' w x f st i e in

@@ -10,7 +10,7 @@ abbrev pub HasNone : List (Option Val) → ℕ → Type 0
 HasNone new k = slice_index_or new k None ≡ None
 
 -- There is room for a new value of each of so many signals, and those that have one are listed.
-pub record IsNoted (c : Changed) (count : ℕ) : Type 0 where
+pub record ChangesAreListed (c : Changed) (count : ℕ) : Type 0 where
   pub level : length c.values.items ≡ count
   pub within : All (λ (k : ℕ). k < count) c.numbers.items
   pub listed : (k : ℕ) → Contains c.numbers.items k ⊎ HasNone c.values.items k

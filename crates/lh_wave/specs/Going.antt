@@ -25,7 +25,7 @@ use Rattle.lh_wave.specs.declared.run.WaveFault.{WaveFault}
 use Rattle.lh_wave.specs.declared.run.WaveFault.TheVariants.{WriteFault, OutOfMemory}
 use Rattle.lh_wave.specs.TraceText.{frame_text}
 use Rattle.lh_wave.specs.WaveText.{waveform_text}
-use Rattle.lh_wave.specs.Recorded.{IsKept, values_now, left_text, changed_values}
+use Rattle.lh_wave.specs.Recorded.{ChangesAreOfSignals, values_now, left_text, changed_values}
 use Rattle.lh_wave.specs.EndText.{end_line}
 use Rattle.lh_wave.specs.RunText.{moment_of}
 use Rattle.lh_wave.specs.ShownRun.{ShownRun, shows_none, shows, shown_behind}
@@ -46,18 +46,18 @@ text_left (scribe.Vcd (Some w)) before frames left end = left_text w (map moment
 abbrev pub KeepsSignals : Scribe → Type 0
 KeepsSignals scribe.Trace = Unit {0}
 KeepsSignals (scribe.Vcd None) = Unit {0}
-KeepsSignals (scribe.Vcd (Some w)) = IsKept w
+KeepsSignals (scribe.Vcd (Some w)) = ChangesAreOfSignals w
 
 -- it has written the frames up to one with these values: a waveform has begun exactly where there is one
-abbrev pub IsBehind : Scribe → (before : Option (List Datum)) → Type 0
-IsBehind scribe.Trace before = Unit {0}
-IsBehind (scribe.Vcd None) before = before ≡ None
-IsBehind (scribe.Vcd (Some w)) before = before ≡ Some (values_now w)
+abbrev pub HasWrittenUpTo : Scribe → (before : Option (List Datum)) → Type 0
+HasWrittenUpTo scribe.Trace before = Unit {0}
+HasWrittenUpTo (scribe.Vcd None) before = before ≡ None
+HasWrittenUpTo (scribe.Vcd (Some w)) before = before ≡ Some (values_now w)
 
 -- the changes against the values before lead to the values of the frame
-abbrev pub IsReached : (before : Option (List Datum)) → Frame → Type 0
-IsReached None f = Unit {0}
-IsReached (Some old) f = changed_values old (changed_from 0 old f.values) ≡ f.values
+abbrev pub ValuesAreReached : (before : Option (List Datum)) → Frame → Type 0
+ValuesAreReached None f = Unit {0}
+ValuesAreReached (Some old) f = changed_values old (changed_from 0 old f.values) ≡ f.values
 
 -- A run at one of its points: the values of the last frame, the members, what is still shown, how far the text is made and what of it waits to be written, what was written and reported, and whether an assertion has failed.
 pub record Going : Type 0 where
@@ -114,14 +114,14 @@ going t before ms rest written reports =
     record { scribe = t.scribe; waits = t.text.items; before = before; members = ms; rest = rest; written = written; reports = reports; failed = t.failed }
 
 -- the text of a frame was put behind a text
-pub record IsPut (old new : Scribe) (before : Option (List Datum)) (f : Frame) (was now : Written) : Type 0 where
-  pub behind : IsBehind new (Some f.values)
+pub record FrameIsPut (old new : Scribe) (before : Option (List Datum)) (f : Frame) (was now : Written) : Type 0 where
+  pub behind : HasWrittenUpTo new (Some f.values)
   pub text : (more : List Frame) (left : List Member) (end : End) → Leaves was now (text_left new (Some f.values) more left end) (text_left old before (f ∷ more) left end)
 
 -- the text of a frame was put behind what waited, and a piece in front was written
-pub record IsTold (old new : Scribe) (before : Option (List Datum)) (f : Frame) (waited waits : List ℕ) (was_written written : Option (List ℕ)) : Type 0 where
+pub record FrameIsTold (old new : Scribe) (before : Option (List Datum)) (f : Frame) (waited waits : List ℕ) (was_written written : Option (List ℕ)) : Type 0 where
   pub piece : List ℕ
-  pub behind : IsBehind new (Some f.values)
+  pub behind : HasWrittenUpTo new (Some f.values)
   pub text : (more : List Frame) (left : List Member) (end : End) →
       waited ++ text_left old before (f ∷ more) left end ≡ piece ++ (waits ++ text_left new (Some f.values) more left end)
   pub told : Appends was_written written piece
@@ -138,10 +138,10 @@ StopsShort WriteFault waits was_written written = waits.is_whole ≡ true × App
 StopsShort OutOfMemory waits was_written written = written ≡ was_written
 
 -- A frame is the next one that a scribe is to write, and it shows this.
-pub record IsNext (s : Scribe) (before : Option (List Datum)) (f : Frame) (shows : Picture) : Type 0 where
-  pub behind : IsBehind s before
+pub record IsNextToWrite (s : Scribe) (before : Option (List Datum)) (f : Frame) (shows : Picture) : Type 0 where
+  pub behind : HasWrittenUpTo s before
   pub is : shows ≡ picture_by before f
-  pub reached : IsReached before f
+  pub reached : ValuesAreReached before f
 
 -- the frame is shown, and then the rest
 abbrev pub shows_one : Picture → List Member → Frame → ShownRun → ShownRun
@@ -151,16 +151,16 @@ shows_one p ms f rest = shows f (reports_of p ms) rest
 pub record GoesOn (a : Arena) (d : Design) (n : ℕ) (sim : Simulation) (t : Teller) (was : Going) (ms : List Member) (written : Option (List ℕ)) (reports : List ℕ) : Type 0 where
   pub world : World
   pub stands : StandsFor sim world
-  pub behind : IsBehind t.scribe (values_of_last a d world)
+  pub behind : HasWrittenUpTo t.scribe (values_of_last a d world)
   pub went : Went was (going t (values_of_last a d world) ms (shown_on a d n world ms) written reports)
 
 -- after the last turn nothing more is shown
-pub record IsOver (t : Teller) (was : Going) (end : End) (ms : List Member) (written : Option (List ℕ)) (reports : List ℕ) : Type 0 where
+pub record TellingIsOver (t : Teller) (was : Going) (end : End) (ms : List Member) (written : Option (List ℕ)) (reports : List ℕ) : Type 0 where
   pub before : Option (List Datum)
-  pub behind : IsBehind t.scribe before
+  pub behind : HasWrittenUpTo t.scribe before
   pub went : Went was (going t before ms (shows_none ms end) written reports)
 
 -- what a turn came to, at most n frames being left after it
 abbrev pub Turned : Option End → Arena → Design → (n : ℕ) → Simulation → Teller → Going → List Member → (written : Option (List ℕ)) → (reports : List ℕ) → Type 0
 Turned None a d n sim t was ms written reports = GoesOn a d n sim t was ms written reports
-Turned (Some end) a d n sim t was ms written reports = IsOver t was end ms written reports
+Turned (Some end) a d n sim t was ms written reports = TellingIsOver t was end ms written reports

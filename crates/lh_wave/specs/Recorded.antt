@@ -4,7 +4,7 @@ use Rattle.lh_types.specs.Values.{Datum}
 use Rattle.lh_types.specs.ValueOf.{datum_of}
 use Rattle.lh_types.specs.Pictures.{Showing, Picture}
 use Rattle.lh_wave.specs.declared.waveform.Waveform.{Waveform}
-use Rattle.lh_wave.specs.Changed.{IsNoted, present_values}
+use Rattle.lh_wave.specs.Changed.{ChangesAreListed, present_values}
 use Rattle.lh_wave.specs.WaveText.{WaveMoment, lasts_from, dump_text, changes_text}
 
 -- values after some of them changed
@@ -34,5 +34,5 @@ left_text w ms =
     if w.dumped then changes_text (map datum_of w.written.items) (lasts_from (moment_now w) ms) else dump_text (lasts_from (moment_now w) ms)
 
 -- the new values are of the signals that were written
-abbrev pub IsKept : Waveform → Type 0
-IsKept w = IsNoted w.changed (length w.written.items)
+abbrev pub ChangesAreOfSignals : Waveform → Type 0
+ChangesAreOfSignals w = ChangesAreListed w.changed (length w.written.items)

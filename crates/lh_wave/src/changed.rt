@@ -5,7 +5,7 @@ ghost use Rattle.lh_text_buffer.specs.Writing.{Writes};
 ghost use Rattle.lh_types.specs.ValueOf.{datum_of};
 ghost use Rattle.lh_types.specs.SameValue.{same_datum};
 ghost use Rattle.lh_wave.specs.WaveText.{value_line, differing_lines, any_differs};
-ghost use Rattle.lh_wave.specs.Changed.{IsNoted, HasNone, with_number, present_value, present_values};
+ghost use Rattle.lh_wave.specs.Changed.{ChangesAreListed, HasNone, with_number, present_value, present_values};
 
 use crate::wire::put_wire;
 use lh_text_buffer::Text;
@@ -22,9 +22,9 @@ pub(crate) struct Changed {
 }
 
 impl Changed {
-    /// None for any of so many signals.
+    /// None for any of this many signals.
     pub fn none(alloc: Global, count: usize) -> Result<Changed, NoMemory>
-        ensures noted { IfOk result (λ c. IsNoted c count) }
+        ensures noted { IfOk result (λ c. ChangesAreListed c count) }
         ensures none { IfOk result (λ c. (k : ℕ) → HasNone c.values.items k) }
     {
         let mut values = Vec::with_capacity(alloc, count)?;
@@ -47,7 +47,7 @@ impl Changed {
     /// Changes the value of a signal.
     pub fn set(&mut self, k: usize, value: Val) -> Result<(), NoMemory>
         requires { k < length self.old.values.items }
-        ensures noted { OnOk result ((count : ℕ) → IsNoted self.old count → IsNoted self.new count) }
+        ensures noted { OnOk result ((count : ℕ) → ChangesAreListed self.old count → ChangesAreListed self.new count) }
         ensures values { OnOk result (self.new.values.items ≡ slice_set self.old.values.items k (Some value)) }
     {
         note(&mut self.numbers, &self.values[k], k)?;
@@ -57,7 +57,7 @@ impl Changed {
 
     /// Whether the value of some signal differs from the one that was written last.
     pub fn differs(&self, written: &[Val]) -> bool
-        requires { IsNoted self.now (length written.now) }
+        requires { ChangesAreListed self.now (length written.now) }
         ensures { result ≡ any_differs (map datum_of written.now) (present_values self.now.values.items written.now) }
     {
         for &k in &self.numbers {
@@ -71,8 +71,8 @@ impl Changed {
     /// Puts the lines of the signals, in order, whose new values differ from those that were written last, and writes all over these.
     /// The numbers of each frame come in order, so that a sort that keeps such runs is fast.
     pub fn put_over(&mut self, to: &mut Text, written: &mut Vec<Val>) -> Result<(), NoMemory>
-        requires { IsNoted self.old (length written.old.items) }
-        ensures noted { OnOk result (IsNoted self.new (length written.new.items)) }
+        requires { ChangesAreListed self.old (length written.old.items) }
+        ensures noted { OnOk result (ChangesAreListed self.new (length written.new.items)) }
         ensures none { OnOk result ((k : ℕ) → HasNone self.new.values.items k) }
         ensures text { OnOk result (Writes to.old to.new (differing_lines 0 (map datum_of written.old.items) (present_values self.old.values.items written.old.items))) }
         ensures written { OnOk result (map datum_of written.new.items ≡ present_values self.old.values.items written.old.items) }
@@ -85,8 +85,8 @@ impl Changed {
 
     /// Writes the new values over those that were written last.
     pub fn move_over(&mut self, written: &mut Vec<Val>)
-        requires { IsNoted self.old (length written.old.items) }
-        ensures noted { IsNoted self.new (length written.new.items) }
+        requires { ChangesAreListed self.old (length written.old.items) }
+        ensures noted { ChangesAreListed self.new (length written.new.items) }
         ensures none { (k : ℕ) → HasNone self.new.values.items k }
         ensures written { map datum_of written.new.items ≡ present_values self.old.values.items written.old.items }
     {

@@ -12,7 +12,7 @@ ghost use Rattle.lh_elab.specs.Answer.{IsDesignOf};
 ghost use Rattle.lh_kernel.specs.Simulation.{StandsFor};
 ghost use Rattle.lh_wave.specs.HeadText.{signals_in};
 ghost use Rattle.lh_wave.specs.ShownRun.{shown_from_first, all_reports, any_failed};
-ghost use Rattle.lh_wave.specs.Going.{KeepsSignals, IsBehind, BrokeOff, going, text_left};
+ghost use Rattle.lh_wave.specs.Going.{KeepsSignals, HasWrittenUpTo, BrokeOff, going, text_left};
 ghost use Rattle.lh_wave.specs.RunText.{text_in, head_in};
 ghost use Rattle.lh_wave.specs.BrokenOff.{HaveSeen, BreaksOff};
 ghost use Rattle.lh_wave.specs.declared.run.WaveFault.TheVariants.{WriteFault, OutOfMemory};
@@ -117,7 +117,7 @@ fn tell_run<K: Sink, W: Watcher>(
     reports: &mut Vec<u8>,
 ) -> Result<Ending, WaveFault>
     requires steady { KeepsSignals teller.old.scribe }
-    requires behind { IsBehind teller.old.scribe None }
+    requires behind { HasWrittenUpTo teller.old.scribe None }
     requires fresh { StandsFor sim.old (first_world (contents sim.old.arena) (design_text sim.old.arena sim.old.design)) }
     ensures ending { let s = shown_from_first (contents sim.old.arena) (design_text sim.old.arena sim.old.design) steps (map W.member ws.old.items) in
         IfOk result (λ e. (e.end ≡ s.end) × (e.failed ≡ teller.old.failed || any_failed s)) }

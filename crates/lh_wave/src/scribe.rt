@@ -4,7 +4,7 @@ ghost use Rattle.lh_text_buffer.specs.Writing.{Writes};
 ghost use Rattle.lh_types.specs.Values.{Datum};
 ghost use Rattle.lh_types.specs.Pictures.{picture};
 ghost use Rattle.lh_unit.specs.Trace as trace;
-ghost use Rattle.lh_wave.specs.Going.{scribe_in, text_left, KeepsSignals, IsBehind, IsNext, IsPut};
+ghost use Rattle.lh_wave.specs.Going.{scribe_in, text_left, KeepsSignals, HasWrittenUpTo, IsNextToWrite, FrameIsPut};
 
 use crate::ending::{End, put_end};
 use crate::run::WaveMode;
@@ -27,7 +27,7 @@ impl Scribe {
     /// Before the first frame.
     pub fn new(mode: WaveMode) -> Scribe
         ensures steady { KeepsSignals result }
-        ensures behind { IsBehind result None }
+        ensures behind { HasWrittenUpTo result None }
         ensures mode { result ≡ scribe_in mode }
     {
         match mode {
@@ -41,8 +41,8 @@ impl Scribe {
     pub fn take(&mut self, alloc: Global, f: &Frame, to: &mut Text) -> Result<(), NoMemory>
         requires { KeepsSignals self.old }
         ensures steady { OnOk result (KeepsSignals self.new) }
-        ensures put { OnOk result ((before : Option (List Datum)) (v : trace.Frame) → IsNext self.old before v (picture f.now) →
-            IsPut self.old self.new before v to.old to.new) }
+        ensures put { OnOk result ((before : Option (List Datum)) (v : trace.Frame) → IsNextToWrite self.old before v (picture f.now) →
+            FrameIsPut self.old self.new before v to.old to.new) }
     {
         match self {
             Scribe::Trace => {

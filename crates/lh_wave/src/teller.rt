@@ -12,7 +12,7 @@ ghost use Rattle.lh_watch.specs.Shown.{shown, first_stop};
 ghost use Rattle.lh_kernel.specs.Simulation.{StandsFor};
 ghost use Rattle.lh_wave.specs.BrokenOff.{BreaksOff};
 ghost use Rattle.lh_wave.specs.ShownRun.{ShownRun, end_of, stop_at};
-ghost use Rattle.lh_wave.specs.Going.{scribe_in, text_left, KeepsSignals, IsBehind, IsNext, IsTold, Went, BrokeOff, Turned, IsOver, going, shows_one, shown_on, values_of_last};
+ghost use Rattle.lh_wave.specs.Going.{scribe_in, text_left, KeepsSignals, HasWrittenUpTo, IsNextToWrite, FrameIsTold, Went, BrokeOff, Turned, TellingIsOver, going, shows_one, shown_on, values_of_last};
 
 use crate::ending::End;
 use crate::run::{WaveFault, WaveMode};
@@ -73,10 +73,10 @@ impl Teller {
     ) -> Result<End, WaveFault>
         requires { KeepsSignals self.old.scribe }
         ensures steady { OnOk result (KeepsSignals self.new.scribe) }
-        ensures ok { IfOk result (λ end. (w : World) → StandsFor sim.old w → let before = values_of_last sim.old.arena sim.old.design w in IsBehind self.old.scribe before →
+        ensures ok { IfOk result (λ end. (w : World) → StandsFor sim.old w → let before = values_of_last sim.old.arena sim.old.design w in HasWrittenUpTo self.old.scribe before →
             let ms = map W.member ws.old.items in
-            IsOver self.new (going self.old before ms (shown_on sim.old.arena sim.old.design steps w ms) (K.written out.old) reports.old.items) end (map W.member ws.new.items) (K.written out.new) reports.new.items) }
-        ensures err { IfErr result (λ e. (w : World) → StandsFor sim.old w → let before = values_of_last sim.old.arena sim.old.design w in IsBehind self.old.scribe before →
+            TellingIsOver self.new (going self.old before ms (shown_on sim.old.arena sim.old.design steps w ms) (K.written out.old) reports.old.items) end (map W.member ws.new.items) (K.written out.new) reports.new.items) }
+        ensures err { IfErr result (λ e. (w : World) → StandsFor sim.old w → let before = values_of_last sim.old.arena sim.old.design w in HasWrittenUpTo self.old.scribe before →
             let ms = map W.member ws.old.items in
             BrokeOff (going self.old before ms (shown_on sim.old.arena sim.old.design steps w ms) (K.written out.old) reports.old.items) e (K.written out.new) (map W.member ws.new.items)) }
         ensures rose { IsErrOf result WaveFault.WriteFault → Rose (K.faults out.old) (K.faults out.new) }
@@ -105,10 +105,10 @@ impl Teller {
         ensures steady { OnOk result (KeepsSignals self.new.scribe) }
         ensures arena { sim.new.arena ≡ sim.old.arena }
         ensures design { sim.new.design ≡ sim.old.design }
-        ensures ok { IfOk result (λ end. (n : ℕ) (w : World) → StandsFor sim.old w → let before = values_of_last sim.old.arena sim.old.design w in IsBehind self.old.scribe before →
+        ensures ok { IfOk result (λ end. (n : ℕ) (w : World) → StandsFor sim.old w → let before = values_of_last sim.old.arena sim.old.design w in HasWrittenUpTo self.old.scribe before →
             let ms = map W.member ws.old.items in
             Turned end sim.old.arena sim.old.design n sim.new self.new (going self.old before ms (shown_on sim.old.arena sim.old.design (suc n) w ms) (K.written out.old) reports.old.items) (map W.member ws.new.items) (K.written out.new) reports.new.items) }
-        ensures err { IfErr result (λ e. (n : ℕ) (w : World) → StandsFor sim.old w → let before = values_of_last sim.old.arena sim.old.design w in IsBehind self.old.scribe before →
+        ensures err { IfErr result (λ e. (n : ℕ) (w : World) → StandsFor sim.old w → let before = values_of_last sim.old.arena sim.old.design w in HasWrittenUpTo self.old.scribe before →
             let ms = map W.member ws.old.items in
             BrokeOff (going self.old before ms (shown_on sim.old.arena sim.old.design (suc n) w ms) (K.written out.old) reports.old.items) e (K.written out.new) (map W.member ws.new.items)) }
         ensures rose { IsErrOf result WaveFault.WriteFault → Rose (K.faults out.old) (K.faults out.new) }
@@ -142,12 +142,12 @@ impl Teller {
         ensures steady { OnOk result (KeepsSignals self.new.scribe) }
         ensures members { OnOk result (map W.member ws.new.items ≡ shown (picture f.now) (map W.member ws.old.items)) }
         ensures stop { IfOk result (λ place. place ≡ first_stop (picture f.now) (map W.member ws.old.items)) }
-        ensures behind { OnOk result ((before : Option (List Datum)) (v : trace.Frame) → IsNext self.old.scribe before v (picture f.now) → IsBehind self.new.scribe (Some v.values)) }
-        ensures went { OnOk result ((before : Option (List Datum)) (v : trace.Frame) (rest : ShownRun) → IsNext self.old.scribe before v (picture f.now) →
+        ensures behind { OnOk result ((before : Option (List Datum)) (v : trace.Frame) → IsNextToWrite self.old.scribe before v (picture f.now) → HasWrittenUpTo self.new.scribe (Some v.values)) }
+        ensures went { OnOk result ((before : Option (List Datum)) (v : trace.Frame) (rest : ShownRun) → IsNextToWrite self.old.scribe before v (picture f.now) →
             let ms = map W.member ws.old.items in
             Went (going self.old before ms (shows_one (picture f.now) ms v rest) (K.written out.old) reports.old.items)
             (going self.new (Some v.values) (map W.member ws.new.items) rest (K.written out.new) reports.new.items)) }
-        ensures err { IfErr result (λ e. (before : Option (List Datum)) (v : trace.Frame) (rest : ShownRun) → IsNext self.old.scribe before v (picture f.now) →
+        ensures err { IfErr result (λ e. (before : Option (List Datum)) (v : trace.Frame) (rest : ShownRun) → IsNextToWrite self.old.scribe before v (picture f.now) →
             let ms = map W.member ws.old.items in
             BrokeOff (going self.old before ms (shows_one (picture f.now) ms v rest) (K.written out.old) reports.old.items) e (K.written out.new) (map W.member ws.new.items)) }
         ensures rose { IsErrOf result WaveFault.WriteFault → Rose (K.faults out.old) (K.faults out.new) }
@@ -163,9 +163,9 @@ impl Teller {
         requires { KeepsSignals self.old.scribe }
         ensures steady { OnOk result (KeepsSignals self.new.scribe) }
         ensures failed { self.new.failed ≡ self.old.failed }
-        ensures told { OnOk result ((before : Option (List Datum)) (v : trace.Frame) → IsNext self.old.scribe before v (picture f.now) →
-            IsTold self.old.scribe self.new.scribe before v self.old.text.items self.new.text.items (K.written out.old) (K.written out.new)) }
-        ensures err { IfErr result (λ e. (before : Option (List Datum)) (v : trace.Frame) (more : List trace.Frame) (left : List Member) (end : End) → IsNext self.old.scribe before v (picture f.now) →
+        ensures told { OnOk result ((before : Option (List Datum)) (v : trace.Frame) → IsNextToWrite self.old.scribe before v (picture f.now) →
+            FrameIsTold self.old.scribe self.new.scribe before v self.old.text.items self.new.text.items (K.written out.old) (K.written out.new)) }
+        ensures err { IfErr result (λ e. (before : Option (List Datum)) (v : trace.Frame) (more : List trace.Frame) (left : List Member) (end : End) → IsNextToWrite self.old.scribe before v (picture f.now) →
             BreaksOff e (K.written out.old) (K.written out.new) (self.old.text.items ++ text_left self.old.scribe before (v ∷ more) left end)) }
         ensures rose { IsErrOf result WaveFault.WriteFault → Rose (K.faults out.old) (K.faults out.new) }
         ensures never_fall { K.faults out.old ≤ K.faults out.new }

@@ -4,7 +4,7 @@ ghost use Rattle.lh_text_buffer.specs.Writing.{Writes, Leaves};
 ghost use Rattle.lh_types.specs.ValueOf.{datum_of};
 ghost use Rattle.lh_types.specs.Pictures.{showing_of, picture};
 ghost use Rattle.lh_wave.specs.WaveText.{WaveMoment, all_lines, dump_at, time_line, waveform_text};
-ghost use Rattle.lh_wave.specs.Recorded.{IsKept, values_now, moment_now, first_moment, next_moment, left_text, changed_values};
+ghost use Rattle.lh_wave.specs.Recorded.{ChangesAreOfSignals, values_now, moment_now, first_moment, next_moment, left_text, changed_values};
 
 use crate::changed::Changed;
 use crate::wire::{put_time, put_wire};
@@ -30,7 +30,7 @@ pub struct Waveform {
 impl Waveform {
     /// Begins with the first frame, which shows every signal in order.
     pub fn begin(alloc: Global, first: &Frame) -> Result<Waveform, NoMemory>
-        ensures kept { IfOk result (λ w. IsKept w) }
+        ensures kept { IfOk result (λ w. ChangesAreOfSignals w) }
         ensures values { IfOk result (λ w. values_now w ≡ (first_moment (picture first.now)).values) }
         ensures left { IfOk result (λ w. (ms : List WaveMoment) → left_text w ms ≡ waveform_text (first_moment (picture first.now) ∷ ms)) }
     {
@@ -47,8 +47,8 @@ impl Waveform {
     /// Takes a later frame; a change of a signal that is not there changes nothing. Where the frame is of a later physical time, the text of the time before is put at the
     /// end of `to`. After `NoMemory` nothing is said of the waveform and the text.
     pub fn take(&mut self, f: &Frame, to: &mut Text) -> Result<(), NoMemory>
-        requires { IsKept self.old }
-        ensures kept { OnOk result (IsKept self.new) }
+        requires { ChangesAreOfSignals self.old }
+        ensures kept { OnOk result (ChangesAreOfSignals self.new) }
         ensures values { OnOk result (values_now self.new ≡ changed_values (values_now self.old) (picture f.now).changes) }
         ensures left { OnOk result ((ms : List WaveMoment) →
             Leaves to.old to.new (left_text self.new ms) (left_text self.old (next_moment (values_now self.old) (picture f.now) ∷ ms))) }
@@ -64,8 +64,8 @@ impl Waveform {
     /// Puts what is still to be written at the end of `to`: the text of the last time. After `NoMemory`
     /// nothing is said of the waveform and the text.
     pub fn write(&mut self, to: &mut Text) -> Result<(), NoMemory>
-        requires { IsKept self.old }
-        ensures kept { OnOk result (IsKept self.new) }
+        requires { ChangesAreOfSignals self.old }
+        ensures kept { OnOk result (ChangesAreOfSignals self.new) }
         ensures text { OnOk result (Writes to.old to.new (left_text self.old [])) }
         ensures written { OnOk result (map datum_of self.new.written.items ≡ values_now self.old) }
         ensures dumped { OnOk result (self.new.dumped ≡ true) }
@@ -83,8 +83,8 @@ impl Waveform {
 
     // Takes the values that changes show.
     fn change_values(&mut self, changes: &[Change]) -> Result<(), NoMemory>
-        requires { IsKept self.old }
-        ensures kept { OnOk result (IsKept self.new) }
+        requires { ChangesAreOfSignals self.old }
+        ensures kept { OnOk result (ChangesAreOfSignals self.new) }
         ensures values { OnOk result (values_now self.new ≡ changed_values (values_now self.old) (map showing_of changes.now)) }
         ensures fs { OnOk result (self.new.fs ≡ self.old.fs) }
         ensures dumped { OnOk result (self.new.dumped ≡ self.old.dumped) }
@@ -98,8 +98,8 @@ impl Waveform {
 
     // Takes the value that a change shows, if there is such a signal.
     fn change_value(&mut self, c: &Change) -> Result<(), NoMemory>
-        requires { IsKept self.old }
-        ensures kept { OnOk result (IsKept self.new) }
+        requires { ChangesAreOfSignals self.old }
+        ensures kept { OnOk result (ChangesAreOfSignals self.new) }
         ensures values { OnOk result (values_now self.new ≡ slice_set (values_now self.old) c.now.signal (datum_of c.now.value)) }
         ensures fs { OnOk result (self.new.fs ≡ self.old.fs) }
         ensures dumped { OnOk result (self.new.dumped ≡ self.old.dumped) }

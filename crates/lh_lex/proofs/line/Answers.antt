@@ -3,7 +3,7 @@ use Rattle.lh_unit.specs.Lexemes.{lexemes}
 use Rattle.lh_unit.specs.Tokens.{tokens, lexeme_at, lexemes_of, fault_place, AreTokensOf, Covers}
 use Rattle.lh_unit.specs.declared.token.Token.{Token}
 use Rattle.lh_unit.proofs.LexedTokens.{lexemes-tokens, tokens-spelled, tokens-covered}
-use Rattle.lh_lex.specs.Faults.{NamesFault, Refuses}
+use Rattle.lh_lex.specs.Faults.{NamesBadByte, LineIsRefused}
 use Rattle.lh_lex.specs.declared.LexFault.{LexFault}
 use Rattle.lh_lex.specs.declared.LexFault.TheVariants.{BadByte, OutOfMemory}
 use Rattle.lh_lex.proofs.line.Goals as goal
@@ -24,7 +24,7 @@ no_lexemes : (text : List ℕ) (n : ℕ) (r : Result (List Token) ℕ) → fault
 no_lexemes text n (Ok ts) e = cc
 no_lexemes text n (Err m) e = cc
 
-refused : (text : List ℕ) (r : Result (List Token) LexFault) → IfErr r (λ e. NamesFault e text) → IfErr r (λ e. Refuses e text)
+refused : (text : List ℕ) (r : Result (List Token) LexFault) → IfErr r (λ e. NamesBadByte e text) → IfErr r (λ e. LineIsRefused e text)
 refused text (Ok ts) e = tt
 refused text (Err (BadByte n)) e = lexemes-tokens text ∙ no_lexemes text n (tokens text) e
 refused text (Err OutOfMemory) e = tt

@@ -1,6 +1,6 @@
 use Rattle.std.proofs.Common.{sym, subst}
 use Rattle.lh_read.specs.InOrder.{state_of}
-use Rattle.lh_read.specs.Reading.{Names}
+use Rattle.lh_read.specs.Reading.{NamesFirstFault}
 use Rattle.lh_read.proofs.Progress.{At-start, At-next, At-fault, At-end, At-open, nothing_left}
 use Rattle.lh_read.proofs.read_exact.Goals as goal
 
@@ -14,7 +14,7 @@ loop-rest-preserved c =
 
 pub returns-in-Err-clause-reads : goal.returns-in-Err-clause-reads
 returns-in-Err-clause-reads c =
-    subst (λ f. Names f c.args.text.now) (sym c.fault_at.ensures)
+    subst (λ f. NamesFirstFault f c.args.text.now) (sym c.fault_at.ensures)
     (At-fault c.args.text.now c.loop-rest.rest.now c.next_line.result.0.now c.next_line.result.1.now c.loop-rest.number c.loop-rest.reader c.in-Err.fault (state_of c.read_line.new.reader)
     c.loop-rest.invariant c.next_line.ensures.lines c.in-Err.ensures.step)
 

@@ -6,7 +6,7 @@ use Rattle.lh_term.specs.Arena.{AreIn, trees_at, StandsForTree}
 use Rattle.lh_term.specs.declared.term.TermId.{TermId}
 use Rattle.lh_term.proofs.Swaps.{grows_on}
 use Rattle.lh_region.specs.declared.taking.PlaceValue.{PlaceValue}
-use Rattle.lh_region.specs.Taken.{asks_at, CanAskAll, AreTold, StillToldAll}
+use Rattle.lh_region.specs.Taken.{asks_at, CanAskAll, ValuesAreTold, StillToldAll}
 use Rattle.lh_region_joins.proofs.Conditions.{grows-none}
 use Rattle.lh_region.proofs.AskedValues.{operands-asked, operands-in, operands-fit, operated-is, operated-still}
 use Rattle.lh_region.proofs.taking.operate.Goals as goal
@@ -21,14 +21,14 @@ pub op-requires-clause-within : goal.op-requires-clause-within
 op-requires-clause-within c =
     let ns = c.args.terms.now in let ms = c.ask_all.new.terms in let ps = c.args.places.now.items in
     let a = c.as_slice-2.ensures.value ∙ c.in_ok-asks.ensures ∙ ap (asks_at c.args.at) c.as_slice.ensures in
-    let m = subst (λ (x : List PlaceValue). AreTold ns ps ms x c.in_ok-operands.operands) a c.in_ok-operands.ensures.terms in
+    let m = subst (λ (x : List PlaceValue). ValuesAreTold ns ps ms x c.in_ok-operands.operands) a c.in_ok-operands.ensures.terms in
     subst (AreIn ms) (sym c.as_slice-3.ensures) (operands-in ns ms ps c.args.at c.args.op c.args.args.now c.in_ok-operands.operands c.requires.operation m)
 
 pub op-requires-clause-fits : goal.op-requires-clause-fits
 op-requires-clause-fits c =
     let ns = c.args.terms.now in let ms = c.ask_all.new.terms in let ps = c.args.places.now.items in
     let a = c.as_slice-2.ensures.value ∙ c.in_ok-asks.ensures ∙ ap (asks_at c.args.at) c.as_slice.ensures in
-    let m = subst (λ (x : List PlaceValue). AreTold ns ps ms x c.in_ok-operands.operands) a c.in_ok-operands.ensures.terms in
+    let m = subst (λ (x : List PlaceValue). ValuesAreTold ns ps ms x c.in_ok-operands.operands) a c.in_ok-operands.ensures.terms in
     subst (λ (ts : List TermId). TakesTypes c.args.op (types_of (tree_row (trees_at ms ts)))) (sym c.as_slice-3.ensures)
     (operands-fit ns ms ps c.args.at c.args.op c.args.args.now c.in_ok-operands.operands c.requires.operation m)
 
@@ -36,7 +36,7 @@ pub returns : goal.returns
 returns c =
     let ns = c.args.terms.now in let ms = c.ask_all.new.terms in let ps = c.args.places.now.items in let os = c.op.new.self in
     let a = c.as_slice-2.ensures.value ∙ c.in_ok-asks.ensures ∙ ap (asks_at c.args.at) c.as_slice.ensures in
-    let m = subst (λ (x : List PlaceValue). AreTold ns ps ms x c.in_ok-operands.operands) a c.in_ok-operands.ensures.terms in
+    let m = subst (λ (x : List PlaceValue). ValuesAreTold ns ps ms x c.in_ok-operands.operands) a c.in_ok-operands.ensures.terms in
     let s = subst (λ (x : List PlaceValue). StillToldAll ns ps ms c.ask_all.new.places.items x) a c.in_ok-operands.ensures.still in
     record {
       kept = grows_on ns ms os c.ask_all.ensures.kept c.op.ensures.kept;

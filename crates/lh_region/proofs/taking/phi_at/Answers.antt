@@ -3,7 +3,7 @@ use Rattle.lh_term.specs.declared.term.TermId.{TermId}
 use Rattle.lh_term.proofs.Swaps.{grows_on}
 use Rattle.lh_region.specs.declared.taking.PlaceValue.{PlaceValue}
 use Rattle.lh_region_places.specs.Asked.{edges_at, IsJoin, CanJoin, IsJoined}
-use Rattle.lh_region.specs.Taken.{phi_asks, NamesEach, CanAskAll, AreTold, StillToldAll}
+use Rattle.lh_region.specs.Taken.{phi_asks, NamesEach, CanAskAll, ValuesAreTold, StillToldAll}
 use Rattle.lh_region_places.proofs.PlaceLists.{same-length}
 use Rattle.lh_region_places.proofs.ToldValues.{selected-same}
 use Rattle.lh_region_joins.proofs.Conditions.{grows-none}
@@ -33,7 +33,7 @@ merged_at-requires-clause-join c =
     let es = c.edges.ensures in
     let a = c.as_slice.ensures.value ∙ c.in_ok-asks.ensures ∙ ap (phi_asks c.args.operands.now) es in
     let s = subst (λ (x : List PlaceValue). StillToldAll ns ps ms qs x) a c.in_ok-values.ensures.still in
-    let m = subst (λ (x : List PlaceValue). AreTold ns ps ms x ts) a c.in_ok-values.ensures.terms in
+    let m = subst (λ (x : List PlaceValue). ValuesAreTold ns ps ms x ts) a c.in_ok-values.ensures.terms in
     λ p e.
     subst (λ (us : List TermId). IsJoin ms p × CanJoin ms p us) (sym c.as_slice-2.ensures)
     (phi-joins ns ms ps qs c.args.at c.args.operands.now ts c.in_ok-values.ensures.same c.ask_all.ensures.kept s m c.requires.merge p e)
@@ -46,7 +46,7 @@ returns c =
     let es = c.edges.ensures in
     let a = c.as_slice.ensures.value ∙ c.in_ok-asks.ensures ∙ ap (phi_asks c.args.operands.now) es in
     let s = subst (λ (x : List PlaceValue). StillToldAll ns ps ms qs x) a c.in_ok-values.ensures.still in
-    let m = subst (λ (x : List PlaceValue). AreTold ns ps ms x ts) a c.in_ok-values.ensures.terms in
+    let m = subst (λ (x : List PlaceValue). ValuesAreTold ns ps ms x ts) a c.in_ok-values.ensures.terms in
     record {
       kept = grows_on ns ms os c.ask_all.ensures.kept c.merged_at.ensures.kept;
       same = selected-same os qs rs c.args.at c.in_ok-merged.ensures.place ∙ c.in_ok-values.ensures.same;

@@ -1,5 +1,5 @@
 use Rattle.std.proofs.Common.{◌≡◌, ◌∙◌, ◌∷◌, sym, subst, ap, true, false, is_some}
-use Rattle.lh_emit.specs.Making.{AreMade}
+use Rattle.lh_emit.specs.Making.{AreOperandTerms}
 use Rattle.lh_emit.specs.Underway.{tops}
 use Rattle.lh_emit.specs.Values.{value_in}
 use Rattle.lh_emit.specs.declared.tasks.Task.TheVariants.{Need}
@@ -17,7 +17,7 @@ returns-clause-gone c =
     let q : is_some (value_in c.args.self.now.values c.args.t) ≡ false = cc in
     go-open c.args.terms.now c.args.origin.now c.args.self.now c.args.t (tops c.args.tasks.now.items) (tops c.push.new.tasks.items) (tops c.push_needs.new.tasks.items) c.made_of.new.terms
     c.as_slice.result.now c.requires q
-    c.made_of.ensures.kept c.are_apart.ensures (subst (AreMade c.args.terms.now c.made_of.new.terms c.args.t) (sym c.as_slice.ensures) c.in_ok-of.ensures.made) c.in_ok-push.ensures
+    c.made_of.ensures.kept c.are_apart.ensures (subst (AreOperandTerms c.args.terms.now c.made_of.new.terms c.args.t) (sym c.as_slice.ensures) c.in_ok-of.ensures.made) c.in_ok-push.ensures
     c.in_ok-push_needs.ensures
 
 pub returns-in_err-push-clause-gone : goal.returns-in_err-push-clause-gone

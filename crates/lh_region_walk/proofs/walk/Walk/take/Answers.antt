@@ -4,7 +4,7 @@ use Rattle.lh_region.specs.Taken.{asks_at, StillToldAll}
 use Rattle.lh_region.specs.Effects.{AreAsserted}
 use Rattle.lh_region_walk.specs.Lines.{IsToldOf, GivesWhere}
 use Rattle.lh_region_walk.specs.declared.walk.Walk.{Walk}
-use Rattle.lh_region_walk.specs.Walked.{TakesLine}
+use Rattle.lh_region_walk.specs.Walked.{WalksLine}
 use Rattle.lh_region_walk.proofs.TakingLines.{can-ask, st-told, st-next, assert-told, can-assert, assert-next}
 use Rattle.lh_region_walk.proofs.Answered.{ok-both, ok-three}
 use Rattle.lh_region_walk.proofs.walk.Walk.take.Goals as goal
@@ -27,7 +27,7 @@ returns-in-St-clause-taken c =
     let q : Walk = record { places = c.give_value.new.places; ahead = c.args.self.now.ahead; insts = c.args.self.now.insts; rows = c.args.self.now.rows; sources = c.args.self.now.sources } in
     ok-both c.give_value.result (SamePlaces c.args.self.now.places.items c.give_value.new.places.items)
     (GivesWhere (IsToldOf c.args.at.place c.in-St.value.0) c.args.terms.now c.args.self.now.places.items c.args.at.place c.in-St.to.value.0 c.give_value.new.terms c.give_value.new.places.items)
-    (TakesLine c.args.terms.now c.args.region.now c.args.self.now c.args.at c.args.line.now c.give_value.new.terms q)
+    (WalksLine c.args.terms.now c.args.region.now c.args.self.now c.args.at c.args.line.now c.give_value.new.terms q)
     (λ same gives f name before h insts b done rest m i. st-next c.args.terms.now f name c.args.region.now c.args.self.now c.args.at before h insts b done rest m c.args.line.now i
     c.give_value.new.terms q c.in-St.to c.in-St.value c.in-St.is c.requires.can.below c.give_value.ensures.kept (record { ahead = refl; counted = refl; sources = refl }) refl same gives)
     c.give_value.ensures.same c.give_value.ensures.gives
@@ -38,7 +38,7 @@ returns-in-Call-clause-taken c =
     let q : Walk = record { places = c.assert_at.new.places; ahead = c.args.self.now.ahead; insts = c.args.self.now.insts; rows = c.assert_at.new.rows; sources = c.args.self.now.sources } in
     ok-three c.assert_at.result (SamePlaces ps qs) (StillToldAll ns ps ms qs (asks_at c.args.at.place c.in-Call.args))
     (AreAsserted ns ps c.args.self.now.rows ms c.assert_at.new.rows c.args.at.place c.in-Call.args)
-    (TakesLine c.args.terms.now c.args.region.now c.args.self.now c.args.at c.args.line.now ms q)
+    (WalksLine c.args.terms.now c.args.region.now c.args.self.now c.args.at c.args.line.now ms q)
     (λ same still rows f name before h insts b done rest m i. assert-next c.args.terms.now f name c.args.region.now c.args.self.now c.args.at before h insts b done rest m c.args.line.now i ms q _ _
     c.in-Call.args c.in-Call.is c.requires.can.below c.assert_at.ensures.kept (record { ahead = refl; counted = refl; sources = refl }) same still rows)
     c.assert_at.ensures.same c.assert_at.ensures.still c.assert_at.ensures.rows

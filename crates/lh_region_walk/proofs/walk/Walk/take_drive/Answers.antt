@@ -4,7 +4,7 @@ use Rattle.lh_region_places.specs.Asked.{SamePlaces}
 use Rattle.lh_region.specs.declared.effects.DriveAt.{DriveAt}
 use Rattle.lh_region.specs.Effects.{StillDriven, IsDriven}
 use Rattle.lh_region_walk.specs.declared.walk.Walk.{Walk}
-use Rattle.lh_region_walk.specs.Walked.{TakesLine}
+use Rattle.lh_region_walk.specs.Walked.{WalksLine}
 use Rattle.lh_region_walk.proofs.TakingLines.{drive-told, may-test, tested, drives-on, drive-condition, can-drive, drive-next}
 use Rattle.lh_region_walk.proofs.Answered.{ok-three}
 use Rattle.lh_term.proofs.Swaps.{grows_on}
@@ -60,7 +60,7 @@ returns-clause-taken c =
     let q : Walk = record { places = c.drive.new.places; ahead = c.args.self.now.ahead; insts = c.args.self.now.insts; rows = c.drive.new.rows; sources = c.args.self.now.sources } in
     let x : DriveAt = record { place = c.args.at.place; cond = c.in_ok-cond.cond; value = c.in-Drv.value.0; after = c.in-Drv.after.0 } in
     ok-three c.drive.result (SamePlaces qs rs) (StillDriven ms qs os rs x) (IsDriven ms qs c.args.self.now.rows os c.drive.new.rows x c.in_ok-part.part)
-    (TakesLine c.args.terms.now c.args.region.now c.args.self.now c.args.at c.args.line.now os q)
+    (WalksLine c.args.terms.now c.args.region.now c.args.self.now c.args.at c.args.line.now os q)
     (λ same still rows f name before h insts b done rest m i.
     let d = drive-told c.args.terms.now f name c.args.region.now c.args.self.now c.args.at before h insts b done rest m c.args.line.now i c.in-Drv.to c.in-Drv.value c.in-Drv.after c.in-Drv.cond
     c.in-Drv.is c.requires.can.below in

@@ -6,7 +6,7 @@ use Rattle.lh_flat.specs.declared.flat.FlatInst.{FlatInst}
 use Rattle.lh_region_places.specs.Asked.{SamePlaces}
 use Rattle.lh_region_walk.specs.Lines.{IsThat, IsToldOf, GivesWhere}
 use Rattle.lh_region_walk.specs.declared.walk.Walk.{Walk}
-use Rattle.lh_region_walk.specs.Walked.{TakesLine}
+use Rattle.lh_region_walk.specs.Walked.{WalksLine}
 use Rattle.lh_region_walk.proofs.TakingLines.{const-fits, const-next, either-told, either-next, none-next, other-next}
 use Rattle.lh_region_walk.proofs.Answered.{ok-both, none-of}
 use Rattle.lh_region_walk.proofs.walk.Walk.take_given.Goals as goal
@@ -30,7 +30,7 @@ returns-in-Const-clause-taken c =
     ok-both c.give_constant.result (SamePlaces c.args.self.now.places.items c.give_constant.new.places.items)
     (GivesWhere (IsThat (constant c.in-Const.value)) c.args.terms.now c.args.self.now.places.items c.args.at.place c.in-Some.result.0 c.give_constant.new.terms
     c.give_constant.new.places.items)
-    (TakesLine c.args.terms.now c.args.region.now c.args.self.now c.args.at c.args.line.now c.give_constant.new.terms q)
+    (WalksLine c.args.terms.now c.args.region.now c.args.self.now c.args.at c.args.line.now c.give_constant.new.terms q)
     (λ same gives f name before h insts b done rest m i. const-next c.args.terms.now f name c.args.region.now c.args.self.now c.args.at before h insts b done rest m c.args.line.now i
     c.give_constant.new.terms q c.in-Const.value c.in-Some.result c.in-Const.is c.in-Some.is c.requires.can.below c.give_constant.ensures.kept
     (record { ahead = refl; counted = refl; sources = refl }) refl same gives)
@@ -38,7 +38,7 @@ returns-in-Const-clause-taken c =
 
 pub returns-in-Pure-clause-taken : goal.returns-in-Pure-clause-taken
 returns-in-Pure-clause-taken c =
-    subst (λ (x : FlatInst). OnOk c.take_operation.result (TakesLine c.args.terms.now c.args.region.now c.args.self.now c.args.at x c.take_operation.new.terms c.take_operation.new.self))
+    subst (λ (x : FlatInst). OnOk c.take_operation.result (WalksLine c.args.terms.now c.args.region.now c.args.self.now c.args.at x c.take_operation.new.terms c.take_operation.new.self))
     (λ j. record { result = sym c.in-Some.is j; inst = sym c.in-Pure.is j }) c.take_operation.ensures.taken
 
 pub returns-in_default-inst : goal.returns-in_default-inst
@@ -54,7 +54,7 @@ returns-in-Var-clause-taken c =
     ok-both c.give_value.result (SamePlaces c.args.self.now.places.items c.give_value.new.places.items)
     (GivesWhere (IsToldOf c.args.at.place c.in-Var.of.value.0) c.args.terms.now c.args.self.now.places.items c.args.at.place c.in-Some.result.0 c.give_value.new.terms
     c.give_value.new.places.items)
-    (TakesLine c.args.terms.now c.args.region.now c.args.self.now c.args.at c.args.line.now c.give_value.new.terms q)
+    (WalksLine c.args.terms.now c.args.region.now c.args.self.now c.args.at c.args.line.now c.give_value.new.terms q)
     (λ same gives f name before h insts b done rest m i. either-next c.args.terms.now f name c.args.region.now c.args.self.now c.args.at before h insts b done rest m c.args.line.now i
     c.give_value.new.terms q c.in-Var.of c.in-Some.result c.in-Var.is c.in-Some.is c.requires.can.below c.give_value.ensures.kept (record { ahead = refl; counted = refl; sources = refl }) refl
     same gives)

@@ -2,7 +2,7 @@ use Rattle.std.proofs.Common.{◌∙◌, refl, sym}
 use Rattle.lh_region_places.specs.Asked.{SamePlaces}
 use Rattle.lh_region_walk.specs.Lines.{IsOperationOn, GivesWhere, operation_line}
 use Rattle.lh_region_walk.specs.declared.walk.Walk.{Walk}
-use Rattle.lh_region_walk.specs.Walked.{TakesLine}
+use Rattle.lh_region_walk.specs.Walked.{WalksLine}
 use Rattle.lh_region_walk.proofs.TakingLines.{table-step, is-operation, pure-next, part-next}
 use Rattle.lh_region_walk.proofs.Answered.{ok-both, match-none, match-some}
 use Rattle.lh_region_walk.proofs.walk.Walk.take_operation.Goals as goal
@@ -30,7 +30,7 @@ returns-clause-taken c =
     ok-both c.give_operation.result (SamePlaces c.args.self.now.places.items c.give_operation.new.places.items)
     (GivesWhere (IsOperationOn c.args.at.place c.args.op c.args.args.now) c.args.terms.now c.args.self.now.places.items c.args.at.place c.args.to.0 c.give_operation.new.terms
     c.give_operation.new.places.items)
-    (TakesLine c.args.terms.now c.args.region.now c.args.self.now c.args.at (operation_line c.args.to c.args.op c.args.args.now) c.give_operation.new.terms q)
+    (WalksLine c.args.terms.now c.args.region.now c.args.self.now c.args.at (operation_line c.args.to c.args.op c.args.args.now) c.give_operation.new.terms q)
     (λ same gives f name before h insts b done rest m i.
     let t = table-step c.args.terms.now f name c.args.region.now c.args.self.now c.args.at before h insts b done rest m (operation_line c.args.to c.args.op c.args.args.now) i c.args.op c.args.args.now
     c.args.to refl refl c.requires.below in

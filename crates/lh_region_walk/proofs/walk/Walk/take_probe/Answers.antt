@@ -7,7 +7,7 @@ use Rattle.lh_region_places.specs.Asked.{IsWithAt}
 use Rattle.lh_region.specs.Effects.{probed}
 use Rattle.lh_region.specs.Gives.{GivesTerm}
 use Rattle.lh_region_walk.specs.declared.walk.Walk.{Walk}
-use Rattle.lh_region_walk.specs.Walked.{TakesLine}
+use Rattle.lh_region_walk.specs.Walked.{WalksLine}
 use Rattle.lh_region_places.proofs.PlaceLists.{with-same}
 use Rattle.lh_region_joins.proofs.Conditions.{grows-none}
 use Rattle.lh_region_walk.proofs.GivingWhere.{gives-that}
@@ -31,7 +31,7 @@ returns-in-Some-clause-taken c =
     let ns = c.args.terms.now in let ms = c.probe.new.terms in let ps = c.args.self.now.places.items in let qs = c.give.new.places.items in
     let q : Walk = record { places = c.give.new.places; ahead = c.args.self.now.ahead; insts = c.args.self.now.insts; rows = c.probe.new.rows; sources = c.args.self.now.sources } in
     ok-both c.give.result (IsWithAt ps c.args.at.place c.in-Some.result.0 c.in_ok-term.term qs) (GivesTerm ps c.args.at.place c.in-Some.result.0 c.in_ok-term.term qs)
-    (TakesLine c.args.terms.now c.args.region.now c.args.self.now c.args.at c.args.line.now ms q)
+    (WalksLine c.args.terms.now c.args.region.now c.args.self.now c.args.at c.args.line.now ms q)
     (λ with gives f name before h insts b done rest m i.
     prb-next c.args.terms.now f name c.args.region.now c.args.self.now c.args.at before h insts b done rest m c.args.line.now i ms q c.in-Prb.signal c.in-Some.result c.in_ok-part.part c.in-Prb.is
     c.in-Some.is c.requires.can.below c.in_ok-part.ensures c.probe.ensures.kept (record { ahead = refl; counted = refl; sources = refl })
