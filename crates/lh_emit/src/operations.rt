@@ -11,7 +11,7 @@ use crate::values::Values;
 use lh_term::term::TermId;
 use lh_term::terms::Terms;
 use lh_types::memory::NoMemory;
-use lh_types::op::Op;
+use lh_types::op::{Op, OpClass};
 use lh_types::ty::Ty;
 use lh_unit::inst::{TypedList, ValueId, ValueIdList};
 use std::alloc::Global;
@@ -45,8 +45,8 @@ pub fn operands(
 fn writes_each(op: &Op) -> bool
     ensures { result ≡ needs.writes_each op.now }
 {
-    match op {
-        Op::Shl | Op::Shr | Op::Tuple => true,
+    match op.class() {
+        OpClass::Shift | OpClass::Tuple => true,
         _ => false,
     }
 }
@@ -55,8 +55,8 @@ fn writes_each(op: &Op) -> bool
 fn writes_result(op: &Op) -> bool
     ensures { result ≡ needs.writes_result op.now }
 {
-    match op {
-        Op::Mux | Op::Extf(_) | Op::Exts { .. } => true,
+    match op.class() {
+        OpClass::Select | OpClass::TakePart(_) => true,
         _ => false,
     }
 }

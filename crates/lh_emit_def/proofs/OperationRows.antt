@@ -6,21 +6,22 @@ use Rattle.std.proofs.lemmas.Bool.{and_from}
 use Rattle.lh_types.specs.Types.{TypeTree, TypeRow, int_type, time_type, void_type, array_type, tuple_type, signal_type, pointer_type, row_of, IsData, AreData, same_type}
 use Rattle.lh_types.specs.Faults.{is_data}
 use Rattle.lh_types.specs.Same.{same-refl}
-use Rattle.lh_types.specs.ApplyTypes.{PartHasType}
+use Rattle.lh_types.specs.Classes.{class_of}
+use Rattle.lh_types.specs.ApplyTypes.{PartHasType, ClassType}
 use Rattle.lh_types.specs.declared.op.Op.{Op}
-use Rattle.lh_types.specs.declared.op.Op.TheVariants as op
+use Rattle.lh_types.specs.declared.op.OpClass.{OpClass}
+use Rattle.lh_types.specs.declared.op.OpClass.TheVariants as class
 use Rattle.lh_types.specs.declared.part.Step.{Step}
-use Rattle.lh_types.specs.declared.part.Step.TheVariants.{Field, Slice}
 use Rattle.lh_unit.specs.Contents.{OperandText, UnitText}
-use Rattle.lh_unit.specs.Typing.{value_type, first_type, operand_types, result_type, array_made, tuple_made, if_made, with_type}
-use Rattle.lh_unit.specs.TypingRows.{OperationRow, integers, alike, shifts, selects, takes_part, puts_part, elements, has_type, has_some_type, agrees, all_have, is_integer, is_array_of, type_satisfies, part_type, row_fits, operation_fits, types_fit}
+use Rattle.lh_unit.specs.Typing.{value_type, first_type, operand_types, class_type, result_type, array_made, tuple_made, if_made, with_type}
+use Rattle.lh_unit.specs.TypingRows.{OperationRow, class_row, integers, alike, shifts, selects, takes_part, puts_part, elements, has_type, has_some_type, agrees, all_have, is_integer, is_array_of, type_satisfies, part_type, row_fits, operation_fits, types_fit}
 use Rattle.lh_unit.specs.Within.{Each}
 use Rattle.lh_types.proofs.TypeFaults.{is_data-yes, array-again, tuple-again}
 use Rattle.lh_term.specs.Tree.{Tree}
-use Rattle.lh_term.specs.Types.{TakesTypes, type_of, first_of, row_result}
-use Rattle.lh_term.proofs.TermTypes.{gives_is}
+use Rattle.lh_term.specs.Types.{TakesTypes, type_of, first_of, class_result, row_result}
+use Rattle.lh_term.proofs.TermTypes.{class_is}
 use Rattle.lh_emit_def.specs.Emitted.{Emitted, term_name, bare}
-use Rattle.lh_emit_def.specs.Needs.{types_of_all, each_typed, first_typed, operation_text}
+use Rattle.lh_emit_def.specs.Needs.{types_of_all, each_typed, first_typed, class_typed, operation_text}
 
 module _ (y : UnitText) where
   pub has : (n : List ℕ) (t : TypeTree) → value_type y n ≡ Some t → has_type y t n ≡ true
@@ -156,38 +157,38 @@ module _ (y : UnitText) where
     nonempty zero d h = absurd (omega (arith, h))
     nonempty (suc m) d h = (m, refl)
 
+    -- operands as an operation of the class writes them
+    abbrev FitsClass : OpClass → List Tree → Type 0
+    FitsClass c ts = operation_fits y (class_row c) (first_type (class_typed e c ts)) (class_typed e c ts) ≡ true
+
+    tuple-fits : (ts : List Tree) → 0 < length (types_of_all ts) → AreData (row_of (types_of_all ts)) → Each TermTyped ts → FitsClass class.Tuple ts
+    tuple-fits [] n d h = absurd (omega (arith, n))
+    tuple-fits (t ∷ ts) n d h = fields-fit (t ∷ ts) d h
+
+    -- the type that is written is that of what is given
+    by-result : (row : OperationRow) (r d : TypeTree) (ts : List Tree) → d ≡ r → operation_fits y row (first_type (first_typed e r ts)) (first_typed e r ts) ≡ true →
+        operation_fits y row (first_type (first_typed e d ts)) (first_typed e d ts) ≡ true
+    by-result row r d ts q h = subst (λ z. operation_fits y row (first_type (first_typed e z ts)) (first_typed e z ts) ≡ true) (sym q) h
+
+    class-fits : (c : OpClass) (ts : List Tree) (r : TypeTree) → AreData (row_of (types_of_all ts)) → ClassType c (types_of_all ts) r → IsData r → Each TermTyped ts → FitsClass c ts
+    class-fits class.Unary ts r d k i h = integers-fit k.0 ts [] k.1 tt h
+    class-fits class.Binary ts r d k i h = integers-fit k.0 ts (int_type k.0 ∷ []) k.1 (refl, tt) h
+    class-fits class.Relation ts r d k i h = integers-fit k.0 ts (int_type k.0 ∷ []) k.1 (refl, tt) h
+    class-fits class.Equality ts r d k i h = alike-fit k.0 ts (subst (λ l. AreData (row_of l)) k.1 d).0 k.1 h
+    class-fits class.Shift ts r d k i h = shifts-fit k.0 k.1 ts k.2 h
+    class-fits class.Select ts r d k i h = by-result selects r _ ts (class_is class.Select (types_of_all ts) r k) (selects-fit k.0 k.1 r ts i k.2 h)
+    class-fits (class.TakePart s) ts r d k i h =
+        by-result (takes_part s) r _ ts (class_is (class.TakePart s) (types_of_all ts) r k) (takes-fit s k.0 r ts (subst (λ l. AreData (row_of l)) k.1 d).0 k.1 k.2 h)
+    class-fits (class.PutPart s) ts r d k i h = puts-fit s r k.0 ts i k.1 k.2 h
+    class-fits class.Array ts r d k i h =
+        let n = nonempty (length (types_of_all ts)) k.0 k.1 in
+        let q : types_of_all ts ≡ replicate (suc n.0) k.0 = k.2 ∙ ap (λ m. replicate m k.0) n.1 in
+        elements-fit k.0 n.0 ts (subst (λ l. AreData (row_of l)) q d).0 q h
+    class-fits (class.Repeat n) ts r d k i h = elements-fit k.0 0 ts (subst (λ l. AreData (row_of l)) k.1 d).0 k.1 h
+    class-fits class.Tuple ts r d k i h = tuple-fits ts k.0 d h
+
     pub operation-fits : (o : Op) (ts : List Tree) → TakesTypes o (types_of_all ts) → Each TermTyped ts → Fits o ts
-    operation-fits op.Not ts k h = let r = k.row in integers-fit r.0 ts [] r.1 tt h
-    operation-fits op.Neg ts k h = let r = k.row in integers-fit r.0 ts [] r.1 tt h
-    operation-fits op.Eq ts k h = let r = k.row in alike-fit r.0 ts (subst (λ l. AreData (row_of l)) r.1 k.data_types).0 r.1 h
-    operation-fits op.Neq ts k h = let r = k.row in alike-fit r.0 ts (subst (λ l. AreData (row_of l)) r.1 k.data_types).0 r.1 h
-    operation-fits op.Shl ts k h = let r = k.row in shifts-fit r.0 r.1 ts r.2 h
-    operation-fits op.Shr ts k h = let r = k.row in shifts-fit r.0 r.1 ts r.2 h
-    operation-fits op.Mux ts k h =
-        let r = k.row in
-        subst (λ d. operation_fits y selects (first_type (first_typed e d ts)) (first_typed e d ts) ≡ true) (sym (gives_is op.Mux (types_of_all ts) k)) (selects-fit r.0 r.1 k.gives ts k.is_data r.2 h)
-    operation-fits (op.Extf i) ts k h =
-        let r = k.row in
-        subst (λ d. operation_fits y (takes_part (Field i)) (first_type (first_typed e d ts)) (first_typed e d ts) ≡ true) (sym (gives_is (op.Extf i) (types_of_all ts) k))
-        (takes-fit (Field i) r.0 k.gives ts (subst (λ l. AreData (row_of l)) r.1 k.data_types).0 r.1 r.2 h)
-    operation-fits (op.Exts i n) ts k h =
-        let r = k.row in
-        subst (λ d. operation_fits y (takes_part (Slice i n)) (first_type (first_typed e d ts)) (first_typed e d ts) ≡ true) (sym (gives_is (op.Exts i n) (types_of_all ts) k))
-        (takes-fit (Slice i n) r.0 k.gives ts (subst (λ l. AreData (row_of l)) r.1 k.data_types).0 r.1 r.2 h)
-    operation-fits (op.Insf i) ts k h = let r = k.row in puts-fit (Field i) k.gives r.0 ts k.is_data r.1 r.2 h
-    operation-fits (op.Inss i n) ts k h = let r = k.row in puts-fit (Slice i n) k.gives r.0 ts k.is_data r.1 r.2 h
-    operation-fits op.Array ts k h =
-        let r = k.row in
-        let n = nonempty (length (types_of_all ts)) r.0 r.1 in
-        let q : types_of_all ts ≡ replicate (suc n.0) r.0 = r.2 ∙ ap (λ m. replicate m r.0) n.1 in
-        elements-fit r.0 n.0 ts (subst (λ l. AreData (row_of l)) q k.data_types).0 q h
-    operation-fits (op.Repeat n) ts k h = let r = k.row in elements-fit r.0 0 ts (subst (λ l. AreData (row_of l)) r.1 k.data_types).0 r.1 h
-    operation-fits op.Tuple ts k h = tuple-fits ts k.row.0 k.data_types h
-      where
-        tuple-fits : (ts : List Tree) → 0 < length (types_of_all ts) → AreData (row_of (types_of_all ts)) → Each TermTyped ts → Fits op.Tuple ts
-        tuple-fits [] n d h = absurd (omega (arith, n))
-        tuple-fits (t ∷ ts) n d h = fields-fit (t ∷ ts) d h
-    operation-fits o ts k h = let r = k.row in integers-fit r.0 ts (int_type r.0 ∷ []) r.1 (refl, tt) h
+    operation-fits o ts k h = class-fits (class_of o) ts k.gives k.data_types k.row k.is_data h
 
     -- ---- the type that it gives
 
@@ -220,39 +221,30 @@ module _ (y : UnitText) where
     tuple-gives : (r : TypeRow) → IsData (tuple_type r) → tuple_made r ≡ Some (tuple_type r)
     tuple-gives r h = ap (λ o. if_made o (tuple_type r)) (tuple-again r h)
 
-    row-data : (o : Op) (ts : List Tree) (k : TakesTypes o (types_of_all ts)) → IsData (row_result o (types_of_all ts))
-    row-data o ts k = subst IsData (sym (gives_is o (types_of_all ts) k)) k.is_data
-
     positive : (l : List TypeTree) → 0 < length l → Some-type l
     positive [] h = absurd (omega (arith, h))
     positive (x ∷ l) h = (x, l, refl)
 
+    -- what an operation of the class gives, by its operands as it writes them
+    class-gives : (c : OpClass) (ts : List Tree) (r : TypeTree) → ClassType c (types_of_all ts) r → IsData r →
+        class_type c (class_typed e c ts) ≡ Some (class_result c (types_of_all ts))
+    class-gives class.Unary ts r k i = first-given _ ts (_, _, k.1)
+    class-gives class.Binary ts r k i = first-given _ ts (_, _, k.1)
+    class-gives class.Relation ts r k i = refl
+    class-gives class.Equality ts r k i = refl
+    class-gives class.Shift ts r k i = first-each ts (_, _, k.2)
+    class-gives class.Select ts r k i = first-given _ ts (_, _, k.2)
+    class-gives (class.TakePart s) ts r k i = first-given _ ts (_, _, k.1)
+    class-gives (class.PutPart s) ts r k i = first-given _ ts (_, _, k.1)
+    class-gives class.Array ts r k i =
+        let d = first_of (types_of_all ts) in
+        ap (option_and_then (array_made (length (first_typed e d ts)))) (first-given d ts (positive (types_of_all ts) k.1))
+        ∙ ap (λ n. array_made n d) (typed-length d ts) ∙ array-gives (length (types_of_all ts)) d (subst IsData (sym (class_is class.Array (types_of_all ts) r k)) i)
+    class-gives (class.Repeat n) ts r k i =
+        let d = first_of (types_of_all ts) in
+        ap (option_and_then (array_made n)) (first-given d ts (_, _, k.1)) ∙ array-gives n d (subst IsData (sym (class_is (class.Repeat n) (types_of_all ts) r k)) i)
+    class-gives class.Tuple ts r k i =
+        ap (option_and_then tuple_made) (each-types ts) ∙ tuple-gives (row_of (types_of_all ts)) (subst IsData (sym (class_is class.Tuple (types_of_all ts) r k)) i)
+
     pub operation-gives : (o : Op) (ts : List Tree) → TakesTypes o (types_of_all ts) → result_type (operation_text e o ts) ≡ Some (row_result o (types_of_all ts))
-    operation-gives op.Eq ts k = refl
-    operation-gives op.Neq ts k = refl
-    operation-gives op.Slt ts k = refl
-    operation-gives op.Sgt ts k = refl
-    operation-gives op.Sle ts k = refl
-    operation-gives op.Sge ts k = refl
-    operation-gives op.Ult ts k = refl
-    operation-gives op.Ugt ts k = refl
-    operation-gives op.Ule ts k = refl
-    operation-gives op.Uge ts k = refl
-    operation-gives op.Not ts k = let r = k.row in first-given _ ts (_, _, r.1)
-    operation-gives op.Neg ts k = let r = k.row in first-given _ ts (_, _, r.1)
-    operation-gives op.Shl ts k = let r = k.row in first-each ts (_, _, r.2)
-    operation-gives op.Shr ts k = let r = k.row in first-each ts (_, _, r.2)
-    operation-gives op.Mux ts k = let r = k.row in first-given _ ts (_, _, r.2)
-    operation-gives (op.Extf i) ts k = let r = k.row in first-given _ ts (_, _, r.1)
-    operation-gives (op.Exts i n) ts k = let r = k.row in first-given _ ts (_, _, r.1)
-    operation-gives (op.Insf i) ts k = let r = k.row in first-given _ ts (_, _, r.1)
-    operation-gives (op.Inss i n) ts k = let r = k.row in first-given _ ts (_, _, r.1)
-    operation-gives op.Array ts k =
-        let d = first_of (types_of_all ts) in
-        ap (option_and_then (array_made (length (first_typed e d ts)))) (first-given d ts (positive (types_of_all ts) k.row.1))
-        ∙ ap (λ n. array_made n d) (typed-length d ts) ∙ array-gives (length (types_of_all ts)) d (row-data op.Array ts k)
-    operation-gives (op.Repeat n) ts k =
-        let d = first_of (types_of_all ts) in
-        ap (option_and_then (array_made n)) (first-given d ts (_, _, k.row.1)) ∙ array-gives n d (row-data (op.Repeat n) ts k)
-    operation-gives op.Tuple ts k = ap (option_and_then tuple_made) (each-types ts) ∙ tuple-gives (row_of (types_of_all ts)) (row-data op.Tuple ts k)
-    operation-gives o ts k = let r = k.row in first-given _ ts (_, _, r.1)
+    operation-gives o ts k = class-gives (class_of o) ts k.gives k.row k.is_data

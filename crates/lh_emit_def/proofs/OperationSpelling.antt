@@ -4,6 +4,11 @@ use Rattle.std.specs.Prelude.{codes}
 use Rattle.lh_types.specs.Types.{TypeTree, array_type, tuple_type, signal_type, row_of, IsData, AreData}
 use Rattle.lh_types.specs.declared.op.Op.{Op}
 use Rattle.lh_types.specs.declared.op.Op.TheVariants as op
+use Rattle.lh_types.specs.declared.op.OpClass.{OpClass}
+use Rattle.lh_types.specs.declared.op.OpClass.TheVariants as class
+use Rattle.lh_types.specs.Classes.{class_of}
+use Rattle.lh_types.specs.ApplyTypes.{PartHasType, ClassType}
+use Rattle.lh_types.specs.declared.part.Step.{Step}
 use Rattle.lh_types.specs.declared.part.Step.TheVariants.{Field, Slice}
 use Rattle.lh_types.proofs.TypeFaults.{data_limited}
 use Rattle.lh_unit_names.specs.Names.{IsName}
@@ -11,20 +16,20 @@ use Rattle.lh_unit.specs.Contents.{OperandText, pure_text}
 use Rattle.lh_unit.specs.Lexemes.{Lexeme, word, local}
 use Rattle.lh_unit.specs.Marks.{open_bracket, close_bracket, open_brace, close_brace, comma}
 use Rattle.lh_unit.specs.Pieces.{IsLexeme}
-use Rattle.lh_unit.specs.CanonWords.{op_word, op_numbers}
+use Rattle.lh_unit.specs.CanonWords.{op_word, op_numbers, step_numbers, class_numbers}
 use Rattle.lh_unit.specs.Within.{Each}
 use Rattle.lh_unit.specs.SpellsNumbers.{SpellsNumber}
 use Rattle.lh_unit.specs.SpellsParts.{SpellsBehind, SpellsBare, SpellsWithType, SpellsOperand}
-use Rattle.lh_unit.specs.SpellsInst.{typed as typed_column, bare as bare_column, free as free_column, columns, IsOpWord, SpellsColumns, SpellsWordOp, written_types, SpellsPure, SpellsInst}
+use Rattle.lh_unit.specs.SpellsInst.{typed as typed_column, bare as bare_column, free as free_column, columns, class_columns, IsOpWord, SpellsColumns, SpellsWordOp, written_types, SpellsOfClass, SpellsInst}
 use Rattle.lh_text_laws.proofs.Numerals.{number_of-decimal}
 use Rattle.lh_text_laws.proofs.SpacedLines.{word-lexeme}
 use Rattle.lh_text_laws.proofs.Types.{number-lexeme}
 use Rattle.lh_term.specs.Tree.{Tree}
-use Rattle.lh_term.specs.Types.{TakesTypes, type_of, first_of, row_result}
-use Rattle.lh_term.proofs.TermTypes.{gives_is}
+use Rattle.lh_term.specs.Types.{TakesTypes, type_of, first_of, class_result}
+use Rattle.lh_term.proofs.TermTypes.{class_is}
 use Rattle.lh_term.specs.declared.part.Part.{Part}
 use Rattle.lh_emit_def.specs.Emitted.{Emitted, term_name, typed, bare}
-use Rattle.lh_emit_def.specs.Needs.{types_of_all, each_typed, first_typed, operation_text}
+use Rattle.lh_emit_def.specs.Needs.{types_of_all, each_typed, first_typed, class_typed, operation_text}
 use Rattle.lh_emit_def.specs.Ways.{part_by}
 use Rattle.lh_emit_def.proofs.StepTypes.{has-small, StepsWell, step-well}
 use Rattle.lh_emit_def.proofs.InstructionSpelling.{each-append, SpeltInFront, Spelt, type-says, typed-says, free-says, bare-says, number-says, comma-says, parts-says, behind-says}
@@ -38,6 +43,23 @@ word-spelt o args w i c n = record {
   written = (w, each-append IsLexeme c.toks n.toks c.written n.written);
   spelled = (op_word o, c.toks ++ n.toks, n.toks, refl, i, c.spelled n.toks, subst (λ z. SpellsBehind SpellsNumber (op_numbers o) z []) (append-nil n.toks) (n.spelled []));
 }
+
+-- the operations of the class have a word, and no brackets in its place
+abbrev HasWord : OpClass → Type 0
+HasWord class.Array = ⊥
+HasWord (class.Repeat n) = ⊥
+HasWord class.Tuple = ⊥
+HasWord _ = Unit {0}
+
+word-written : (o : Op) → HasWord (class_of o) → IsLexeme (word (op_word o))
+word-written op.Array h = absurd h
+word-written (op.Repeat n) h = absurd h
+word-written op.Tuple h = absurd h
+word-written o h = word-lexeme (op_word o) refl
+
+own-word : (o : Op) → IsOpWord o (op_word o)
+own-word op.Umul = inl refl
+own-word o = refl
 
 no-numbers : SpeltInFront (SpellsBehind SpellsNumber [])
 no-numbers = record { toks = []; written = tt; spelled = λ more. refl }
@@ -130,27 +152,26 @@ module _ (e : Emitted) where
 
   -- ---- operations that have brackets
 
-  array-spelt : (ts : List Tree) → TakesTypes op.Array (types_of_all ts) → Each TermWritten ts → Spelt (SpellsPure op.Array (first_typed e (first_of (types_of_all ts)) ts))
-  array-spelt [] k n = absurd (omega (arith, k.row.1))
-  array-spelt (t ∷ ts) k n =
+  array-spelt : (o : Op) (ts : List Tree) → 0 < length (types_of_all ts) → AreData (row_of (types_of_all ts)) → IsData (array_type (length (types_of_all ts)) (first_of (types_of_all ts))) → Each TermWritten ts →
+      Spelt (SpellsOfClass class.Array o (first_typed e (first_of (types_of_all ts)) ts))
+  array-spelt o [] l d r n = absurd (omega (arith, l))
+  array-spelt o (t ∷ ts) l d r n =
       let w = type_of t in
-      let g : row_result op.Array (types_of_all (t ∷ ts)) ≡ k.gives = gives_is op.Array (types_of_all (t ∷ ts)) k in
-      let d : IsData (array_type (length (types_of_all (t ∷ ts))) w) = subst IsData (sym g) k.is_data in
       let l : length (types_of_all (t ∷ ts)) ≡ length (first_typed e w (t ∷ ts)) = ap suc (bare-length ts) in
-      let s = type-says w (data_limited w k.data_types.0) in
+      let s = type-says w (data_limited w d.0) in
       let b = behind-says SpellsBare (map (λ u. bare (term_name e u)) ts) (bares-say ts n.1) in
       let vs : List Lexeme = b.toks ++ close_bracket ∷ [] in
       let us : List Lexeme = s.toks ++ local (term_name e t) ∷ vs in
       record {
         toks = open_bracket ∷ us;
         written = (refl, each-append IsLexeme s.toks (local (term_name e t) ∷ vs) s.written (n.0, each-append IsLexeme b.toks (close_bracket ∷ []) b.written (refl, tt)));
-        spelled = (w, us, vs, refl, refl, s.spelled (local (term_name e t) ∷ vs), b.spelled (close_bracket ∷ []), subst (λ m. IsData (array_type m w)) l d);
+        spelled = (w, us, vs, refl, refl, s.spelled (local (term_name e t) ∷ vs), b.spelled (close_bracket ∷ []), subst (λ m. IsData (array_type m w)) l r);
       }
 
-  repeat-spelt : (c : ℕ) (ts : List Tree) (a : TypeTree) → types_of_all ts ≡ a ∷ [] → AreData (row_of (types_of_all ts)) → IsData (array_type c (first_of (types_of_all ts))) → Each TermWritten ts →
-      Spelt (SpellsPure (op.Repeat c) (first_typed e (first_of (types_of_all ts)) ts))
-  repeat-spelt c [] a q d r n = absurd cc
-  repeat-spelt c (t ∷ []) a q d r n =
+  repeat-spelt : (o : Op) (c : ℕ) (ts : List Tree) (a : TypeTree) → types_of_all ts ≡ a ∷ [] → AreData (row_of (types_of_all ts)) → IsData (array_type c (first_of (types_of_all ts))) → Each TermWritten ts →
+      Spelt (SpellsOfClass (class.Repeat c) o (first_typed e (first_of (types_of_all ts)) ts))
+  repeat-spelt o c [] a q d r n = absurd cc
+  repeat-spelt o c (t ∷ []) a q d r n =
       let w = type_of t in
       let b : c < 2 ^ 32 = r.2 in
       let m : c < 10 ^ 64 = omega (arith, b) in
@@ -161,83 +182,61 @@ module _ (e : Emitted) where
         written = (refl, (number-lexeme c m, (word-lexeme (codes "x") refl, each-append IsLexeme s.toks vs s.written (n.0, (refl, tt)))));
         spelled = (w, decimal c, s.toks ++ vs, refl, number_of-decimal c m, refl, s.spelled vs, r);
       }
-  repeat-spelt c (t ∷ u ∷ ts) a q d r n = absurd cc
+  repeat-spelt o c (t ∷ u ∷ ts) a q d r n = absurd cc
 
-  tuple-spelt : (ts : List Tree) → TakesTypes op.Tuple (types_of_all ts) → Each TermWritten ts → Spelt (SpellsPure op.Tuple (each_typed e ts))
-  tuple-spelt [] k n = absurd (omega (arith, k.row.0))
-  tuple-spelt (t ∷ ts) k n =
-      let all = each-say (t ∷ ts) k.data_types n in
+  tuple-spelt : (o : Op) (ts : List Tree) → 0 < length (types_of_all ts) → AreData (row_of (types_of_all ts)) → IsData (tuple_type (row_of (types_of_all ts))) → Each TermWritten ts →
+      Spelt (SpellsOfClass class.Tuple o (each_typed e ts))
+  tuple-spelt o [] l d r n = absurd (omega (arith, l))
+  tuple-spelt o (t ∷ ts) l d r n =
+      let all = each-say (t ∷ ts) d n in
       let p = parts-says SpellsWithType (typed (term_name e t) (type_of t)) (each_typed e ts) all.0 all.1 in
-      let g : row_result op.Tuple (types_of_all (t ∷ ts)) ≡ k.gives = gives_is op.Tuple (types_of_all (t ∷ ts)) k in
-      let d : IsData (tuple_type (row_of (types_of_all (t ∷ ts)))) = subst IsData (sym g) k.is_data in
       let us : List Lexeme = p.toks ++ close_brace ∷ [] in
       record {
         toks = open_brace ∷ us;
         written = (refl, each-append IsLexeme p.toks (close_brace ∷ []) p.written (refl, tt));
-        spelled = (us, refl, p.spelled (close_brace ∷ []), subst (λ l. IsData (tuple_type (row_of l))) (written-each (t ∷ ts)) d);
+        spelled = (us, refl, p.spelled (close_brace ∷ []), subst (λ l. IsData (tuple_type (row_of l))) (written-each (t ∷ ts)) r);
       }
 
   -- ---- any operation
 
-  abbrev Pure : Op → List Tree → Type 0
-  Pure o ts = Spelt (SpellsInst (operation_text e o ts))
+  -- the numbers of a step are small
+  step-numbers-say : (s : Step) (t r : TypeTree) → IsData t → PartHasType t s r → SpeltInFront (SpellsBehind SpellsNumber (step_numbers s))
+  step-numbers-say (Field k) t r d h = behind-says SpellsNumber (k ∷ []) (number-says k (has-small t (Field k) r d h), tt)
+  step-numbers-say (Slice at len) t r d h =
+      let b : (at < 2 ^ 32) × (len < 2 ^ 32) = has-small t (Slice at len) r d h in
+      behind-says SpellsNumber (at ∷ len ∷ []) (number-says at b.0, (number-says len b.1, tt))
 
-  module _ (o : Op) (ts : List Tree) (k : TakesTypes o (types_of_all ts)) where
-    -- what is given is of a data type
-    result-data : IsData (row_result o (types_of_all ts))
-    result-data = subst IsData (sym (gives_is o (types_of_all ts) k)) k.is_data
+  -- an operation that has a word, by the columns and the numbers of its class
+  in-words : (o : Op) (c : OpClass) (args : List OperandText) → class_of o ≡ c → HasWord c → SpeltInFront (SpellsColumns (class_columns c) args) → SpeltInFront (SpellsBehind SpellsNumber (class_numbers c)) →
+      Spelt (SpellsWordOp o args)
+  in-words o c args q w x n = word-spelt o args (word-written o (subst HasWord (sym q) w)) (own-word o)
+      (subst (λ k. SpeltInFront (SpellsColumns (class_columns k) args)) (sym q) x) (subst (λ k. SpeltInFront (SpellsBehind SpellsNumber (class_numbers k))) (sym q) n)
 
-    whole-data : (a : TypeTree) (more : List TypeTree) → types_of_all ts ≡ a ∷ more → IsData a
-    whole-data a more q = (subst (λ z. AreData (row_of z)) q k.data_types).0
+  class-spelt : (o : Op) (c : OpClass) (ts : List Tree) (r : TypeTree) → class_of o ≡ c → AreData (row_of (types_of_all ts)) → ClassType c (types_of_all ts) r → IsData r → Each TermWritten ts →
+      Spelt (SpellsOfClass c o (class_typed e c ts))
+  class-spelt o class.Unary ts r q d k i n =
+      in-words o class.Unary _ q tt (first-one (first_of (types_of_all ts)) ts _ k.1 (first-data (types_of_all ts) [] _ k.1 d) n) no-numbers
+  class-spelt o class.Binary ts r q d k i n =
+      in-words o class.Binary _ q tt (first-two (first_of (types_of_all ts)) ts _ _ k.1 (first-data (types_of_all ts) _ _ k.1 d) n) no-numbers
+  class-spelt o class.Relation ts r q d k i n =
+      in-words o class.Relation _ q tt (first-two (first_of (types_of_all ts)) ts _ _ k.1 (first-data (types_of_all ts) _ _ k.1 d) n) no-numbers
+  class-spelt o class.Equality ts r q d k i n =
+      in-words o class.Equality _ q tt (first-two (first_of (types_of_all ts)) ts _ _ k.1 (first-data (types_of_all ts) _ _ k.1 d) n) no-numbers
+  class-spelt o class.Shift ts r q d k i n = in-words o class.Shift _ q tt (each-three ts _ _ _ k.2 d n) no-numbers
+  class-spelt o class.Select ts r q d k i n =
+      let g = subst IsData (sym (class_is class.Select (types_of_all ts) r k)) i in
+      in-words o class.Select _ q tt (first-two (class_result class.Select (types_of_all ts)) ts _ _ k.2 g n) no-numbers
+  class-spelt o (class.TakePart s) ts r q d k i n =
+      let g = subst IsData (sym (class_is (class.TakePart s) (types_of_all ts) r k)) i in
+      let whole : IsData k.0 = (subst (λ z. AreData (row_of z)) k.1 d).0 in
+      in-words o (class.TakePart s) _ q tt (first-one (class_result (class.TakePart s) (types_of_all ts)) ts _ k.1 g n) (step-numbers-say s k.0 r whole k.2)
+  class-spelt o (class.PutPart s) ts r q d k i n =
+      in-words o (class.PutPart s) _ q tt (first-two (first_of (types_of_all ts)) ts _ _ k.1 (first-data (types_of_all ts) _ _ k.1 d) n) (step-numbers-say s r k.0 i k.2)
+  class-spelt o class.Array ts r q d k i n = array-spelt o ts k.1 d (subst IsData (sym (class_is class.Array (types_of_all ts) r k)) i) n
+  class-spelt o (class.Repeat c) ts r q d k i n = repeat-spelt o c ts k.0 k.1 d (subst IsData (sym (class_is (class.Repeat c) (types_of_all ts) r k)) i) n
+  class-spelt o class.Tuple ts r q d k i n = tuple-spelt o ts k.0 d (subst IsData (sym (class_is class.Tuple (types_of_all ts) r k)) i) n
 
-  pub operation-spelt : (o : Op) (ts : List Tree) → TakesTypes o (types_of_all ts) → Each TermWritten ts → Pure o ts
-  operation-spelt op.Array ts k n = let s = array-spelt ts k n in record { toks = s.toks; written = s.written; spelled = s.spelled }
-  operation-spelt (op.Repeat c) ts k n =
-      let s = repeat-spelt c ts k.row.0 k.row.1 k.data_types (result-data (op.Repeat c) ts k) n in record { toks = s.toks; written = s.written; spelled = s.spelled }
-  operation-spelt op.Tuple ts k n = let s = tuple-spelt ts k n in record { toks = s.toks; written = s.written; spelled = s.spelled }
-  operation-spelt op.Not ts k n =
-      let d = first-data (types_of_all ts) [] _ k.row.1 k.data_types in
-      let s = word-spelt op.Not _ (word-lexeme (codes "not") refl) refl (first-one (first_of (types_of_all ts)) ts _ k.row.1 d n) no-numbers in
-      record { toks = s.toks; written = s.written; spelled = s.spelled }
-  operation-spelt op.Neg ts k n =
-      let d = first-data (types_of_all ts) [] _ k.row.1 k.data_types in
-      let s = word-spelt op.Neg _ (word-lexeme (codes "neg") refl) refl (first-one (first_of (types_of_all ts)) ts _ k.row.1 d n) no-numbers in
-      record { toks = s.toks; written = s.written; spelled = s.spelled }
-  operation-spelt op.Shl ts k n =
-      let s = word-spelt op.Shl _ (word-lexeme (codes "shl") refl) refl (each-three ts _ _ _ k.row.2 k.data_types n) no-numbers in
-      record { toks = s.toks; written = s.written; spelled = s.spelled }
-  operation-spelt op.Shr ts k n =
-      let s = word-spelt op.Shr _ (word-lexeme (codes "shr") refl) refl (each-three ts _ _ _ k.row.2 k.data_types n) no-numbers in
-      record { toks = s.toks; written = s.written; spelled = s.spelled }
-  operation-spelt op.Mux ts k n =
-      let s = word-spelt op.Mux _ (word-lexeme (codes "mux") refl) refl (first-two (row_result op.Mux (types_of_all ts)) ts _ _ k.row.2 (result-data op.Mux ts k) n) no-numbers in
-      record { toks = s.toks; written = s.written; spelled = s.spelled }
-  operation-spelt (op.Extf i) ts k n =
-      let b : i < 2 ^ 32 = has-small k.row.0 (Field i) k.gives (whole-data (op.Extf i) ts k k.row.0 [] k.row.1) k.row.2 in
-      let s = word-spelt (op.Extf i) _ (word-lexeme (codes "extf") refl) refl (first-one (row_result (op.Extf i) (types_of_all ts)) ts _ k.row.1 (result-data (op.Extf i) ts k) n)
-      (behind-says SpellsNumber (i ∷ []) (number-says i b, tt)) in
-      record { toks = s.toks; written = s.written; spelled = s.spelled }
-  operation-spelt (op.Exts at len) ts k n =
-      let b : (at < 2 ^ 32) × (len < 2 ^ 32) = has-small k.row.0 (Slice at len) k.gives (whole-data (op.Exts at len) ts k k.row.0 [] k.row.1) k.row.2 in
-      let s = word-spelt (op.Exts at len) _ (word-lexeme (codes "exts") refl) refl (first-one (row_result (op.Exts at len) (types_of_all ts)) ts _ k.row.1 (result-data (op.Exts at len) ts k) n)
-      (behind-says SpellsNumber (at ∷ len ∷ []) (number-says at b.0, (number-says len b.1, tt))) in
-      record { toks = s.toks; written = s.written; spelled = s.spelled }
-  operation-spelt (op.Insf i) ts k n =
-      let b : i < 2 ^ 32 = has-small k.gives (Field i) k.row.0 k.is_data k.row.2 in
-      let d = first-data (types_of_all ts) _ _ k.row.1 k.data_types in
-      let s = word-spelt (op.Insf i) _ (word-lexeme (codes "insf") refl) refl (first-two (first_of (types_of_all ts)) ts _ _ k.row.1 d n) (behind-says SpellsNumber (i ∷ []) (number-says i b, tt)) in
-      record { toks = s.toks; written = s.written; spelled = s.spelled }
-  operation-spelt (op.Inss at len) ts k n =
-      let b : (at < 2 ^ 32) × (len < 2 ^ 32) = has-small k.gives (Slice at len) k.row.0 k.is_data k.row.2 in
-      let d = first-data (types_of_all ts) _ _ k.row.1 k.data_types in
-      let s = word-spelt (op.Inss at len) _ (word-lexeme (codes "inss") refl) refl (first-two (first_of (types_of_all ts)) ts _ _ k.row.1 d n)
-      (behind-says SpellsNumber (at ∷ len ∷ []) (number-says at b.0, (number-says len b.1, tt))) in
-      record { toks = s.toks; written = s.written; spelled = s.spelled }
-  operation-spelt op.Umul ts k n =
-      let d = first-data (types_of_all ts) _ _ k.row.1 k.data_types in
-      let s = word-spelt op.Umul _ (word-lexeme (codes "umul") refl) (inl refl) (first-two (first_of (types_of_all ts)) ts _ _ k.row.1 d n) no-numbers in
-      record { toks = s.toks; written = s.written; spelled = s.spelled }
+  pub operation-spelt : (o : Op) (ts : List Tree) → TakesTypes o (types_of_all ts) → Each TermWritten ts → Spelt (SpellsInst (operation_text e o ts))
   operation-spelt o ts k n =
-      let d = first-data (types_of_all ts) _ _ k.row.1 k.data_types in
-      let s = word-spelt o _ (word-lexeme (op_word o) refl) refl (first-two (first_of (types_of_all ts)) ts _ _ k.row.1 d n) no-numbers in
+      let s = class-spelt o (class_of o) ts k.gives refl k.data_types k.row k.is_data n in
       record { toks = s.toks; written = s.written; spelled = s.spelled }

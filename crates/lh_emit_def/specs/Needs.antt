@@ -4,36 +4,53 @@ use Rattle.lh_types.specs.Types.{TypeTree}
 use Rattle.lh_types.specs.Values.{Datum, DatumRow, int_value, time_value, array_value, tuple_value, no_values, more_values}
 use Rattle.lh_types.specs.Parts.{parts_of}
 use Rattle.lh_types.specs.declared.op.Op.{Op}
-use Rattle.lh_types.specs.declared.op.Op.TheVariants.{Shl, Shr, Mux, Extf, Exts, Array, Tuple}
+use Rattle.lh_types.specs.declared.op.Op.TheVariants.{Mux, Array, Tuple}
+use Rattle.lh_types.specs.declared.op.OpClass.{OpClass}
+use Rattle.lh_types.specs.declared.op.OpClass.TheVariants as class
+use Rattle.lh_types.specs.Classes.{class_of}
 use Rattle.lh_unit.specs.Contents.{OperandText, InstText, const_text, pure_text, prb_text}
 use Rattle.lh_term.specs.Tree.{Tree, TreeRow, constant, past_of, now_of, operation, choice_of, no_trees, more_trees, operation_on}
-use Rattle.lh_term.specs.Types.{type_of, first_of, row_result}
+use Rattle.lh_term.specs.Types.{type_of, first_of, class_result}
 use Rattle.lh_term.specs.Make.{is_constant, value_in, make_operation}
 use Rattle.lh_term.specs.declared.part.Part.{Part}
 use Rattle.lh_emit_def.specs.Emitted.{Source, Emitted, gives_term, term_name, typed, bare, signal, unless_there, need_part}
 
 -- ---- operations
 
--- whether each operand has its type before it
-abbrev pub writes_each : Op → Bool
-writes_each Shl = true
-writes_each Shr = true
-writes_each Tuple = true
-writes_each op = false
+-- whether each operand of an operation of the class has its type before it
+abbrev pub class_writes_each : OpClass → Bool
+class_writes_each class.Unary = false
+class_writes_each class.Binary = false
+class_writes_each class.Relation = false
+class_writes_each class.Equality = false
+class_writes_each class.Shift = true
+class_writes_each class.Select = false
+class_writes_each (class.TakePart s) = false
+class_writes_each (class.PutPart s) = false
+class_writes_each class.Array = false
+class_writes_each (class.Repeat n) = false
+class_writes_each class.Tuple = true
 
 -- whether the type before the first operand is that of what is given, and not the operand's
-abbrev pub writes_result : Op → Bool
-writes_result Mux = true
-writes_result (Extf k) = true
-writes_result (Exts o n) = true
-writes_result op = false
+abbrev pub class_writes_result : OpClass → Bool
+class_writes_result class.Unary = false
+class_writes_result class.Binary = false
+class_writes_result class.Relation = false
+class_writes_result class.Equality = false
+class_writes_result class.Shift = false
+class_writes_result class.Select = true
+class_writes_result (class.TakePart s) = true
+class_writes_result (class.PutPart s) = false
+class_writes_result class.Array = false
+class_writes_result (class.Repeat n) = false
+class_writes_result class.Tuple = false
 
 abbrev pub types_of_all : List Tree → List TypeTree
 types_of_all ts = map type_of ts
 
 -- the type before the first operand
-abbrev pub written_type : Op → List TypeTree → TypeTree
-written_type op ts = if writes_result op then row_result op ts else first_of ts
+abbrev pub class_type_written : OpClass → List TypeTree → TypeTree
+class_type_written c ts = if class_writes_result c then class_result c ts else first_of ts
 
 -- each operand with its type
 abbrev pub each_typed : Emitted → List Tree → List OperandText
@@ -44,9 +61,25 @@ abbrev pub first_typed : Emitted → TypeTree → List Tree → List OperandText
 first_typed e d [] = []
 first_typed e d (t ∷ ts) = typed (term_name e t) d ∷ map (λ u. bare (term_name e u)) ts
 
+-- the operands of an operation of the class, as it writes them
+abbrev pub class_typed : Emitted → OpClass → List Tree → List OperandText
+class_typed e c ts = if class_writes_each c then each_typed e ts else first_typed e (class_type_written c (types_of_all ts)) ts
+
+-- whether each operand has its type before it
+abbrev pub writes_each : Op → Bool
+writes_each op = class_writes_each (class_of op)
+
+-- whether the type before the first operand is that of what is given
+abbrev pub writes_result : Op → Bool
+writes_result op = class_writes_result (class_of op)
+
+-- the type before the first operand
+abbrev pub written_type : Op → List TypeTree → TypeTree
+written_type op ts = class_type_written (class_of op) ts
+
 -- an operation on terms that were emitted
 abbrev pub operation_text : Emitted → Op → List Tree → InstText
-operation_text e op ts = pure_text op (if writes_each op then each_typed e ts else first_typed e (written_type op (types_of_all ts)) ts)
+operation_text e op ts = pure_text op (class_typed e (class_of op) ts)
 
 -- the operation that gives the value of a term
 abbrev pub gives_operation : Source → Tree → Op → List Tree → Emitted → Emitted

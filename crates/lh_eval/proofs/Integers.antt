@@ -1,10 +1,12 @@
 -- An operation that computes with two integers.
 use Rattle.std.proofs.Common.{◌≡◌, ℕ, ◌^◌, ◌≤◌, ◌<◌, List, [], ◌∷◌, length, refl, ap, inl, inr, arith}
 use Rattle.lh_types.specs.Values.{Datum, int_value}
-use Rattle.lh_types.specs.Apply.{apply, integer_result}
-use Rattle.lh_types.specs.ApplyTypes.{FitsOp, TakesIntegers}
+use Rattle.lh_types.specs.Classes.{class_of}
+use Rattle.lh_types.specs.Apply.{apply, class_value, integer_result}
+use Rattle.lh_types.specs.ApplyTypes.{FitsOp, ClassTakesIntegers, TakesIntegers}
 use Rattle.lh_types.specs.declared.op.Op.{Op}
-use Rattle.lh_types.specs.declared.op.Op.TheVariants.{Not, Neg, Add, Sub, Umul, Smul, Udiv, Sdiv, Umod, Smod, Urem, Srem, And, Or, Xor, Slt, Sgt, Sle, Sge, Ult, Ugt, Ule, Uge}
+use Rattle.lh_types.specs.declared.op.OpClass.{OpClass}
+use Rattle.lh_types.specs.declared.op.OpClass.TheVariants as class
 use Rattle.lh_ops.proofs.FitLemmas.{integer_args}
 
 -- two integers of one width
@@ -29,27 +31,10 @@ two_integers op a b k f =
 
 pub integers_are : (op : Op) (vs : List Datum) → TakesIntegers op → apply op vs ≡ integer_result op vs
 unfolding apply
-integers_are Not vs k = refl
-integers_are Neg vs k = refl
-integers_are Add vs k = refl
-integers_are Sub vs k = refl
-integers_are Umul vs k = refl
-integers_are Smul vs k = refl
-integers_are Udiv vs k = refl
-integers_are Sdiv vs k = refl
-integers_are Umod vs k = refl
-integers_are Smod vs k = refl
-integers_are Urem vs k = refl
-integers_are Srem vs k = refl
-integers_are And vs k = refl
-integers_are Or vs k = refl
-integers_are Xor vs k = refl
-integers_are Slt vs k = refl
-integers_are Sgt vs k = refl
-integers_are Sle vs k = refl
-integers_are Sge vs k = refl
-integers_are Ult vs k = refl
-integers_are Ugt vs k = refl
-integers_are Ule vs k = refl
-integers_are Uge vs k = refl
-integers_are _ vs k = absurd k
+integers_are op vs k = by (class_of op) k
+  where
+    by : (c : OpClass) → ClassTakesIntegers c → class_value c op vs ≡ integer_result op vs
+    by class.Unary k = refl
+    by class.Binary k = refl
+    by class.Relation k = refl
+    by _ k = absurd k

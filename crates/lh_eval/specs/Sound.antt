@@ -18,7 +18,7 @@ abbrev pub IsWithinWidth : Datum → Type 0
 IsWithinWidth (int_value n bits) = bits < 2 ^ n
 IsWithinWidth _ = Unit {0}
 
--- so many operands as the class takes, which the types alone do not tell
+-- as many operands as the class takes, which the types alone do not tell
 abbrev pub ClassHasOperands : OpClass → List OperandText → Type 0
 ClassHasOperands class.Unary args = (x : OperandText) × (args ≡ x ∷ [])
 ClassHasOperands class.Binary args = (x y : OperandText) × (args ≡ x ∷ y ∷ [])
@@ -32,7 +32,7 @@ ClassHasOperands class.Array args = Unit {0}
 ClassHasOperands (class.Repeat n) args = ((x : OperandText) × (args ≡ x ∷ [])) × (0 < n)
 ClassHasOperands class.Tuple args = Unit {0}
 
--- so many operands as the operation takes
+-- as many operands as the operation takes
 abbrev pub HasOperands : Op → List OperandText → Type 0
 HasOperands o args = ClassHasOperands (class_of o) args
 

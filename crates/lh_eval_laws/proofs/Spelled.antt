@@ -3,13 +3,15 @@ use Rattle.std.proofs.Common.{◌≡◌, ℕ, ◌-◌, List, [], ◌∷◌, map,
 use Rattle.lh_types.specs.Types.{TypeTree, signal_type, IsData, IsLimited}
 use Rattle.lh_types.specs.Values.{int_value}
 use Rattle.lh_types.specs.declared.op.Op.{Op}
-use Rattle.lh_types.specs.declared.op.Op.TheVariants as op
+use Rattle.lh_types.specs.declared.op.OpClass.{OpClass}
+use Rattle.lh_types.specs.declared.op.OpClass.TheVariants as class
+use Rattle.lh_types.specs.Classes.{class_of}
 use Rattle.lh_unit.specs.Contents.{OperandText, ArgText, InstText, const_text, pure_text, sig_text, LineText}
 use Rattle.lh_unit.specs.Lexemes.{Lexeme, local}
 use Rattle.lh_unit.specs.Pieces.{lexemes_in}
 use Rattle.lh_unit.specs.SpellsTypes.{SpellsSignalType}
 use Rattle.lh_unit.specs.SpellsParts.{SpellsParts, SpellsList}
-use Rattle.lh_unit.specs.SpellsInst.{Column, typed, bare, SpellsColumns, SpellsPure, SpellsInst, SpellsLine}
+use Rattle.lh_unit.specs.SpellsInst.{Column, typed, bare, columns, class_columns, SpellsColumns, SpellsOfClass, SpellsPure, SpellsInst, SpellsLine}
 use Rattle.lh_unit.specs.Spells.{inst_item, TypedName, SpellsPort, input_of, output_of, SpellsPorts, SpellsHeader}
 use Rattle.lh_unit.specs.Within.{Each}
 use Rattle.lh_unit_names.specs.declared.name.UnitName.{UnitName}
@@ -19,7 +21,7 @@ use Rattle.lh_unit.proofs.Lists.{Each-append}
 use Rattle.lh_text_laws.specs.ItemLines.{item_line}
 use Rattle.lh_text_laws.specs.Printable.{HasInstLine}
 use Rattle.lh_text_laws.proofs.Numbers.{integer-below}
-use Rattle.lh_eval.specs.Sound.{HasOperands, IsWrittenRight}
+use Rattle.lh_eval.specs.Sound.{ClassHasOperands, HasOperands, IsWrittenRight}
 use Rattle.lh_eval_laws.specs.Units.{IsPort, HasPorts}
 
 -- one operand, and two
@@ -34,22 +36,27 @@ two-columns c d (x ∷ []) ts more h = absurd h
 two-columns c d (x ∷ y ∷ []) ts more h = (x, y, refl)
 two-columns c d (x ∷ y ∷ z ∷ os) ts more h = absurd h.2
 
+-- the operands of an operation that has a word
+columns-of : (o : Op) (c : OpClass) (os : List OperandText) (ts more : List Lexeme) → class_of o ≡ c → SpellsColumns (columns o) os ts more → SpellsColumns (class_columns c) os ts more
+columns-of o c os ts more e h = subst (λ k. SpellsColumns (class_columns k) os ts more) e h
+
+class-written : (o : Op) (c : OpClass) (os : List OperandText) (ts : List Lexeme) → class_of o ≡ c → SpellsOfClass c o os ts → ClassHasOperands c os
+class-written o class.Unary os ts e h = one-column typed os h.1 h.2 (columns-of o class.Unary os h.1 h.2 e h.5)
+class-written o class.Binary os ts e h = two-columns typed bare os h.1 h.2 (columns-of o class.Binary os h.1 h.2 e h.5)
+class-written o class.Relation os ts e h = two-columns typed bare os h.1 h.2 (columns-of o class.Relation os h.1 h.2 e h.5)
+class-written o class.Equality os ts e h = two-columns typed bare os h.1 h.2 (columns-of o class.Equality os h.1 h.2 e h.5)
+class-written o class.Shift os ts e h = tt
+class-written o class.Select os ts e h = tt
+class-written o (class.TakePart s) os ts e h = tt
+class-written o (class.PutPart s) os ts e h = tt
+class-written o class.Array os ts e h = tt
+class-written o (class.Repeat n) [] ts e h = absurd h
+class-written o (class.Repeat n) (x ∷ []) ts e h = ((x, refl), omega (arith, h.7.1))
+class-written o (class.Repeat n) (x ∷ y ∷ os) ts e h = absurd h
+class-written o class.Tuple os ts e h = tt
+
 operands-written : (o : Op) (os : List OperandText) (ts : List Lexeme) → SpellsPure o os ts → HasOperands o os
-operands-written op.Not os ts h = one-column typed os h.1 h.2 h.5
-operands-written op.Neg os ts h = one-column typed os h.1 h.2 h.5
-operands-written op.Shl os ts h = tt
-operands-written op.Shr os ts h = tt
-operands-written op.Mux os ts h = tt
-operands-written (op.Extf k) os ts h = tt
-operands-written (op.Exts at len) os ts h = tt
-operands-written (op.Insf k) os ts h = tt
-operands-written (op.Inss at len) os ts h = tt
-operands-written op.Array os ts h = tt
-operands-written (op.Repeat n) [] ts h = absurd h
-operands-written (op.Repeat n) (x ∷ []) ts h = ((x, refl), omega (arith, h.7.1))
-operands-written (op.Repeat n) (x ∷ y ∷ os) ts h = absurd h
-operands-written op.Tuple os ts h = tt
-operands-written o os ts h = two-columns typed bare os h.1 h.2 h.5
+operands-written o os ts h = class-written o (class_of o) os ts refl h
 
 inst-written : (i : InstText) (ts : List Lexeme) → SpellsInst i ts → IsWrittenRight i
 inst-written (const_text (int_value n bits)) ts h = integer-below n bits h.1 h.4

@@ -3,12 +3,15 @@ use Rattle.std.proofs.Common.{ℕ, zero, suc, ◌+◌, List, [], ◌∷◌, ◌+
 use Rattle.std.specs.Prelude.{slice_set, slice_index_or}
 use Rattle.lh_types.specs.Values.{Datum, DatumRow, int_value, time_value, array_value, tuple_value, no_values, more_values, data_row}
 use Rattle.lh_types.specs.Parts.{parts_of, part_by, with_part}
-use Rattle.lh_types.specs.Apply.{no_value, integer_result, shifted, selected, field_at, slice_at, with_field, with_slice, repeated, apply}
+use Rattle.lh_types.specs.Classes.{class_of}
+use Rattle.lh_types.specs.Apply.{no_value, integer_result, equality_result, shift_result, shifted, selected, part_taken, part_put, field_at, slice_at, with_field, with_slice, repeated, class_value, apply}
 use Rattle.lh_types.specs.ApplyInt.{moved_up, moved_down}
 use Rattle.lh_types.specs.declared.part.Step.{Step}
 use Rattle.lh_types.specs.declared.part.Step.TheVariants.{Field, Slice}
 use Rattle.lh_types.specs.declared.op.Op.{Op}
-use Rattle.lh_types.specs.declared.op.Op.TheVariants.{Eq, Neq, Shl, Shr, Mux, Extf, Exts, Insf, Inss, Array, Repeat, Tuple}
+use Rattle.lh_types.specs.declared.op.Op.TheVariants.{Neq, Shr}
+use Rattle.lh_types.specs.declared.op.OpClass.{OpClass}
+use Rattle.lh_types.specs.declared.op.OpClass.TheVariants as class
 use Rattle.lh_unit.specs.Contents.{InstText, const_text, LineText}
 use Rattle.lh_unit.specs.Lexemes.{Lexeme}
 use Rattle.lh_unit.specs.SpellsInst.{SpellsInst, SpellsLine}
@@ -128,21 +131,38 @@ repeated-written n [] h = tt
 repeated-written n (v ∷ []) h = row-written (replicate n v) (copies-written n v h.0)
 repeated-written n (v ∷ w ∷ vs) h = tt
 
+equality-written : (o : Op) (vs : List Datum) → Writable (equality_result o vs)
+equality-written Neq vs = tt
+equality-written o vs = tt
+
+shift-written : (o : Op) (vs : List Datum) → Writable (shift_result o vs)
+shift-written Shr vs = shifted-written moved_down vs
+shift-written o vs = shifted-written moved_up vs
+
+taken-written : (s : Step) (vs : List Datum) → AllWritable vs → Writable (part_taken s vs)
+taken-written (Field k) vs h = field-written k vs h
+taken-written (Slice o n) vs h = slice-written o n vs h
+
+put-written : (s : Step) (vs : List Datum) → AllWritable vs → Writable (part_put s vs)
+put-written (Field k) vs h = with-field-written k vs h
+put-written (Slice o n) vs h = with-slice-written o n vs h
+
+class-written : (c : OpClass) (o : Op) (vs : List Datum) → AllWritable vs → Writable (class_value c o vs)
+class-written class.Unary o vs h = integer-written o vs
+class-written class.Binary o vs h = integer-written o vs
+class-written class.Relation o vs h = integer-written o vs
+class-written class.Equality o vs h = equality-written o vs
+class-written class.Shift o vs h = shift-written o vs
+class-written class.Select o vs h = selected-written vs h
+class-written (class.TakePart s) o vs h = taken-written s vs h
+class-written (class.PutPart s) o vs h = put-written s vs h
+class-written class.Array o vs h = row-written vs h
+class-written (class.Repeat n) o vs h = repeated-written n vs h
+class-written class.Tuple o vs h = row-written vs h
+
 pub apply-written : (o : Op) (vs : List Datum) → AllWritable vs → Writable (apply o vs)
 unfolding apply
-apply-written Eq vs h = tt
-apply-written Neq vs h = tt
-apply-written Shl vs h = shifted-written moved_up vs
-apply-written Shr vs h = shifted-written moved_down vs
-apply-written Mux vs h = selected-written vs h
-apply-written (Extf k) vs h = field-written k vs h
-apply-written (Exts o n) vs h = slice-written o n vs h
-apply-written (Insf k) vs h = with-field-written k vs h
-apply-written (Inss o n) vs h = with-slice-written o n vs h
-apply-written Array vs h = row-written vs h
-apply-written (Repeat n) vs h = repeated-written n vs h
-apply-written Tuple vs h = row-written vs h
-apply-written o vs h = integer-written o vs
+apply-written o vs h = class-written (class_of o) o vs h
 
 -- ---- what is spelled
 

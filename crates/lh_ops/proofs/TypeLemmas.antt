@@ -7,10 +7,11 @@ use Rattle.lh_types.specs.Types.{TypeTree, TypeRow, int_type, time_type, array_t
 use Rattle.lh_types.specs.Values.{Datum, DatumRow, int_value, time_value, array_value, tuple_value, no_values, more_values, data_row}
 use Rattle.lh_types.specs.Fits.{FitsType, FitsRow, PartsFit}
 use Rattle.lh_types.specs.Parts.{parts_of, part_by, with_part, field_part}
-use Rattle.lh_types.specs.ApplyInt.{integer_row, row_width, truth, divided, wrapped, moved_up, moved_down}
-use Rattle.lh_types.specs.Apply.{apply, bit_value, no_value, integer_result, shifted, selected, repeated, field_at, slice_at, with_field, with_slice}
+use Rattle.lh_types.specs.ApplyInt.{integer_row, row_width, class_width, truth, divided, wrapped, moved_up, moved_down}
+use Rattle.lh_types.specs.Apply.{apply, class_value, bit_value, no_value, integer_result, equality_result, shift_result, shifted, selected, repeated, part_taken, part_put, field_at, slice_at, with_field, with_slice}
 use Rattle.lh_types.specs.Classes.{class_of}
 use Rattle.lh_types.specs.ApplyTypes.{PartHasType, ClassType}
+use Rattle.lh_types.specs.declared.part.Step.{Step}
 use Rattle.lh_types.specs.declared.part.Step.TheVariants.{Field, Slice}
 use Rattle.lh_types.specs.declared.op.Op.{Op}
 use Rattle.lh_types.specs.declared.op.Op.TheVariants.{Not, Neg, Add, Sub, Umul, Smul, Udiv, Sdiv, Umod, Smod, Urem, Srem, And, Or, Xor, Eq, Neq, Slt, Sgt, Sle, Sge, Ult, Ugt, Ule, Uge, Shl, Shr, Mux, Extf, Exts, Insf, Inss, Array, Repeat, Tuple}
@@ -264,31 +265,43 @@ module _ (vs : List Datum) (ts : List TypeTree) (r : TypeTree) (d : AreData (row
       let c = part_count-data_row (replicate n o.x) ∙ length-replicate n o.x in
       rw o.is (gives (array_value (data_row (replicate n o.x))) (array_type n t) (c, fit_replicate n o.x t o.fits_x) q)
 
+  -- a class of operations on integers whose results have this many bits
+  of_class : (op : Op) (c : OpClass) → class_of op ≡ c → (n : ℕ) → row_width op n ≡ class_width c n
+  unfolding row_width
+  of_class op c e n = ap (λ (k : OpClass). class_width k n) e
+
+  of_equality : (op : Op) → r ≡ int_type 1 → FitsType (equality_result op vs) r
+  of_equality Neq q = of_truth _ q
+  of_equality _ q = of_truth _ q
+
+  of_shift : (op : Op) (n w : ℕ) → ts ≡ int_type n ∷ int_type n ∷ int_type w ∷ [] → r ≡ int_type n → FitsType (shift_result op vs) r
+  of_shift Shr n w e q = gives _ (int_type n) (shifts_fit moved_down vs n w (down_below n) (data_as _ e) (fits_as vs ts _ f e)) q
+  of_shift _ n w e q = gives _ (int_type n) (shifts_fit moved_up vs n w (up_below n) (data_as _ e) (fits_as vs ts _ f e)) q
+
+  of_taken : (s : Step) (t : TypeTree) → ts ≡ t ∷ [] → PartHasType t s r → FitsType (part_taken s vs) r
+  of_taken (Field k) t e h = of_extf k t e h
+  of_taken (Slice i n) t e h = of_exts i n t e h
+
+  of_put : (s : Step) (p : TypeTree) → ts ≡ r ∷ p ∷ [] → PartHasType r s p → FitsType (part_put s vs) r
+  of_put (Field k) p e h = of_insf k p e h
+  of_put (Slice i n) p e h = of_inss i n p e h
+
+  of_any : (op : Op) (c : OpClass) → class_of op ≡ c → ClassType c ts r → FitsType (class_value c op vs) r
+  of_any op class.Unary e k = of_unary op k.0 (of_class op class.Unary e k.0) k.1 k.2
+  of_any op class.Binary e k = of_binary op k.0 k.0 (of_class op class.Binary e k.0) k.1 k.2
+  of_any op class.Relation e k = of_binary op k.0 1 (of_class op class.Relation e k.0) k.1 k.2
+  of_any op class.Equality e k = of_equality op k.2
+  of_any op class.Shift e k = of_shift op k.0 k.1 k.2 k.3
+  of_any op class.Select e k = of_mux k.0 k.1 k.2
+  of_any op (class.TakePart s) e k = of_taken s k.0 k.1 k.2
+  of_any op (class.PutPart s) e k = of_put s k.0 k.1 k.2
+  of_any op class.Array e k = of_array (length ts) k.0 k.2 k.3
+  of_any op (class.Repeat n) e k = of_repeat n k.0 k.1 k.3
+  of_any op class.Tuple e k = gives (tuple_value (data_row vs)) (tuple_type (row_of ts)) f k.1
+
 pub results_fit_lem : ResultsFit
-unfolding apply row_width
-results_fit_lem Not vs ts r d f k = of_unary vs ts r d f Not k.0 refl k.1 k.2
-results_fit_lem Neg vs ts r d f k = of_unary vs ts r d f Neg k.0 refl k.1 k.2
-results_fit_lem Eq vs ts r d f k = of_truth vs ts r d f _ k.2
-results_fit_lem Neq vs ts r d f k = of_truth vs ts r d f _ k.2
-results_fit_lem Slt vs ts r d f k = of_binary vs ts r d f Slt k.0 1 refl k.1 k.2
-results_fit_lem Sgt vs ts r d f k = of_binary vs ts r d f Sgt k.0 1 refl k.1 k.2
-results_fit_lem Sle vs ts r d f k = of_binary vs ts r d f Sle k.0 1 refl k.1 k.2
-results_fit_lem Sge vs ts r d f k = of_binary vs ts r d f Sge k.0 1 refl k.1 k.2
-results_fit_lem Ult vs ts r d f k = of_binary vs ts r d f Ult k.0 1 refl k.1 k.2
-results_fit_lem Ugt vs ts r d f k = of_binary vs ts r d f Ugt k.0 1 refl k.1 k.2
-results_fit_lem Ule vs ts r d f k = of_binary vs ts r d f Ule k.0 1 refl k.1 k.2
-results_fit_lem Uge vs ts r d f k = of_binary vs ts r d f Uge k.0 1 refl k.1 k.2
-results_fit_lem Shl vs ts r d f k = gives vs ts r d f _ (int_type k.0) (shifts_fit moved_up vs k.0 k.1 (up_below k.0) (data_as vs ts r d f _ k.2) (fits_as vs ts _ f k.2)) k.3
-results_fit_lem Shr vs ts r d f k = gives vs ts r d f _ (int_type k.0) (shifts_fit moved_down vs k.0 k.1 (down_below k.0) (data_as vs ts r d f _ k.2) (fits_as vs ts _ f k.2)) k.3
-results_fit_lem Mux vs ts r d f k = of_mux vs ts r d f k.0 k.1 k.2
-results_fit_lem (Extf i) vs ts r d f k = of_extf vs ts r d f i k.0 k.1 k.2
-results_fit_lem (Exts i n) vs ts r d f k = of_exts vs ts r d f i n k.0 k.1 k.2
-results_fit_lem (Insf i) vs ts r d f k = of_insf vs ts r d f i k.0 k.1 k.2
-results_fit_lem (Inss i n) vs ts r d f k = of_inss vs ts r d f i n k.0 k.1 k.2
-results_fit_lem Array vs ts r d f k = of_array vs ts r d f (length ts) k.0 k.2 k.3
-results_fit_lem (Repeat n) vs ts r d f k = of_repeat vs ts r d f n k.0 k.1 k.3
-results_fit_lem Tuple vs ts r d f k = gives vs ts r d f (tuple_value (data_row vs)) (tuple_type (row_of ts)) f k.1
-results_fit_lem op vs ts r d f k = of_binary vs ts r d f op k.0 k.0 refl k.1 k.2
+unfolding apply
+results_fit_lem op vs ts r d f k = of_any vs ts r d f op (class_of op) refl k
 
 -- a class gives one type for its operands' types
 one_class_type : (c : OpClass) (ts : List TypeTree) (r s : TypeTree) → ClassType c ts r → ClassType c ts s → r ≡ s

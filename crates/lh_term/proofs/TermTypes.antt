@@ -4,14 +4,17 @@ use Rattle.lh_types.specs.Types.{TypeTree, TypeRow, int_type, time_type, void_ty
 use Rattle.lh_types.specs.Values.{Datum, DatumRow, int_value, time_value, array_value, tuple_value, no_values, more_values, data_row}
 use Rattle.lh_types.specs.Fits.{FitsType, FitsRow, PartsFit, part_count}
 use Rattle.lh_types.specs.Parts.{Part as Within, part_if, part_beyond, field_part}
-use Rattle.lh_types.specs.ApplyTypes.{RowType, PartHasType}
+use Rattle.lh_types.specs.Classes.{class_of}
+use Rattle.lh_types.specs.ApplyTypes.{ClassType, PartHasType}
 use Rattle.lh_types.specs.Apply.{apply}
+use Rattle.lh_types.specs.declared.part.Step.{Step}
 use Rattle.lh_types.specs.declared.part.Step.TheVariants.{Field, Slice}
 use Rattle.lh_types.specs.declared.op.Op.{Op}
-use Rattle.lh_types.specs.declared.op.Op.TheVariants.{Not, Neg, Add, Sub, Umul, Smul, Udiv, Sdiv, Umod, Smod, Urem, Srem, And, Or, Xor, Eq, Neq, Slt, Sgt, Sle, Sge, Ult, Ugt, Ule, Uge, Shl, Shr, Mux, Extf, Exts, Insf, Inss, Array, Repeat, Tuple}
+use Rattle.lh_types.specs.declared.op.OpClass.{OpClass}
+use Rattle.lh_types.specs.declared.op.OpClass.TheVariants as class
 use Rattle.lh_ops.proofs.TypeLemmas.{results_fit_lem}
 use Rattle.lh_term.specs.Tree.{Tree, TreeRow, constant, past_of, now_of, operation, choice_of, no_trees, more_trees}
-use Rattle.lh_term.specs.Types.{value_type, first_type, value_types, first_of, element_of, type_in_row, field_type, slice_type, row_result, type_of, types_of, IsValueType, FitsTerm, TakesTypes, IsTyped, AreTyped}
+use Rattle.lh_term.specs.Types.{value_type, first_type, value_types, first_of, element_of, type_in_row, field_type, slice_type, step_type, class_result, row_result, type_of, types_of, IsValueType, FitsTerm, TakesTypes, IsTyped, AreTyped}
 use Rattle.lh_term.specs.Mean.{Valuation, IsFitting, chosen, mean, means}
 
 -- ---- the type of a value is the one that it fits
@@ -111,45 +114,25 @@ first_replicate (u ∷ ts) t h e = cc
 of_first : (ts us : List TypeTree) (r : TypeTree) → ts ≡ us → r ≡ first_of us → first_of ts ≡ r
 of_first ts us r e f = ap first_of e ∙ sym f
 
-pub row_is : (op : Op) (ts : List TypeTree) (r : TypeTree) → RowType op ts r → row_result op ts ≡ r
-row_is Not ts r k = of_first ts _ r k.1 k.2
-row_is Neg ts r k = of_first ts _ r k.1 k.2
-row_is Eq ts r k = sym k.2
-row_is Neq ts r k = sym k.2
-row_is Slt ts r k = sym k.2
-row_is Sgt ts r k = sym k.2
-row_is Sle ts r k = sym k.2
-row_is Sge ts r k = sym k.2
-row_is Ult ts r k = sym k.2
-row_is Ugt ts r k = sym k.2
-row_is Ule ts r k = sym k.2
-row_is Uge ts r k = sym k.2
-row_is Shl ts r k = of_first ts _ r k.2 k.3
-row_is Shr ts r k = of_first ts _ r k.2 k.3
-row_is Mux ts r k = ap (λ us. element_of (first_of us)) k.2
-row_is (Extf i) ts r k = ap (λ us. field_type (first_of us) i) k.1 ∙ has_field k.0 i r k.2
-row_is (Exts o n) ts r k = ap (λ us. slice_type (first_of us) n) k.1 ∙ has_slice k.0 o n r k.2
-row_is (Insf i) ts r k = of_first ts _ r k.1 refl
-row_is (Inss o n) ts r k = of_first ts _ r k.1 refl
-row_is Array ts r k = ap (array_type (length ts)) (first_replicate ts k.0 k.1 k.2) ∙ sym k.3
-row_is (Repeat n) ts r k = ap (λ us. array_type n (first_of us)) k.1 ∙ sym k.3
-row_is Tuple ts r k = sym k.1
-row_is Add ts r k = of_first ts _ r k.1 k.2
-row_is Sub ts r k = of_first ts _ r k.1 k.2
-row_is Umul ts r k = of_first ts _ r k.1 k.2
-row_is Smul ts r k = of_first ts _ r k.1 k.2
-row_is Udiv ts r k = of_first ts _ r k.1 k.2
-row_is Sdiv ts r k = of_first ts _ r k.1 k.2
-row_is Umod ts r k = of_first ts _ r k.1 k.2
-row_is Smod ts r k = of_first ts _ r k.1 k.2
-row_is Urem ts r k = of_first ts _ r k.1 k.2
-row_is Srem ts r k = of_first ts _ r k.1 k.2
-row_is And ts r k = of_first ts _ r k.1 k.2
-row_is Or ts r k = of_first ts _ r k.1 k.2
-row_is Xor ts r k = of_first ts _ r k.1 k.2
+has_step : (t : TypeTree) (s : Step) (r : TypeTree) → PartHasType t s r → step_type s t ≡ r
+has_step t (Field k) r e = has_field t k r e
+has_step t (Slice o n) r e = has_slice t o n r e
+
+pub class_is : (c : OpClass) (ts : List TypeTree) (r : TypeTree) → ClassType c ts r → class_result c ts ≡ r
+class_is class.Unary ts r k = of_first ts _ r k.1 k.2
+class_is class.Binary ts r k = of_first ts _ r k.1 k.2
+class_is class.Relation ts r k = sym k.2
+class_is class.Equality ts r k = sym k.2
+class_is class.Shift ts r k = of_first ts _ r k.2 k.3
+class_is class.Select ts r k = ap (λ us. element_of (first_of us)) k.2
+class_is (class.TakePart s) ts r k = ap (λ us. step_type s (first_of us)) k.1 ∙ has_step k.0 s r k.2
+class_is (class.PutPart s) ts r k = of_first ts _ r k.1 refl
+class_is class.Array ts r k = ap (array_type (length ts)) (first_replicate ts k.0 k.1 k.2) ∙ sym k.3
+class_is (class.Repeat n) ts r k = ap (λ us. array_type n (first_of us)) k.1 ∙ sym k.3
+class_is class.Tuple ts r k = sym k.1
 
 pub gives_is : (op : Op) (ts : List TypeTree) (k : TakesTypes op ts) → row_result op ts ≡ k.gives
-gives_is op ts k = row_is op ts k.gives k.row
+gives_is op ts k = class_is (class_of op) ts k.gives k.row
 
 -- ---- a typed term is of a type of values, and means a value of it
 

@@ -100,9 +100,13 @@ class_by_first class.Tuple t ts = tuple_type (row_of ts)
 abbrev pub type_by_first : Op → TypeTree → List TypeTree → TypeTree
 type_by_first op t ts = class_by_first (class_of op) t ts
 
+-- the type of what a row of the class gives on operands of these types
+abbrev pub class_result : OpClass → List TypeTree → TypeTree
+class_result c ts = if class_gives_bit c then int_type 1 else class_by_first c (first_of ts) ts
+
 -- the type of what a row gives on operands of these types
 abbrev pub row_result : Op → List TypeTree → TypeTree
-row_result op ts = if gives_bit op then int_type 1 else type_by_first op (first_of ts) ts
+row_result op ts = class_result (class_of op) ts
 
 abbrev mutual
   -- the type of a term

@@ -1,12 +1,16 @@
--- The operations of the language on values: one row for each, total.
+-- The operations of the language on values: a row for each class, total.
 use Rattle.std.specs.Prelude.{ℕ, ◌-◌, min, Bool, false, not, List, [], ◌∷◌, length, replicate, slice_index_or}
 use Rattle.lh_types.specs.Values.{Datum, int_value, array_value, tuple_value, data_row}
 use Rattle.lh_types.specs.SameValue.{same_datum}
 use Rattle.lh_types.specs.Parts.{parts_of, part_by, with_part}
 use Rattle.lh_types.specs.ApplyInt.{integer_row, row_width, truth, moved_up, moved_down}
+use Rattle.lh_types.specs.Classes.{class_of}
+use Rattle.lh_types.specs.declared.part.Step.{Step}
 use Rattle.lh_types.specs.declared.part.Step.TheVariants.{Field, Slice}
 use Rattle.lh_types.specs.declared.op.Op.{Op}
-use Rattle.lh_types.specs.declared.op.Op.TheVariants.{Not, Neg, Add, Sub, Umul, Smul, Udiv, Sdiv, Umod, Smod, Urem, Srem, And, Or, Xor, Eq, Neq, Slt, Sgt, Sle, Sge, Ult, Ugt, Ule, Uge, Shl, Shr, Mux, Extf, Exts, Insf, Inss, Array, Repeat, Tuple}
+use Rattle.lh_types.specs.declared.op.Op.TheVariants.{Neq, Shr}
+use Rattle.lh_types.specs.declared.op.OpClass.{OpClass}
+use Rattle.lh_types.specs.declared.op.OpClass.TheVariants as class
 
 -- what an operation gives on arguments that no row has
 abbrev pub no_value : Datum
@@ -62,40 +66,40 @@ abbrev pub repeated : ℕ → List Datum → Datum
 repeated n (v ∷ []) = array_value (data_row (replicate n v))
 repeated n _ = no_value
 
+-- eq and neq
+abbrev pub equality_result : Op → List Datum → Datum
+equality_result Neq vs = bit_value (not (equality vs))
+equality_result op vs = bit_value (equality vs)
+
+-- shl and shr
+abbrev pub shift_result : Op → List Datum → Datum
+shift_result Shr vs = shifted moved_down vs
+shift_result op vs = shifted moved_up vs
+
+-- the part that a step leads to
+abbrev pub part_taken : Step → List Datum → Datum
+part_taken (Field k) vs = field_at k vs
+part_taken (Slice o n) vs = slice_at o n vs
+
+-- the whole with this part replaced
+abbrev pub part_put : Step → List Datum → Datum
+part_put (Field k) vs = with_field k vs
+part_put (Slice o n) vs = with_slice o n vs
+
+-- what an operation of a class gives
+abbrev pub class_value : OpClass → Op → List Datum → Datum
+class_value class.Unary op vs = integer_result op vs
+class_value class.Binary op vs = integer_result op vs
+class_value class.Relation op vs = integer_result op vs
+class_value class.Equality op vs = equality_result op vs
+class_value class.Shift op vs = shift_result op vs
+class_value class.Select op vs = selected vs
+class_value (class.TakePart s) op vs = part_taken s vs
+class_value (class.PutPart s) op vs = part_put s vs
+class_value class.Array op vs = array_value (data_row vs)
+class_value (class.Repeat n) op vs = repeated n vs
+class_value class.Tuple op vs = tuple_value (data_row vs)
+
 -- the value of an operation
 unfoldable pub apply : Op → List Datum → Datum
-apply Not vs = integer_result Not vs
-apply Neg vs = integer_result Neg vs
-apply Add vs = integer_result Add vs
-apply Sub vs = integer_result Sub vs
-apply Umul vs = integer_result Umul vs
-apply Smul vs = integer_result Smul vs
-apply Udiv vs = integer_result Udiv vs
-apply Sdiv vs = integer_result Sdiv vs
-apply Umod vs = integer_result Umod vs
-apply Smod vs = integer_result Smod vs
-apply Urem vs = integer_result Urem vs
-apply Srem vs = integer_result Srem vs
-apply And vs = integer_result And vs
-apply Or vs = integer_result Or vs
-apply Xor vs = integer_result Xor vs
-apply Slt vs = integer_result Slt vs
-apply Sgt vs = integer_result Sgt vs
-apply Sle vs = integer_result Sle vs
-apply Sge vs = integer_result Sge vs
-apply Ult vs = integer_result Ult vs
-apply Ugt vs = integer_result Ugt vs
-apply Ule vs = integer_result Ule vs
-apply Uge vs = integer_result Uge vs
-apply Eq vs = bit_value (equality vs)
-apply Neq vs = bit_value (not (equality vs))
-apply Shl vs = shifted moved_up vs
-apply Shr vs = shifted moved_down vs
-apply Mux vs = selected vs
-apply (Extf k) vs = field_at k vs
-apply (Exts o n) vs = slice_at o n vs
-apply (Insf k) vs = with_field k vs
-apply (Inss o n) vs = with_slice o n vs
-apply Array vs = array_value (data_row vs)
-apply (Repeat n) vs = repeated n vs
-apply Tuple vs = tuple_value (data_row vs)
+apply op vs = class_value (class_of op) op vs
