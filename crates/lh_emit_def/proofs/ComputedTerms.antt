@@ -23,9 +23,18 @@ value v t = mean v v t
 abbrev pub values : Valuation → List Tree → List Datum
 values v ts = map (value v) ts
 
+-- How an operation makes a term: it is the term's own; or the term is a constant array or struct, and these are its parts; or a choice, and these are
+-- the array of both its terms and its condition.
+pub data MakesTerm : Op → List Tree → Tree → Type 0 where
+  its_own : (op : Op) (ts : TreeRow) → MakesTerm op (operands_in ts) (operation op ts)
+  elements : (vs : DatumRow) → MakesTerm Array (constants vs) (constant (array_value vs))
+  fields : (vs : DatumRow) → MakesTerm Tuple (constants vs) (constant (tuple_value vs))
+  both : (c f t : Tree) → MakesTerm Mux (pair_of f t ∷ c ∷ []) (choice_of c f t)
+
 -- the operation on these terms gives the value of the term
 pub record Computes (op : Op) (ts : List Tree) (t : Tree) : Type 0 where
   pub typed : IsTyped t
+  pub makes : MakesTerm op ts t
   pub mean : (v : Valuation) → IsFitting v → value v t ≡ apply op (values v ts)
 
 -- ---- an operation
@@ -35,7 +44,7 @@ operands-mean v no_trees = refl
 operands-mean v (more_trees t ts) = ap (λ x. value v t ∷ x) (operands-mean v ts)
 
 pub operation-computes : (op : Op) (ts : TreeRow) → IsTyped (operation op ts) → Computes op (operands_in ts) (operation op ts)
-operation-computes op ts w = record { typed = w; mean = λ v h. ap (apply op) (operands-mean v ts) }
+operation-computes op ts w = record { typed = w; makes = its_own op ts; mean = λ v h. ap (apply op) (operands-mean v ts) }
 
 -- ---- constants
 
@@ -45,11 +54,11 @@ constants-mean v (more_values x vs) = ap (more_values x) (constants-mean v vs)
 
 pub array-computes : (vs : DatumRow) → IsTyped (constant (array_value vs)) → Computes Array (constants vs) (constant (array_value vs))
 unfolding apply
-array-computes vs w = record { typed = w; mean = λ v h. ap array_value (sym (constants-mean v vs)) }
+array-computes vs w = record { typed = w; makes = elements vs; mean = λ v h. ap array_value (sym (constants-mean v vs)) }
 
 pub tuple-computes : (vs : DatumRow) → IsTyped (constant (tuple_value vs)) → Computes Tuple (constants vs) (constant (tuple_value vs))
 unfolding apply
-tuple-computes vs w = record { typed = w; mean = λ v h. ap tuple_value (sym (constants-mean v vs)) }
+tuple-computes vs w = record { typed = w; makes = fields vs; mean = λ v h. ap tuple_value (sym (constants-mean v vs)) }
 
 -- the parts of a constant are typed
 elements-typed : (vs : DatumRow) (t : TypeTree) → IsData t → PartsFit vs t → Each FitsTerm (parts_of vs)
@@ -117,6 +126,7 @@ pair-mean v f t = at (is_constant f) (is_constant t) refl refl
 pub choice-computes : (c f t : Tree) → IsTyped (choice_of c f t) → Computes Mux (pair_of f t ∷ c ∷ []) (choice_of c f t)
 choice-computes c f t w = record {
   typed = w;
+  makes = both c f t;
   mean = λ v h.
       let k : FitsType (value v c) (int_type 1) = subst (λ x. FitsType (value v c) x) w.3.0 (mean_fits v v h h c w.0) in
       mux-chooses (value v c) (value v f) (value v t) k ∙ ap (λ x. apply Mux (x ∷ value v c ∷ [])) (sym (pair-mean v f t));
