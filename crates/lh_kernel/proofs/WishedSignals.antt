@@ -6,11 +6,13 @@ use Rattle.lh_bits.specs.Writes.{written}
 use Rattle.lh_design.specs.declared.Signal.{Signal}
 use Rattle.lh_queue.specs.declared.wish.Wish.{Wish}
 use Rattle.lh_queue.specs.Queued.{QueuedWish, AreInOrder, KeysDiffer, NoneDueBefore, wish_at}
+use Rattle.std.specs.Prelude.{◌↔◌}
 use Rattle.lh_time.specs.Order.{instant_eq}
 use Rattle.lh_queue.specs.Holds.{entries}
 use Rattle.lh_queue.specs.Buckets.{buckets_of, next_in}
 use Rattle.lh_queue.specs.Places.{first_key, rest_from}
 use Rattle.lh_queue.proofs.TakenWishes.{rest_first, rest_none, looked, looked_end, looked_none}
+use Rattle.lh_kernel_wakes.specs.Rising.{IsOneOf}
 use Rattle.lh_kernel_changes.specs.Touched.{TouchesMore, AreSignals, bits_named, OthersStay}
 use Rattle.lh_kernel_changes.proofs.Filled.{is_below}
 use Rattle.lh_kernel_changes.proofs.Same.{only_written_change}
@@ -101,3 +103,10 @@ module _ (signals : List Signal) (width : ℕ) (held : List QueuedWish) (t : Ins
       MayChange signals width held t touched
   touched_late touched key k w order keys due e is late s =
       ends touched key (λ seen. looked_end held k w t seen order keys due is late ∙ ap (λ (j : Option ℕ). values_by (entries (rest_from held j)) t 0 seen) (sym e)) s
+
+  -- other numbers that are the same
+  pub again : (xs ys : List ℕ) → MayChange signals width held t xs → ((k : ℕ) → IsOneOf k ys ↔ IsOneOf k xs) → MayChange signals width held t ys
+  again xs ys m same = record {
+    known = λ k h. m.known k ((same k).0 h);
+    others = λ bits n k no b h. m.others bits n k (λ g. no ((same k).1 g)) b h;
+  }

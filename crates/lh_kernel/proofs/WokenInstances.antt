@@ -307,3 +307,13 @@ module _ (a : Arena) (d : Design) (states : List InstState) (probes : List (List
           let e : l.place ≡ k = omega (arith, l.number) in
           let P : ℕ → Type 0 = λ j. IsOneOf j woken in
           subst P e (one l.place l.awake)
+
+-- other numbers that are the same
+pub woken_again : (signals : List Signal) (states : List InstState) (probes : List (List Range)) (n : Noted) (old now : List Bool)
+    (touched : List ℕ) (i : ℕ) (due woken other : List ℕ) → ((k : ℕ) → IsOneOf k other ↔ IsOneOf k woken) →
+    WokenTo signals states probes n old now touched i due woken → WokenTo signals states probes n old now touched i due other
+woken_again signals states probes n old now touched i due woken other same w = record {
+  keeps = λ k h. (same k).1 (w.keeps k h);
+  sound = λ k h. w.sound k ((same k).0 h);
+  all = λ j h. elim (w.all j h) [ inl s ↦ inl s | inr f ↦ inr (λ k p q. (same k).1 (f k p q)) ];
+}

@@ -7,6 +7,7 @@ ghost use Rattle.lh_kernel.specs.Touched.{MayChange, first_in};
 
 use lh_design::Design;
 use lh_kernel_changes::signals::touch_written;
+use lh_kernel_wakes::gathered::Gathered;
 use lh_kernel_wakes::rising::Rising;
 use lh_queue::queue::{Bucket, Queue};
 use lh_queue::wish::Wish;
@@ -27,7 +28,24 @@ pub(crate) fn touched_at(
     ensures { IfOk result
         (λ touched. MayChange design.now.signals.items (length design.now.init) queue.now.held at touched) }
 {
-    let mut touched = Rising::new(alloc);
+    let touched = gathered_at(alloc, design, queue, at)?.into_rising(alloc)?;
+    Ok(touched)
+}
+
+/// These signals, as the wishes name them.
+fn gathered_at(
+    alloc: Global,
+    design: &Design,
+    queue: &Queue,
+    at: Instant,
+) -> Result<Gathered, NoMemory>
+    requires fill { SignalsFill design.now }
+    requires within { EachWithin (length design.now.init) queue.now.held }
+    requires due { NoneDueBefore at queue.now.held }
+    ensures { IfOk result
+        (λ touched. MayChange design.now.signals.items (length design.now.init) queue.now.held at touched) }
+{
+    let mut touched = Gathered::new(alloc);
     let mut key = first_in(queue.buckets());
     while let Some(k) = key {
         let Some(wish) = queue.wish(k) else {

@@ -12,6 +12,7 @@ use lh_bits::bits::Bits;
 use lh_design::Design;
 use lh_kernel_changes::differ::{changed_part, differs_with};
 use lh_kernel_states::state::InstState;
+use lh_kernel_wakes::gathered::Gathered;
 use lh_kernel_wakes::rising::Rising;
 use lh_time::Instant;
 use lh_types::memory::NoMemory;
@@ -59,10 +60,11 @@ impl Asleep<'_> {
         ensures { IfOk result
             (λ ks. (a : Arena) → AreAsleep a self.now.design.now self.now.states.now self.now.probes.now self.now.noted.now at → ks ≡ awake_from 0 a (record { before = Some old.now; now = now.now; at = at }) self.now.design.now.instances.items self.now.states.now) }
     {
-        let mut woken = self.due(alloc, at)?;
+        let mut woken = Gathered::of(alloc, self.due(alloc, at)?);
         for &signal in touched.as_slice() {
             self.rouse(&mut woken, signal, old, now)?;
         }
+        let woken = woken.into_rising(alloc)?;
         // The numbers rise.
         let _ = woken.as_slice();
         Ok(woken)
@@ -81,7 +83,13 @@ impl Asleep<'_> {
     }
 
     /// Adds the instances that sense a signal and some bit that differs, where the signal does not stay the same.
-    fn rouse(&self, woken: &mut Rising, signal: u32, old: &Bits, now: &Bits) -> Result<(), NoMemory>
+    fn rouse(
+        &self,
+        woken: &mut Gathered,
+        signal: u32,
+        old: &Bits,
+        now: &Bits,
+    ) -> Result<(), NoMemory>
         requires asleep { (a : Arena) × (at : Instant) × AreAsleep a self.now.design.now self.now.states.now self.now.probes.now self.now.noted.now at }
         requires old_width { length old.now ≡ length self.now.design.now.init }
         requires width { length now.now ≡ length self.now.design.now.init }
@@ -100,7 +108,7 @@ impl Asleep<'_> {
             let probes = &self.probes[instance as usize];
             let parts = self.states[instance as usize].senses(probes);
             if differs_with(parts, changed, old, now) {
-                woken.enter(instance)?;
+                woken.add(instance)?;
             }
         }
         Ok(())

@@ -18,7 +18,8 @@ use Rattle.lh_design.specs.Filling.{FillFrom}
 use Rattle.lh_kernel_changes.specs.Touched.{AreWithin, bits_named, StaysSame}
 use Rattle.lh_kernel_changes.specs.Laws.{PartsStay, OnlyTouchedChange, OnlyWrittenChange, SignalsAreAll}
 use Rattle.lh_kernel_changes.proofs.Filled.{has_of, of_has, at_signal, some_signal}
-use Rattle.lh_kernel_changes.proofs.TouchedSignals.{in_row, row_in, has_either}
+use Rattle.lh_kernel_wakes.proofs.GatheredNumbers.{has_either}
+use Rattle.lh_kernel_changes.proofs.TouchedSignals.{in_row, row_in}
 
 -- the row of bits from one on is that bit, and the row behind it
 row_next : (bs : List Bool) (lo n : ℕ) → lo < length bs → bits_within lo (suc n) bs ≡ bit_at bs lo ∷ bits_within (lo + 1) n bs

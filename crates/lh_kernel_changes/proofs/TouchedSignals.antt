@@ -9,24 +9,15 @@ use Rattle.lh_bits.specs.Writes.{numbered, bits_of, BitsWithin}
 use Rattle.lh_bits.proofs.WrittenBits.{bits-push, row-within}
 use Rattle.lh_unit.specs.World.{bits_from, bit_numbers}
 use Rattle.lh_kernel_wakes.specs.Rising.{IsOneOf, HasOneMore}
+use Rattle.lh_kernel_wakes.proofs.GatheredNumbers.{has_left, has_right, has_either}
 use Rattle.lh_design.specs.declared.Signal.{Signal}
 use Rattle.lh_design.specs.Filling.{FillFrom}
 use Rattle.lh_kernel_changes.specs.Touched.{SignalHasBit, Touches, AreTouched, TouchesMore, AreWithin, bits_named}
 use Rattle.lh_kernel_changes.proofs.Filled.{is_below, strict, in_order, some_bit}
 
-pub has_left : (k : ℕ) (xs ys : List ℕ) → IsOneOf k xs → IsOneOf k (xs ++ ys)
-has_left k [] ys h = absurd h
-has_left k (x ∷ xs) ys (inl p) = inl p
-has_left k (x ∷ xs) ys (inr h) = inr (has_left k xs ys h)
-
-pub has_right : (k : ℕ) (xs ys : List ℕ) → IsOneOf k ys → IsOneOf k (xs ++ ys)
-has_right k [] ys h = h
-has_right k (x ∷ xs) ys h = inr (has_right k xs ys h)
-
-pub has_either : (k : ℕ) (xs ys : List ℕ) → IsOneOf k (xs ++ ys) → IsOneOf k xs ⊎ IsOneOf k ys
-has_either k [] ys h = inr h
-has_either k (x ∷ xs) ys (inl p) = inl (inl p)
-has_either k (x ∷ xs) ys (inr h) = elim (has_either k xs ys h) [ inl g ↦ inl (inr g) | inr g ↦ inr g ]
+-- other numbers that are the same
+pub touched_again : (ss : List Signal) (bits xs ys : List ℕ) → AreTouched ss bits xs → ((k : ℕ) → IsOneOf k ys ↔ IsOneOf k xs) → AreTouched ss bits ys
+touched_again ss bits xs ys f g k = (λ p. (f k).0 ((g k).0 p), λ q. (g k).1 ((f k).1 q))
 
 -- bits in a row
 pub in_row : (b lo n : ℕ) → IsOneOf b (bits_from lo n) → (lo ≤ b) × (b < lo + n)

@@ -13,7 +13,7 @@ use Rattle.lh_design.specs.declared.Signal.{Signal}
 use Rattle.lh_design.specs.Filling.{FillFrom}
 use Rattle.lh_kernel_changes.specs.Touched.{StaysSame, OthersStay}
 use Rattle.lh_kernel_changes.proofs.Filled.{has_of, of_has, at_signal, one_signal}
-use Rattle.lh_kernel_changes.proofs.TouchedSignals.{has_left, has_right, has_either}
+use Rattle.lh_kernel_wakes.proofs.GatheredNumbers.{has_left, has_right, has_either}
 use Rattle.lh_kernel_changes.proofs.Same.{has_or, signals_are_all}
 
 -- the bits of a row that is put, and the others

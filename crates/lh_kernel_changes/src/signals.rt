@@ -7,6 +7,7 @@ ghost use Rattle.lh_kernel_changes.specs.Touched.{SignalHasBit, AreTouched, Touc
 
 use lh_bits::writes::BitWrites;
 use lh_design::Design;
+use lh_kernel_wakes::gathered::Gathered;
 use lh_kernel_wakes::rising::Rising;
 use lh_types::memory::NoMemory;
 use lh_types::part::Range;
@@ -51,14 +52,6 @@ fn has_bit(design: &Design, number: u32, bit: u32) -> bool
     }
 }
 
-/// The last of some numbers, or 0.
-fn last_of(numbers: &[u32]) -> u32 {
-    match numbers.last() {
-        Some(&number) => number,
-        None => 0,
-    }
-}
-
 /// Exactly the signals that have a bit of the parts.
 pub fn signals_of(alloc: Global, design: &Design, parts: &[Range]) -> Result<Rising, NoMemory>
     requires fill { SignalsFill design.now }
@@ -66,7 +59,18 @@ pub fn signals_of(alloc: Global, design: &Design, parts: &[Range]) -> Result<Ris
     ensures { IfOk result
         (λ touched. AreTouched design.now.signals.items (bit_numbers parts.now) touched) }
 {
-    let mut touched = Rising::new(alloc);
+    let touched = touched_by(alloc, design, parts)?.into_rising(alloc)?;
+    Ok(touched)
+}
+
+/// The signals that have a bit of the parts, as they come.
+fn touched_by(alloc: Global, design: &Design, parts: &[Range]) -> Result<Gathered, NoMemory>
+    requires fill { SignalsFill design.now }
+    requires within { AreWithin (length design.now.init) parts.now }
+    ensures { IfOk result
+        (λ touched. AreTouched design.now.signals.items (bit_numbers parts.now) touched) }
+{
+    let mut touched = Gathered::new(alloc);
     for part in parts {
         touch(&mut touched, design, part.lo, part.len)?;
     }
@@ -75,7 +79,7 @@ pub fn signals_of(alloc: Global, design: &Design, parts: &[Range]) -> Result<Ris
 
 /// Adds exactly the signals that have a bit that is written.
 pub fn touch_written(
-    touched: &mut Rising,
+    touched: &mut Gathered,
     design: &Design,
     writes: &BitWrites,
 ) -> Result<(), NoMemory>
@@ -91,7 +95,7 @@ pub fn touch_written(
 }
 
 /// Adds exactly the signals that have one of the `len` bits from `lo` on.
-pub fn touch(touched: &mut Rising, design: &Design, lo: u32, len: u32) -> Result<(), NoMemory>
+pub fn touch(touched: &mut Gathered, design: &Design, lo: u32, len: u32) -> Result<(), NoMemory>
     requires fill { SignalsFill design.now }
     requires within { lo + len ≤ length design.now.init }
     ensures { IfOk result
@@ -102,10 +106,10 @@ pub fn touch(touched: &mut Rising, design: &Design, lo: u32, len: u32) -> Result
     }
     let end = end_of(design, lo, len);
     // Most drives of a frame come in the order of their signals.
-    let first = signal_near(design, last_of(touched.as_slice()), lo);
+    let first = signal_near(design, touched.latest_in_order(), lo);
     let last = signal_near(design, first, end - 1);
     for signal in first..last + 1 {
-        touched.enter(signal)?;
+        touched.add(signal)?;
     }
     Ok(())
 }

@@ -1,3 +1,4 @@
 pub mod Places
 pub mod IndexEntries
 pub mod WakeOrder
+pub mod GatheredNumbers

@@ -9,8 +9,8 @@ overflow_add-signal-end c =
     omega (arith, n)
 
 pub loop-signal-preserved : goal.loop-signal-preserved
-loop-signal-preserved c = entered_more c.args.touched.now c.loop-signal.touched c.enter.new.self c.signal_near-first.result c.loop-signal.signal c.loop-signal.auto.signal c.loop-signal.invariant
-    c.in_ok-enter.ensures.has
+loop-signal-preserved c = entered_more c.args.touched.now c.loop-signal.touched c.add.new.self c.signal_near-first.result c.loop-signal.signal c.loop-signal.auto.signal c.loop-signal.invariant
+    c.in_ok-add.ensures.has
 
 pub returns : goal.returns
 returns c =

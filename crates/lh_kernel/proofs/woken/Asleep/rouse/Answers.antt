@@ -5,7 +5,7 @@ use Rattle.lh_types.specs.declared.part.Range.{Range}
 use Rattle.lh_unit.specs.World.{bit_numbers, bit_differs}
 use Rattle.lh_kernel.proofs.WokenInstances.{RousedTo, sensed_item, read_within, roused_there, roused_more, roused_not}
 use Rattle.lh_kernel.proofs.woken.Asleep.rouse.Goals as goal
-use Rattle.lh_kernel.proofs.woken.Asleep.rouse.Goals.{then-differs_with+in_ok-enter, else-differs_with}
+use Rattle.lh_kernel.proofs.woken.Asleep.rouse.Goals.{then-differs_with+in_ok-add, else-differs_with}
 
 pub bounds-self-instance : goal.bounds-self-instance
 bounds-self-instance c =
@@ -63,10 +63,10 @@ loop-instance-preserved c =
     let e = sym (ap (λ (parts : List Range). list_any (bit_differs c.args.old.now c.args.now.now) (bit_numbers parts)) c.senses-parts.ensures) ∙ sym c.differs_with.ensures in
     let P : List ℕ → Type 0 = RousedTo x.states.now x.probes.now c.args.old.now c.args.now.now items (i + 1) c.args.woken.now in
     elim c.if-differs_with.branch [
-      | then-differs_with+in_ok-enter v ↦
+      | then-differs_with+in_ok-add v ↦
           subst P (sym v.woken-is)
           (roused_more x.states.now x.probes.now c.args.old.now c.args.now.now items i (get_or items i 0) s rs c.args.woken.now c.loop-instance.woken
-          v.enter.new.self c.loop-instance-test.true refl p q (e ∙ v.if-differs_with.true) c.loop-instance.invariant v.in_ok-enter.ensures.has)
+          v.add.new.self c.loop-instance-test.true refl p q (e ∙ v.if-differs_with.true) c.loop-instance.invariant v.in_ok-add.ensures.has)
       | else-differs_with v ↦
           subst P (sym v.woken-is)
           (roused_not x.states.now x.probes.now c.args.old.now c.args.now.now items i (get_or items i 0) s rs c.args.woken.now c.loop-instance.woken
