@@ -1,2 +1,4 @@
 pub mod Registers
 pub mod Lines
+pub mod EntityUnits
+pub mod OperationTerms
