@@ -2,3 +2,4 @@ pub mod Registers
 pub mod Lines
 pub mod EntityUnits
 pub mod OperationTerms
+pub mod LineRows
