@@ -3,3 +3,4 @@ pub mod Lines
 pub mod EntityUnits
 pub mod OperationTerms
 pub mod LineRows
+pub mod PassRows

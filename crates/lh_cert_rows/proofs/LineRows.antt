@@ -334,62 +334,63 @@ module _ (u : UnitText) (names : KnownNames) where
       there-by n false p true q z = absurd (no-result l.result n none q)
       there-by n false p false q z = absurd (false≢true z)
 
-module _ (u : UnitText) (names : KnownNames) (l : LineText) (fine : LineFine u l) (e : EntityText) (f : ReadFine u names e) where
-  -- what a line names is known
-  abbrev pub UsesKnown : InstText → Type 0
-  UsesKnown i = Each (λ (x : Use). IsSome (e.known x.value)) (uses i)
+-- the kinds of lines that an entity without `sig` and `inst` may have
+pub data LineKind : InstText → Type 0 where
+  a_constant : (d : Datum) → LineKind (const_text d)
+  an_operation : (o : Op) (os : List OperandText) → LineKind (pure_text o os)
+  a_probe : (s : OperandText) → LineKind (prb_text s)
+  a_drive : (to : OperandText) (value after : List ℕ) (cond : Option (List ℕ)) → LineKind (drv_text to value after cond)
+  a_register : (to : OperandText) (gs : List TriggerText) → LineKind (reg_text to gs)
 
-  pub uses-known : Each (λ n. names n ≡ true) (values_named l.inst) → UsesKnown l.inst
+kind-by : (i : InstText) → IsPlain i → is_allowed kind.Entity i ≡ true → LineKind i
+kind-by (const_text d) p a = a_constant d
+kind-by (pure_text o os) p a = an_operation o os
+kind-by (prb_text s) p a = a_probe s
+kind-by (drv_text to value after cond) p a = a_drive to value after cond
+kind-by (reg_text to gs) p a = a_register to gs
+kind-by (sig_text o) p a = absurd p
+kind-by (child_text v inputs outputs) p a = absurd p
+kind-by (var_text o) p a = absurd (false≢true a)
+kind-by (ld_text o) p a = absurd (false≢true a)
+kind-by (st_text to value) p a = absurd (false≢true a)
+kind-by (call_text v ty os) p a = absurd (false≢true a)
+kind-by (phi_text ty es) p a = absurd (false≢true a)
+kind-by (br_text to) p a = absurd (false≢true a)
+kind-by (branch_text c x y) p a = absurd (false≢true a)
+kind-by (wait_text to after ss) p a = absurd (false≢true a)
+kind-by halt_text p a = absurd (false≢true a)
+kind-by (ret_text o) p a = absurd (false≢true a)
+
+-- what an instruction names is known
+abbrev pub UsesKnown : EntityText → InstText → Type 0
+UsesKnown e i = Each (λ (x : Use). IsSome (e.known x.value)) (uses i)
+
+module _ (u : UnitText) (names : KnownNames) (l : LineText) (fine : LineFine u l) (e : EntityText) (f : ReadFine u names e) where
+
+  pub uses-known : Each (λ n. names n ≡ true) (values_named l.inst) → UsesKnown e l.inst
   uses-known h =
       Each-of-map (λ n. IsSome (e.known n)) (λ (x : Use). x.value) (uses l.inst)
       (Each-more (λ n. names n ≡ true) (λ n. IsSome (e.known n)) (values_named l.inst) f.there h)
 
   -- what each kind of line reads
-  pub operation-of : (o : Op) (os : List OperandText) → l.inst ≡ pure_text o os → UsesKnown (pure_text o os) → OperationRead u e.known l o os
+  pub operation-of : (o : Op) (os : List OperandText) → l.inst ≡ pure_text o os → UsesKnown e (pure_text o os) → OperationRead u e.known l o os
   operation-of o os q h =
       operation-read u e.known f.typed l fine o os q (subst (RowIs u) q fine.sound.row) (subst (HasPart u) q fine.sound.part) (subst IsWrittenRight q fine.sound.written)
       (operands-of e.known o os h)
 
-  pub drive-of : (to : OperandText) (value after : List ℕ) (cond : Option (List ℕ)) → l.inst ≡ drv_text to value after cond → UsesKnown (drv_text to value after cond)
+  pub drive-of : (to : OperandText) (value after : List ℕ) (cond : Option (List ℕ)) → l.inst ≡ drv_text to value after cond → UsesKnown e (drv_text to value after cond)
       → DriveRead (λ p. Among p e.probes) e.known to value after cond
   drive-of to value after cond q h = drive-read u e.known f.typed (λ p. Among p e.probes) f.known_reads to value after cond (subst (RowIs u) q fine.sound.row) h
 
-  pub register-of : (to : OperandText) (gs : List TriggerText) → l.inst ≡ reg_text to gs → UsesKnown (reg_text to gs) → RegisterRead (λ p. Among p e.probes) e.known to gs
+  pub register-of : (to : OperandText) (gs : List TriggerText) → l.inst ≡ reg_text to gs → UsesKnown e (reg_text to gs) → RegisterRead (λ p. Among p e.probes) e.known to gs
   register-of to gs q h = register-read u e.known f.typed (λ p. Among p e.probes) f.known_reads to gs (subst (RowIs u) q fine.sound.row) h
 
-  pub probe-of : (s : OperandText) → l.inst ≡ prb_text s → UsesKnown (prb_text s) → ProbeRead e.known s
+  pub probe-of : (s : OperandText) → l.inst ≡ prb_text s → UsesKnown e (prb_text s) → ProbeRead e.known s
   probe-of s q h = probe-read u e.known f.typed (λ p. Among p e.probes) f.known_reads s (subst (RowIs u) q fine.sound.row) h
 
   -- a line that gives no value has no result
   pub none-given : (i : InstText) → l.inst ≡ i → gives_value i ≡ false → (m : List ℕ) → l.result ≡ Some m → false ≡ true
   none-given i q g m r = sym g ∙ ap gives_value (sym q) ∙ fine.fit.1 m r
-
-  -- the kinds of lines that an entity without `sig` and `inst` may have
-  pub data LineKind : InstText → Type 0 where
-    a_constant : (d : Datum) → LineKind (const_text d)
-    an_operation : (o : Op) (os : List OperandText) → LineKind (pure_text o os)
-    a_probe : (s : OperandText) → LineKind (prb_text s)
-    a_drive : (to : OperandText) (value after : List ℕ) (cond : Option (List ℕ)) → LineKind (drv_text to value after cond)
-    a_register : (to : OperandText) (gs : List TriggerText) → LineKind (reg_text to gs)
-
-  kind-by : (i : InstText) → IsPlain i → is_allowed kind.Entity i ≡ true → LineKind i
-  kind-by (const_text d) p a = a_constant d
-  kind-by (pure_text o os) p a = an_operation o os
-  kind-by (prb_text s) p a = a_probe s
-  kind-by (drv_text to value after cond) p a = a_drive to value after cond
-  kind-by (reg_text to gs) p a = a_register to gs
-  kind-by (sig_text o) p a = absurd p
-  kind-by (child_text v inputs outputs) p a = absurd p
-  kind-by (var_text o) p a = absurd (false≢true a)
-  kind-by (ld_text o) p a = absurd (false≢true a)
-  kind-by (st_text to value) p a = absurd (false≢true a)
-  kind-by (call_text v ty os) p a = absurd (false≢true a)
-  kind-by (phi_text ty es) p a = absurd (false≢true a)
-  kind-by (br_text to) p a = absurd (false≢true a)
-  kind-by (branch_text c x y) p a = absurd (false≢true a)
-  kind-by (wait_text to after ss) p a = absurd (false≢true a)
-  kind-by halt_text p a = absurd (false≢true a)
-  kind-by (ret_text o) p a = absurd (false≢true a)
 
   pub line-kind : LineKind l.inst
   line-kind = kind-by l.inst fine.plain fine.fit.0
@@ -412,7 +413,7 @@ module _ (u : UnitText) (names : KnownNames) (l : LineText) (fine : LineFine u l
       let same : x.part.ty ≡ t = same_Some x.part.ty t (sym (ap (option_and_then carried) x.written) ∙ sym (fine.sound.gives n r ∙ ap result_type q) ∙ v) in
       ((x.is_data, not-constant u l fine.first (prb_text s) q refl n r (now_of x.part)), same)
 
-  line-fine-by : (i : InstText) → l.inst ≡ i → LineKind i → UsesKnown i → ReadFine u (known_after names l) (reads_line e i l.result)
+  line-fine-by : (i : InstText) → l.inst ≡ i → LineKind i → UsesKnown e i → ReadFine u (known_after names l) (reads_line e i l.result)
   line-fine-by _ q (a_constant d) h = gives-fine u names l e f (known_value (constant d)) (constant-fits d q) tt
   line-fine-by _ q (an_operation o os) h =
       let x = operation-of o os q h in
