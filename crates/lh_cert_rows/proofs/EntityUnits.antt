@@ -1,8 +1,7 @@
 -- What holds of the lines of an entity of a well-formed module.
 use Rattle.std.proofs.Common.{◌≡◌, List, [], ◌∷◌, false, refl, subst}
 use Rattle.lh_unit.specs.declared.inst.UnitKind.{UnitKind}
-use Rattle.lh_unit.specs.declared.inst.UnitKind.TheVariants as kind
-use Rattle.lh_unit.specs.Contents.{LineText, ArgText, UnitText, ItemText, unit_text, args_define}
+use Rattle.lh_unit.specs.Contents.{LineText, UnitText, ItemText, unit_text, args_define}
 use Rattle.lh_unit.specs.Hierarchy.{lines_of}
 use Rattle.lh_unit.specs.Reads.{args_repeat}
 use Rattle.lh_unit.specs.Within.{Each}

@@ -4,3 +4,7 @@ pub mod EntityUnits
 pub mod OperationTerms
 pub mod LineRows
 pub mod PassRows
+pub mod Begun
+pub mod Seen
+pub mod Probing
+pub mod Passing

@@ -1,7 +1,7 @@
 -- What an entity has said after each of its lines: what is known is typed and there, its rows are typed, and they read only what it probes.
-use Rattle.std.proofs.Common.{◌≡◌, ◌⊎◌, inl, inr, ℕ, List, [], ◌∷◌, ◌++◌, map, Bool, true, false, ◌||◌, Option, Some, None, IsSome, refl, ap, sym, ◌∙◌, subst}
+use Rattle.std.proofs.Common.{◌≡◌, inl, ℕ, List, [], ◌∷◌, ◌++◌, Bool, true, false, ◌||◌, Option, Some, None, IsSome, refl, ap, sym, ◌∙◌, subst}
 use Rattle.std.specs.Bool.{if◌then◌else◌}
-use Rattle.std.specs.Option.{option_and_then, option_map}
+use Rattle.std.specs.Option.{option_and_then}
 use Rattle.std.proofs.lemmas.Bool.{false≢true}
 use Rattle.std.proofs.lemmas.Option.{same_Some, none-some}
 use Rattle.lh_time.specs.declared.Delay.{Delay}
@@ -11,31 +11,27 @@ use Rattle.lh_types.specs.declared.op.Op.{Op}
 use Rattle.lh_types.specs.declared.op.Op.TheVariants.{Mux, Array}
 use Rattle.lh_unit.specs.Contents.{OperandText, TriggerText, InstText, const_text, pure_text, var_text, ld_text, st_text, sig_text, prb_text, drv_text, reg_text, child_text, call_text, phi_text, br_text, branch_text, wait_text, halt_text, ret_text, LineText, UnitText, is_result_name}
 use Rattle.lh_unit_names.specs.Names.{same_name}
-use Rattle.lh_unit_names.proofs.NameLists.{same_name-is}
 use Rattle.lh_unit.specs.Held.{front}
-use Rattle.lh_unit.specs.Hierarchy.{lines_of}
-use Rattle.lh_unit.specs.Kinds.{Use, Need, used, uses, data_needed, time_needed, maybe_used, trigger_uses, part_need}
+use Rattle.lh_unit.specs.Kinds.{Use, used, uses, data_needed, time_needed, maybe_used, trigger_uses}
 use Rattle.lh_unit.specs.SpellsInst.{gives_value}
-use Rattle.lh_unit.specs.Typing.{value_type, result_type, carried}
+use Rattle.lh_unit.specs.Typing.{result_type, carried}
 use Rattle.lh_unit.specs.TypingRows.{bit}
 use Rattle.lh_unit.specs.WellFormed.{values_named, is_allowed}
 use Rattle.lh_unit.specs.Within.{Each}
 use Rattle.lh_unit.proofs.Lists.{Each-append, Each-left, Each-right, Each-of-map}
 use Rattle.lh_unit.proofs.Within.{Each-more}
 use Rattle.lh_unit.specs.declared.inst.UnitKind.TheVariants as kind
-use Rattle.lh_verify_laws.specs.Operands.{IsOf, MayBeOf, RowIs, TriggerIs}
+use Rattle.lh_verify_laws.specs.Operands.{MayBeOf, RowIs, TriggerIs}
 use Rattle.lh_verify_laws.specs.Parts.{HasPart}
 use Rattle.lh_eval.specs.Sound.{IsWrittenRight}
 use Rattle.lh_eval.proofs.GivesFit.{constants-fit}
-use Rattle.lh_eval_laws.proofs.FindingPass.{KnownNames, known_after}
+use Rattle.lh_eval_laws.proofs.FindingPass.{KnownNames, known_after, NamesKnown}
 use Rattle.lh_eval_laws.proofs.OperandsFound.{carries-value}
-use Rattle.lh_term.specs.Tree.{Tree, TreeRow, constant, past_of, now_of, operation, choice_of, no_trees, more_trees, operation_on}
+use Rattle.lh_term.specs.Tree.{Tree, TreeRow, constant, past_of, now_of, operation, choice_of, no_trees, more_trees}
 use Rattle.lh_term.specs.Leaves.{AllParts, AllPartsIn}
-use Rattle.lh_term.specs.Make.{bit_of, make_operation, make_choice}
-use Rattle.lh_term.specs.Types.{IsTyped, type_of}
+use Rattle.lh_term.specs.Make.{bit_of}
 use Rattle.lh_term.specs.declared.part.Part.{Part}
-use Rattle.lh_region_def.specs.Known.{Known, known_value, known_cell, known_part, Knowledge, as_value, with_given, with_known, value_known, part_known, values_known}
-use Rattle.lh_region_def.specs.Regions.{is_constant}
+use Rattle.lh_region_def.specs.Known.{Known, known_value, known_cell, known_part, Knowledge, as_value, with_given, value_known, part_known, values_known}
 use Rattle.lh_region_def.specs.Right.{DriveTyped}
 use Rattle.lh_region_def.specs.Rows.{Drive, DriveReads}
 use Rattle.lh_region_def.specs.Typed.{Among, KnowsTyped, IsCondition, IsOfType}
@@ -49,10 +45,10 @@ use Rattle.lh_region_laws.proofs.Leaves.{IsOfLeaves, leaves-joined, leaves-parte
 use Rattle.lh_edge.specs.Atoms.{is_one_bit}
 use Rattle.lh_cert_terms.specs.Rebuilding.{pair_in, selected, read_operation}
 use Rattle.lh_cert_rows.specs.Rows.{TriggerRow, EntityRow, driven_by, registered}
-use Rattle.lh_cert_rows.specs.Reading.{EntityText, gives, probed, operated, with_row, condition_known, delay_known, drive_row, trigger_row, trigger_known, triggers_known, register_row, reads_line}
+use Rattle.lh_cert_rows.specs.Reading.{EntityText, gives, probed, with_row, condition_known, delay_known, drive_row, trigger_row, trigger_known, triggers_known, register_row, reads_line, reads_lines}
 use Rattle.lh_cert_rows.specs.Passing.{IsPlain, TriggerTyped, RowTyped, TriggerReads, RowReads}
 use Rattle.lh_cert_rows.proofs.EntityUnits.{LineFine}
-use Rattle.lh_cert_rows.proofs.OperationTerms.{OperationRead, operation-read, not-constant, Gives, gives_term, gives_part, inner_part}
+use Rattle.lh_cert_rows.proofs.OperationTerms.{OperationRead, operation-read, not-constant, Gives, gives_term, gives_part}
 
 -- ---- the parts of terms
 
@@ -105,7 +101,7 @@ module _ (P : Part → Type 0) where
 -- ---- what a line looks up
 
 -- the parts of what is known are such
-abbrev KnownReads : (Part → Type 0) → Known → Type 0
+abbrev pub KnownReads : (Part → Type 0) → Known → Type 0
 KnownReads P (known_value t) = AllParts P t
 KnownReads P (known_cell t) = AllParts P t
 KnownReads P (known_part p) = Unit {0}
@@ -366,7 +362,6 @@ abbrev pub UsesKnown : EntityText → InstText → Type 0
 UsesKnown e i = Each (λ (x : Use). IsSome (e.known x.value)) (uses i)
 
 module _ (u : UnitText) (names : KnownNames) (l : LineText) (fine : LineFine u l) (e : EntityText) (f : ReadFine u names e) where
-
   pub uses-known : Each (λ n. names n ≡ true) (values_named l.inst) → UsesKnown e l.inst
   uses-known h =
       Each-of-map (λ n. IsSome (e.known n)) (λ (x : Use). x.value) (uses l.inst)
@@ -434,3 +429,9 @@ module _ (u : UnitText) (names : KnownNames) (l : LineText) (fine : LineFine u l
   -- after the line
   pub line-fine : Each (λ n. names n ≡ true) (values_named l.inst) → ReadFine u (known_after names l) (reads_line e l.inst l.result)
   line-fine h = line-fine-by l.inst refl line-kind (uses-known h)
+
+-- after all lines
+pub lines-fine : (u : UnitText) (ls : List LineText) (names : KnownNames) (e : EntityText) → Each (LineFine u) ls → NamesKnown names ls → ReadFine u names e
+    → Each RowTyped (reads_lines e ls).rows × Each (RowReads (λ p. Among p (reads_lines e ls).probes)) (reads_lines e ls).rows
+lines-fine u [] names e fs ns f = (f.rows_typed, f.rows_read)
+lines-fine u (l ∷ ls) names e fs ns f = lines-fine u ls (known_after names l) (reads_line e l.inst l.result) fs.1 ns.1 (line-fine u names l fs.0 e f ns.0)

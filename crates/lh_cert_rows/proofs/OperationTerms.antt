@@ -1,12 +1,11 @@
 -- What an operation of an entity gives: of values a term, of a signal its part.
-use Rattle.std.proofs.Common.{◌≡◌, ◌⊎◌, inl, inr, ℕ, ◌+◌, List, [], ◌∷◌, Bool, true, false, Option, Some, None, IsSome, refl, ap, sym, ◌∙◌, subst, arith}
+use Rattle.std.proofs.Common.{◌≡◌, ◌⊎◌, inl, inr, ℕ, ◌+◌, List, [], ◌∷◌, Bool, true, false, Option, Some, None, IsSome, refl, ap, sym, ◌∙◌, arith}
 use Rattle.std.specs.Bool.{if◌then◌else◌}
 use Rattle.std.specs.Option.{option_and_then, option_map}
 use Rattle.std.specs.Cmp.{first_so, second_so}
 use Rattle.std.proofs.lemmas.Bool.{false≢true}
 use Rattle.std.proofs.lemmas.Option.{same_Some, none-some}
 use Rattle.lh_types.specs.Types.{TypeTree, signal_type, bit_count}
-use Rattle.lh_types.specs.Values.{Datum}
 use Rattle.lh_types.specs.Apply.{apply}
 use Rattle.lh_types.specs.Classes.{class_of}
 use Rattle.lh_types.specs.declared.op.Op.{Op}
@@ -14,7 +13,6 @@ use Rattle.lh_types.specs.declared.op.Op.TheVariants as op
 use Rattle.lh_types.specs.declared.op.OpClass.{OpClass}
 use Rattle.lh_types.specs.declared.op.OpClass.TheVariants as class
 use Rattle.lh_types.specs.declared.part.Range.{Range}
-use Rattle.lh_types.specs.declared.part.Step.{Step}
 use Rattle.lh_unit.specs.Contents.{OperandText, InstText, pure_text, LineText, UnitText}
 use Rattle.lh_unit.specs.Typing.{value_type, result_type, operation_type, class_type, first_type, carried, or_else, inst_giving}
 use Rattle.lh_unit.specs.Held.{Held, datum_held, cell_held, part_held, Env, as_datum, as_part, data_at, part_at, front}
@@ -25,12 +23,11 @@ use Rattle.lh_unit.specs.Within.{Each}
 use Rattle.lh_verify_laws.specs.Operands.{RowIs}
 use Rattle.lh_verify_laws.specs.Parts.{HasPart}
 use Rattle.lh_verify_laws.proofs.PartsLaw.{parts_have_ranges}
-use Rattle.lh_eval.specs.Sound.{InstIsSound, IsWrittenRight}
+use Rattle.lh_eval.specs.Sound.{IsWrittenRight}
 use Rattle.lh_eval.proofs.PartsRead.{of-signal}
 use Rattle.lh_eval_laws.proofs.NamedOnce.{IsFirst, giving-lines}
-use Rattle.lh_eval_laws.proofs.OperandsFound.{some-of}
 use Rattle.lh_term.specs.Tree.{Tree, constant, operation_on, tree_row}
-use Rattle.lh_term.specs.Types.{IsTyped, type_of}
+use Rattle.lh_term.specs.Types.{IsTyped}
 use Rattle.lh_term.specs.Mean.{Valuation, mean, means}
 use Rattle.lh_term.specs.Make.{is_constant, all_constant, value_in, values_in}
 use Rattle.lh_term.specs.declared.part.Part.{Part}

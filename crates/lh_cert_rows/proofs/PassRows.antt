@@ -1,48 +1,38 @@
 -- A pass of an entity does its rows, line by line.
-use Rattle.std.proofs.Common.{◌≡◌, ◌⊎◌, inl, inr, ℕ, ◌+◌, suc, Bool, true, false, not, ◌&&◌, ◌||◌, if◌then◌else◌, List, [], ◌∷◌, ◌++◌, length, map, fold, Option, Some, None, refl, ap, sym, ◌∙◌, subst, arith, append_assoc, append-nil, length-append}
+use Rattle.std.proofs.Common.{◌≡◌, inl, inr, ℕ, ◌+◌, suc, Bool, true, false, if◌then◌else◌, List, [], ◌∷◌, ◌++◌, length, Option, Some, None, refl, ap, sym, ◌∙◌, subst, append_assoc, append-nil, length-append}
 use Rattle.std.specs.Prelude.{unwrap_or}
-use Rattle.std.specs.List.{flat_map}
-use Rattle.std.specs.Option.{option_and_then, option_map}
 use Rattle.std.proofs.lemmas.Grind.{fold-append, flat_map-append}
 use Rattle.std.proofs.lemmas.Option.{same_Some, none-some}
 use Rattle.lh_time.specs.declared.Instant.{Instant}
-use Rattle.lh_types.specs.Types.{bit_count}
-use Rattle.lh_types.specs.Apply.{apply}
-use Rattle.lh_types.specs.Wish.{Wish, no_wish}
+use Rattle.lh_types.specs.Wish.{no_wish}
 use Rattle.lh_types.specs.declared.op.Op.{Op}
 use Rattle.lh_types.specs.declared.part.Range.{Range}
-use Rattle.lh_unit.specs.Contents.{OperandText, TriggerText, InstText, const_text, pure_text, prb_text, drv_text, reg_text, LineText, ArgText, UnitText, args_define}
+use Rattle.lh_unit.specs.Contents.{OperandText, InstText, prb_text, drv_text, reg_text, LineText, UnitText}
 use Rattle.lh_unit_names.specs.Names.{same_name}
-use Rattle.lh_unit.specs.Held.{Held, datum_held, part_held, Env, nothing_held, with_args}
+use Rattle.lh_unit.specs.Held.{Held, datum_held, Env}
 use Rattle.lh_unit.specs.Effects as effects
 use Rattle.lh_unit.specs.Effects.{driven}
-use Rattle.lh_unit.specs.Hierarchy.{lines_of, parts_of, with_parts, signal_names, if_held}
-use Rattle.lh_unit.specs.Pass.{Passed, passes, pass_from, pass, triggers_from, trigger_now, fires, stored}
+use Rattle.lh_unit.specs.Hierarchy.{if_held}
+use Rattle.lh_unit.specs.Pass.{Passed, passes, pass_from, triggers_from}
 use Rattle.lh_unit.specs.Within.{Each}
 use Rattle.lh_unit.specs.WellFormed.{values_named}
-use Rattle.lh_eval_laws.specs.Ranges.{RangesFit, arg_types}
 use Rattle.lh_eval_laws.proofs.FindingPass.{KnownNames, known_after, NamesKnown}
-use Rattle.lh_eval_laws.proofs.FitLaws.{triggers-hold}
-use Rattle.lh_term.specs.Mean.{Valuation, IsFitting, mean, means}
-use Rattle.lh_term.specs.Tree.{Tree, constant, tree_row, operation_on, now_of}
-use Rattle.lh_term.specs.Types.{IsTyped}
+use Rattle.lh_term.specs.Mean.{Valuation, IsFitting, mean}
+use Rattle.lh_term.specs.Tree.{constant, now_of}
 use Rattle.lh_term.specs.declared.part.Part.{Part}
-use Rattle.lh_region_def.specs.Known.{Known, known_value, known_part, Knowledge, nothing_known, with_given, with_arguments, argument_part, part_known, values_known}
+use Rattle.lh_region_def.specs.Known.{Known, known_value, Knowledge, with_given, part_known}
 use Rattle.lh_region_def.specs.Means.{range_in, reads, held_as}
-use Rattle.lh_region_def.proofs.Heads.{arguments-case}
 use Rattle.lh_region_def.proofs.PartReads.{reads-fit}
-use Rattle.lh_region_def.proofs.Start.{args-held}
-use Rattle.lh_cert_terms.specs.Rebuilding.{read_operation}
 use Rattle.lh_cert_rows.specs.Rows.{TriggerRow, EntityRow, driven_by, registered}
-use Rattle.lh_cert_rows.specs.Reading.{EntityText, gives, probed, with_row, triggers_known, register_row, reads_line, reads_lines, read}
+use Rattle.lh_cert_rows.specs.Reading.{EntityText, gives, probed, with_row, triggers_known, register_row, reads_line, reads_lines}
 use Rattle.lh_cert_rows.specs.Means.{rows_wish, row_made, row_seen, seen_by, triggers_seen}
-use Rattle.lh_cert_rows.specs.Laws.{IsHeld, Remembers, no_run, a_run, DoesRow}
+use Rattle.lh_cert_rows.specs.Laws.{IsHeld, Remembers, no_run, a_run}
 use Rattle.lh_cert_rows.specs.Passing.{memory_of}
 use Rattle.lh_cert_rows.proofs.Registers.{part-held, registers-do}
 use Rattle.lh_cert_rows.proofs.Lines.{drives-do, operation-means, operations-do, probes-do}
-use Rattle.lh_cert_rows.proofs.EntityUnits.{LineFine, EntityFine}
-use Rattle.lh_cert_rows.proofs.OperationTerms.{OperationRead, Gives, gives_term, gives_part, Builds, built-means, part-done}
-use Rattle.lh_cert_rows.proofs.LineRows.{ReadFine, DriveRead, RegisterRead, ProbeRead, UsesKnown, uses-known, operation-of, drive-of, register-of, probe-of, LineKind, a_constant, an_operation, a_probe, a_drive, a_register, line-kind, line-fine}
+use Rattle.lh_cert_rows.proofs.EntityUnits.{LineFine}
+use Rattle.lh_cert_rows.proofs.OperationTerms.{Gives, gives_term, gives_part, built-means, part-done}
+use Rattle.lh_cert_rows.proofs.LineRows.{ReadFine, UsesKnown, uses-known, operation-of, drive-of, register-of, probe-of, LineKind, a_constant, an_operation, a_probe, a_drive, a_register, line-kind, line-fine}
 
 -- ---- rows, one more
 
@@ -107,17 +97,17 @@ given-held v args k e (Some m) x (Some y) q h = λ n z g. at n z (same_name m n)
     at n z false g = h n z g
 
 module _ (u : UnitText) (args : List Range) (now : List Bool) (t : Instant) (past : Option Valuation) (memory : Option (List Bool)) where
-  abbrev v : Valuation
+  abbrev pub v : Valuation
   v = reads args now
 
   fit : IsFitting v
   fit = reads-fit args now
 
   -- the pass holds what is known, has seen the triggers of the rows so far, and wishes what they wish
-  record Matches (e : EntityText) (p : Passed) : Type 0 where
-    held : IsHeld v args e.known p.held
-    seen : p.seen ≡ seen_by v e.rows
-    wish : p.wish ≡ rows_wish past v args t e.rows
+  pub record Matches (e : EntityText) (p : Passed) : Type 0 where
+    pub held : IsHeld v args e.known p.held
+    pub seen : p.seen ≡ seen_by v e.rows
+    pub wish : p.wish ≡ rows_wish past v args t e.rows
 
   -- the memory is that of rows of which these are the first
   abbrev Recalls : List EntityRow → Type 0
@@ -191,7 +181,7 @@ module _ (u : UnitText) (args : List Range) (now : List Bool) (t : Instant) (pas
 
   -- ---- all lines
 
-  lines-match : (ls : List LineText) (names : KnownNames) (e : EntityText) (p : Passed) → Each (LineFine u) ls → NamesKnown names ls → ReadFine u names e → Matches e p
+  pub lines-match : (ls : List LineText) (names : KnownNames) (e : EntityText) (p : Passed) → Each (LineFine u) ls → NamesKnown names ls → ReadFine u names e → Matches e p
       → memory ≡ memory_of past (reads_lines e ls).rows → Matches (reads_lines e ls) (pass_from u now memory t p ls)
   lines-match [] names e p fs ns f m z = m
   lines-match (l ∷ ls) names e p fs ns f m z =
