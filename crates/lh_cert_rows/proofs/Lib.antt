@@ -1,2 +1,10 @@
 pub mod Registers
 pub mod Lines
+pub mod EntityUnits
+pub mod OperationTerms
+pub mod LineRows
+pub mod PassRows
+pub mod Begun
+pub mod Seen
+pub mod Probing
+pub mod Passing

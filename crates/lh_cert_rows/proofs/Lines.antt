@@ -113,12 +113,17 @@ module _ (now : Valuation) (fits : IsFitting now) (args : List Range) (k : Knowl
   means-map [] = refl
   means-map (t ∷ ts) = ap (λ r. mean now now t ∷ r) (means-map ts)
 
+  -- an operation gives what its term means, where the term means what the operation does
+  pub operation-means : (u : UnitText) (o : Op) (operands : List OperandText) (ts : List Tree) → values_known k operands ≡ Some ts
+      → mean now now (read_operation o ts) ≡ apply o (means now now (tree_row ts))
+      → effect.operated u e o operands ≡ Some (held_as (mean now now) (range_in args) (known_value (read_operation o ts)))
+  operation-means u o operands ts q d =
+      ap (λ x. or_else (option_map (λ ds. datum_held (apply o ds)) x) (signal_part u e o operands)) (data-held operands ts q)
+      ∙ ap (λ ds. Some (datum_held (apply o ds))) (sym (means-map ts)) ∙ ap (λ x. Some (datum_held x)) (sym d)
+
   pub operations-do : (u : UnitText) (o : Op) (operands : List OperandText) (ts : List Tree) → values_known k operands ≡ Some ts → IsTyped (operation_on o ts)
       → effect.operated u e o operands ≡ Some (held_as (mean now now) (range_in args) (known_value (read_operation o ts)))
-  operations-do u o operands ts q i =
-      let m = read_sound o ts i in
-      ap (λ x. or_else (option_map (λ ds. datum_held (apply o ds)) x) (signal_part u e o operands)) (data-held operands ts q)
-      ∙ ap (λ ds. Some (datum_held (apply o ds))) (sym (means-map ts)) ∙ ap (λ d. Some (datum_held d)) (sym (m.mean now now fits fits))
+  operations-do u o operands ts q i = operation-means u o operands ts q ((read_sound o ts i).mean now now fits fits)
 
 -- ---- probes
 

@@ -25,7 +25,6 @@ use Rattle.lh_flat.specs.Flat.{FlatBlockText, FlatText, flat_unit}
 use Rattle.lh_term.specs.Tree.{now_of}
 use Rattle.lh_term.specs.Mean.{Valuation}
 use Rattle.lh_term.specs.declared.part.Part.{Part}
-use Rattle.lh_term_cover.specs.Bits.{covers}
 use Rattle.lh_region_def.specs.Rows as way
 use Rattle.lh_region_def.specs.Rows.{Drive, RegionEnd, Rows}
 use Rattle.lh_region_def.specs.Regions.{lines_at, head_of, known_first, waited_parts, Regions}
@@ -36,9 +35,8 @@ use Rattle.lh_region_def.proofs.PartReads.{reads-fit}
 use Rattle.lh_region_def.proofs.Activations.{head-stays-known}
 use Rattle.lh_region_def.proofs.Second.{now-typed}
 use Rattle.lh_shape.specs.Reasons.{ends_halted, is_empty, in_some, is_timed, are_mixed, waits_for_head, parts_waited}
-use Rattle.lh_emit_def.specs.Laws.{PartPasses, SensesParts}
 use Rattle.lh_entity_laws.specs.Stands.{IsEnough}
-use Rattle.lh_entity_laws.proofs.Bits.{bits_of, both-within, covered-bits, there-bits}
+use Rattle.lh_entity_laws.proofs.Bits.{bits_of}
 use Rattle.lh_entity_laws.proofs.Shaped.{CombRegions}
 use Rattle.lh_entity_laws.proofs.EndTargets.{first-ends}
 use Rattle.lh_entity_laws.proofs.WaitEnds.{AllWait, wait-all, head-is, free-ends}
@@ -64,7 +62,7 @@ module _ (functions : List UnitText) (bound : ℕ) (x y : UnitText) (i : Instanc
     (xk : x.kind ≡ kind.Proc) (yk : y.kind ≡ kind.Entity) (sigs : i.sigs ≡ []) (enough : IsEnough bound t) (waited : List Part) (ds : List Drive) (s : CombRegions t waited ds)
     (passes : (now : List Bool) (memory : Option (List Bool)) (at : Instant)
     → (pass y i.args [] now memory at).wish ≡ with_rows (reads i.args now) (reads i.args now) i.args at no_wish s.walk.course.rows.drives)
-    (senses : SensesParts (PartPasses (covers waited)) waited y i.args) where
+    (senses : SameSet (bits_of i.args waited) (bit_numbers (probes y i.args []))) where
   abbrev f : UnitText
   f = flat_unit name t
 
@@ -96,11 +94,9 @@ module _ (functions : List UnitText) (bound : ℕ) (x y : UnitText) (i : Instanc
   -- the entity senses what the process waits on
   sensed-bits : SameSet (bits_of i.args (parts_waited rows.ends)) (sensed y i)
   sensed-bits =
-      let is : sensed y i ≡ bits_of i.args senses.parts = ap (λ z. bit_numbers (probes y i.args z)) sigs ∙ ap bit_numbers senses.are_sensed in
+      let is : sensed y i ≡ bit_numbers (probes y i.args []) = ap (λ z. bit_numbers (probes y i.args z)) sigs in
       let all : parts_waited rows.ends ≡ waited = ap (λ (z : Rows). parts_waited z.ends) s.walk.rows ∙ s.waits in
-      subst (λ ps. SameSet (bits_of i.args ps) (sensed y i)) (sym all)
-      (subst (SameSet (bits_of i.args waited)) (sym is)
-      (both-within (bits_of i.args waited) (bits_of i.args senses.parts) (there-bits i.args senses.parts waited senses.all_there) (covered-bits i.args waited senses.parts senses.all_have)))
+      subst (λ ps. SameSet (bits_of i.args ps) (sensed y i)) (sym all) (subst (SameSet (bits_of i.args waited)) (sym is) senses)
 
   -- the process waits in this block for the head, as its flat text does, and what is known at the head is held
   record Stays (block : List ℕ) (e : Env) : Type 0 where

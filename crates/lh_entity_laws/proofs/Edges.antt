@@ -49,16 +49,17 @@ use Rattle.lh_shape.specs.Reasons.{is_halt, is_wait, ends_halted, is_empty, in_s
 use Rattle.lh_shape.specs.Shapes.{edge_row}
 use Rattle.lh_emit_def.specs.Emitted.{Source}
 use Rattle.lh_emit_def.specs.Ways.{RowIsGiven}
-use Rattle.lh_emit_def.specs.Registers.{triggers_seen, registers_wish}
-use Rattle.lh_emit_def.specs.Laws.{SensesParts, RegistersPass, row_parts}
+use Rattle.lh_emit_def.specs.Registers.{registers_wish}
+use Rattle.lh_emit_def.specs.Laws.{row_parts}
 use Rattle.lh_entity_laws.specs.Stands.{IsEnough}
+use Rattle.lh_entity_laws.specs.AnyEntity.{DoesEdge}
 use Rattle.lh_region_laws.specs.Before.{RowsAreAlike, SecondRowsAreTyped}
 use Rattle.lh_entity_laws.proofs.Bits.{bits_of, covered-bits, there-bits, right-within, part-within}
 use Rattle.lh_entity_laws.proofs.PartBits.{ZerosAreMissing, ZerosReadAlike, values-agree}
 use Rattle.lh_entity_laws.proofs.Shaped.{EdgeRegions, SecondWalk, second-walk}
 use Rattle.lh_entity_laws.proofs.EndTargets.{first-ends}
 use Rattle.lh_entity_laws.proofs.WaitEnds.{none-of, WaitsFor, AllWait, wait-all, head-is, free-ends}
-use Rattle.lh_entity_laws.proofs.RegisterTriggers.{EdgeDrive, registers-drive, rows-rest, triggers-covered, seen-same}
+use Rattle.lh_entity_laws.proofs.RegisterTriggers.{EdgeDrive, registers-drive, triggers-covered}
 use Rattle.lh_entity_laws.proofs.Route.{seen, Follows, Pads, label_at, stood, process-stood, waits-alike, Ends, SecondEnds, first-acts, second-acts}
 use Rattle.lh_entity_laws.proofs.OnceActivations.{one-region}
 use Rattle.lh_entity_laws.proofs.CombActivations.{not-first, no-items}
@@ -325,13 +326,10 @@ module _ (functions : List UnitText) (bound : ℕ) (x y : UnitText) (i : Instanc
   abbrev pub parts_triggering : List Part
   parts_triggering = flat_map row_parts rs
 
-  abbrev triggers : List ℕ
-  triggers = bits_of i.args parts_triggering
-
-  triggers-waited : IsWithin triggers on
+  triggers-waited : IsWithin (bits_of i.args parts_triggering) on
   triggers-waited =
       let c : Each (λ q. covers ws q ≡ true) parts_triggering = subst (λ z. Each (λ q. covers ws q ≡ true) (flat_map row_parts z)) s.rows (triggers-covered ws ds) in
-      subst (λ (z : Rows). IsWithin triggers (bits_of i.args (parts_waited z.ends))) (sym s.walk.rows) (covered-bits i.args ws parts_triggering c)
+      subst (λ (z : Rows). IsWithin (bits_of i.args parts_triggering) (bits_of i.args (parts_waited z.ends))) (sym s.walk.rows) (covered-bits i.args ws parts_triggering c)
 
   -- ---- the drives of the second region
 
@@ -364,21 +362,25 @@ module _ (functions : List UnitText) (bound : ℕ) (x y : UnitText) (i : Instanc
 
   -- ---- the entity
 
-  module _ (laws : SwapsKeepMeaning) (source : Source) (zeros : ZerosAreMissing) (zero-reads : ZerosReadAlike) (drives : Each (EdgeDrive source ws) ds) (passes : RegistersPass rs y i.args)
-      (senses : SensesParts (λ q. Unit {0}) parts_triggering y i.args) where
-    triggers-probed : IsWithin triggers (sensed y i)
-    triggers-probed =
-        let is : sensed y i ≡ bits_of i.args senses.parts = ap (λ z. bit_numbers (probes y i.args z)) sigs ∙ ap bit_numbers senses.are_sensed in
-        subst (IsWithin triggers) (sym is) (there-bits i.args senses.parts parts_triggering senses.all_there)
+  module _ (laws : SwapsKeepMeaning) (source : Source) (zeros : ZerosAreMissing) (zero-reads : ZerosReadAlike) (drives : Each (EdgeDrive source ws) ds) (does : DoesEdge rs y i.args) where
+    -- the bits of the parts by which the registers drive
+    abbrev triggers : List ℕ
+    triggers = bits_of i.args does.parts
 
-    -- the entity remembers the values of the triggers at a run at which their bits were these
+    some-waited : IsWithin triggers on
+    some-waited k h = triggers-waited k (there-bits i.args parts_triggering does.parts does.among k h)
+
+    triggers-probed : IsWithin triggers (sensed y i)
+    triggers-probed = subst (IsWithin triggers) (sym (ap (λ z. bit_numbers (probes y i.args z)) sigs)) does.senses
+
+    -- the entity remembers what it saw at a run at which the triggers' bits were these
     record Remembers (bits memory : List Bool) : Type 0 where
       then : List Bool
       same : bits_read then triggers ≡ bits
-      is : memory ≡ triggers_seen (reads i.args then) rs
+      is : memory ≡ does.seen_at then
 
     keeps : (now : List Bool) (at : Instant) (memory : Option (List Bool)) → Remembers (bits_read now triggers) (pass y i.args i.sigs now memory at).seen
-    keeps now at memory = record { then = now; same = refl; is = ap (λ z. (pass y i.args z now memory at).seen) sigs ∙ passes.seen now memory at }
+    keeps now at memory = record { then = now; same = refl; is = ap (λ z. (pass y i.args z now memory at).seen) sigs ∙ does.seen now memory at }
 
     registers-give : (past now : List Bool) (at : Instant) → registers_wish (reads i.args past) (reads i.args now) i.args at rs ≡ second-wish past now at
     registers-give past now at =
@@ -388,20 +390,16 @@ module _ (functions : List UnitText) (bound : ℕ) (x y : UnitText) (i : Instanc
 
     pass-gives : (past now memory : List Bool) (at : Instant) → Remembers (bits_read past triggers) memory → (pass y i.args i.sigs now (Some memory) at).wish ≡ second-wish past now at
     pass-gives past now memory at m =
-        let seen : triggers_seen (reads i.args m.then) rs ≡ triggers_seen (reads i.args past) rs = seen-same (reads i.args m.then) (reads i.args past) rs
-        (parts-same zeros zero-reads i.args m.then past parts_triggering (read-same m.then past triggers m.same)) in
         ap (λ z. (pass y i.args z now (Some memory) at).wish) sigs
-        ∙ ap (λ z. (pass y i.args [] now (Some z) at).wish) (m.is ∙ seen)
-        ∙ passes.later past now at
+        ∙ ap (λ z. (pass y i.args [] now (Some z) at).wish) m.is
+        ∙ does.later m.then now at
+        ∙ does.alike m.then past now at (parts-same zeros zero-reads i.args m.then past does.parts (read-same m.then past triggers m.same))
         ∙ registers-give past now at
 
     at-rest : (past now : List Bool) (at : Instant) → list_any (bit_differs past now) triggers ≡ false → second-wish past now at ≡ no_wish
     at-rest past now at e =
-        let same : Each (λ q. reads i.args past q ≡ reads i.args now q) parts_triggering = parts-same zeros zero-reads i.args past now parts_triggering
-        (λ a h. not_differ past now a (none_of (bit_differs past now) triggers e a h)) in
-        ap (with_rows (reads i.args past) (reads i.args now) i.args at no_wish) (sym second-is)
-        ∙ rows-rest (reads i.args past) (reads i.args now) (reads-fit i.args past) (reads-fit i.args now) laws source ws i.args at no_wish ds drives
-        (subst (λ z. Each (λ q. reads i.args past q ≡ reads i.args now q) (flat_map row_parts z)) (sym s.rows) same)
+        sym (registers-give past now at)
+        ∙ does.rests past now at (parts-same zeros zero-reads i.args past now does.parts (λ a h. not_differ past now a (none_of (bit_differs past now) triggers e a h)))
 
     pub edge-for : EdgeFor (record { bound = bound; functions = functions }) x y i
     edge-for = record {
@@ -415,11 +413,11 @@ module _ (functions : List UnitText) (bound : ℕ) (x y : UnitText) (i : Instanc
       remembers = Remembers;
       first = edge-first;
       later = edge-later;
-      waited = triggers-waited;
+      waited = some-waited;
       probed = triggers-probed;
       rows_rest = at-rest;
       keeps = keeps;
-      first_rests = λ now at. ap (λ z. (pass y i.args z now None at).wish) sigs ∙ passes.first now at;
+      first_rests = λ now at. ap (λ z. (pass y i.args z now None at).wish) sigs ∙ does.first now at;
       fires = λ past now memory at m e. pass-gives past now memory at m;
       rests = λ past now memory at m e. pass-gives past now memory at m ∙ at-rest past now at e;
     }

@@ -7,7 +7,6 @@ use Rattle.lh_types.specs.Types.{TypeTree, signal_type, IsData}
 use Rattle.lh_types.specs.Parts as Parts
 use Rattle.lh_types.specs.Parts.{step_part}
 use Rattle.lh_types.specs.declared.op.Op.{Op}
-use Rattle.lh_types.specs.declared.op.Op.TheVariants as op
 use Rattle.lh_types.specs.declared.op.Op.TheVariants.{Or}
 use Rattle.lh_types.specs.declared.part.Step.{Step}
 use Rattle.lh_types.proofs.PartLemmas.{step_part-within}

@@ -18,8 +18,6 @@ use Rattle.lh_region_def.specs.Regions.{begins_with_phi, lines_at, head_of, know
 use Rattle.lh_region_def.specs.Typed.{IsOfType}
 use Rattle.lh_region_def.proofs.Steps.{RegionOf}
 use Rattle.lh_region_def.proofs.Second.{past-typed}
-use Rattle.lh_region_def.proofs.Activations as Activations
-use Rattle.lh_region_def.proofs.Courses as Courses
 use Rattle.lh_region_laws.proofs.Second as Second
 use Rattle.lh_emit_def.specs.Emitted.{Source, source_of}
 use Rattle.lh_emit_def.specs.Reached.{steps_in}

@@ -17,5 +17,6 @@ pub mod CombActivations
 pub mod RegisterTriggers
 pub mod Edges
 pub mod StandsForProcess
+pub mod EmittedStands
 pub mod Instances
 pub mod Enough

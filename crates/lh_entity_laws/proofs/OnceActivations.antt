@@ -1,5 +1,5 @@
 -- A process that drives once: its one activation gives what the one pass of its entity gives.
-use Rattle.std.proofs.Common.{◌≡◌, inl, inr, ℕ, ◌+◌, ◌≤◌, List, [], ◌∷◌, length, Bool, true, ◌&&◌, Option, Some, None, refl, ap, sym, ◌∙◌, arith, le_refl}
+use Rattle.std.proofs.Common.{◌≡◌, inl, inr, ℕ, ◌+◌, ◌≤◌, List, [], ◌∷◌, length, Bool, true, ◌&&◌, Some, None, refl, ap, sym, ◌∙◌, arith, le_refl}
 use Rattle.std.specs.List.{list_all}
 use Rattle.std.proofs.lemmas.Bool.{false≢true}
 use Rattle.std.specs.Cmp.{first_so, second_so}
@@ -50,7 +50,7 @@ halts-there blocks args (waits to to_head parts timed) from s h z = absurd (fals
 module _ (functions : List UnitText) (bound : ℕ) (x y : UnitText) (i : Instance) (name : UnitName) (t : FlatText) (formed : IsFormed (flat_unit name t))
     (pads : Pads functions (flat_unit name t) i.args) (k : Follows functions x (flat_unit name t) i.args)
     (xk : x.kind ≡ kind.Proc) (yk : y.kind ≡ kind.Entity) (sigs : i.sigs ≡ []) (enough : IsEnough bound t) (ds : List Drive) (shape : shape_of_text t ≡ once ds)
-    (passes : (now : List Bool) (memory : Option (List Bool)) (at : Instant) → (pass y i.args [] now memory at).wish ≡ with_rows (reads i.args now) (reads i.args now) i.args at no_wish ds)
+    (passes : (now : List Bool) (at : Instant) → (pass y i.args [] now None at).wish ≡ with_rows (reads i.args now) (reads i.args now) i.args at no_wish ds)
     (senses : probes y i.args [] ≡ []) where
   abbrev f : UnitText
   f = flat_unit name t
@@ -80,7 +80,7 @@ module _ (functions : List UnitText) (bound : ℕ) (x y : UnitText) (i : Instanc
 
   pass-wish : (now : List Bool) (at : Instant) → with_rows (reads i.args now) (reads i.args now) i.args at no_wish rows.drives ≡ (pass y i.args i.sigs now None at).wish
   pass-wish now at =
-      ap (with_rows (reads i.args now) (reads i.args now) i.args at no_wish) rows-drives ∙ sym (passes now None at) ∙ ap (λ z. (pass y i.args z now None at).wish) (sym sigs)
+      ap (with_rows (reads i.args now) (reads i.args now) i.args at no_wish) rows-drives ∙ sym (passes now at) ∙ ap (λ z. (pass y i.args z now None at).wish) (sym sigs)
 
   once-halts : (now : List Bool) (at : Instant) → Halts (pass y i.args i.sigs now None at).wish (activate bound (seen functions now at) x (fresh x i))
   once-halts now at =

@@ -1,5 +1,5 @@
 -- Registers drive what the rows of a second region drive: a trigger fires exactly where the condition of its drive holds.
-use Rattle.std.proofs.Common.{◌≡◌, ◌⊎◌, inl, inr, List, [], ◌∷◌, ◌++◌, map, fold, Bool, true, false, not, ◌&&◌, if◌then◌else◌, unwrap_or, Some, refl, ap, sym, ◌∙◌, subst}
+use Rattle.std.proofs.Common.{◌≡◌, ◌⊎◌, inl, inr, List, [], ◌∷◌, map, fold, Bool, true, false, not, ◌&&◌, ◌||◌, if◌then◌else◌, unwrap_or, Some, refl, ap, sym, ◌∙◌, subst}
 use Rattle.std.specs.List.{list_any, flat_map}
 use Rattle.std.specs.Cmp.{both_ways}
 use Rattle.std.proofs.lemmas.Bool.{false≢true, or_left, or_right, or_cases}
@@ -24,16 +24,16 @@ use Rattle.lh_term.proofs.Conditions.{one_bit}
 use Rattle.lh_term_cover.specs.Bits.{covers}
 use Rattle.lh_edge.specs.Atoms.{contains_past}
 use Rattle.lh_edge.specs.Shown.{is_edge_shown}
-use Rattle.lh_edge.specs.Triggers.{TriggerTree, EdgeRowTree, triggers_of, Fires, SomeFires, NoneChanges, AreWaited}
+use Rattle.lh_edge.specs.Triggers.{TriggerTree, EdgeRowTree, triggers_of, Fires, SomeFires, AreWaited}
 use Rattle.lh_edge.proofs.AtomMeanings.{same_bits, without_past}
 use Rattle.lh_edge.proofs.TriggersFire.{triggers_show}
-use Rattle.lh_edge.proofs.TriggersRest.{rests, waited_on}
+use Rattle.lh_edge.proofs.TriggersRest.{waited_on}
 use Rattle.lh_region_def.specs.Rows.{Drive}
 use Rattle.lh_region_def.specs.Means.{range_in, is_one, is_true, due_by, with_row, with_rows}
 use Rattle.lh_region_def.specs.Right.{DriveTyped}
 use Rattle.lh_shape.specs.Shapes.{edge_row}
 use Rattle.lh_emit_def.specs.Entities.{mode_of}
-use Rattle.lh_emit_def.specs.Registers.{sees, fires, any_fires, register_made, row_seen, triggers_seen}
+use Rattle.lh_emit_def.specs.Registers.{sees, fires, any_fires, register_drives, register_made}
 use Rattle.lh_emit_def.specs.Ways.{TriggerIsGiven}
 use Rattle.lh_emit_def.specs.Emitted.{Source}
 use Rattle.lh_emit_def.specs.Laws.{row_parts}
@@ -155,25 +155,6 @@ module _ (past now : Valuation) (p : IsFitting past) (n : IsFitting now) where
       ap (λ v. fold (register_made past now args at) v (map (edge_row waited) ds)) (row-drives laws s waited args at w d h.0)
       ∙ registers-drive laws s waited args at (with_row past now args at w d) ds h.1
 
-  -- ---- where no trigger's part changes
-
-  all-rest : (gs : List TriggerTree) → Each (λ q. past q ≡ now q) (map (λ (g : TriggerTree). g.part) gs) → NoneChanges past now gs
-  all-rest [] h = tt
-  all-rest (g ∷ gs) h = (h.0, all-rest gs h.1)
-
-  pub rows-rest : SwapsKeepMeaning → (s : Source) (waited : List Part) (args : List Range) (at : Instant) (w : Wish) (ds : List Drive) → Each (EdgeDrive s waited) ds
-      → Each (λ q. past q ≡ now q) (flat_map row_parts (map (edge_row waited) ds)) →
-      with_rows past now args at w ds ≡ w
-  rows-rest laws s waited args at w [] h e = refl
-  rows-rest laws s waited args at w (d ∷ ds) h e =
-      let ps = row_parts (edge_row waited d) in
-      let qs = flat_map row_parts (map (edge_row waited) ds) in
-      let zero : mean past now d.cond ≡ bit_value false = rests laws waited d.cond h.0.typed.cond.typed h.0.typed.cond.type h.0.shown past now p n (all-rest (triggers_of waited d.cond)
-      (Each-left (λ q. past q ≡ now q) ps qs e)) in
-      let none : with_row past now args at w d ≡ w = ap (λ b. if b then with_drive w (due_by at (mean past now d.delay)) (range_in args d.part).lo (value_bits (mean past now d.value)) else w) (ap
-      is_one zero) in
-      ap (λ v. with_rows past now args at v ds) none ∙ rows-rest laws s waited args at w ds h.1 (Each-right (λ q. past q ≡ now q) ps qs e)
-
 -- ---- the parts of the triggers
 
 parts-covered : (waited : List Part) (gs : List TriggerTree) → AreWaited waited gs → Each (λ q. covers waited q ≡ true) (map (λ (g : TriggerTree). g.part) gs)
@@ -187,19 +168,49 @@ triggers-covered waited (d ∷ ds) =
     Each-append (λ q. covers waited q ≡ true) (row_parts (edge_row waited d)) (flat_map row_parts (map (edge_row waited) ds))
     (parts-covered waited (triggers_of waited d.cond) (waited_on waited d.cond)) (triggers-covered waited ds)
 
--- ---- what registers remember
+-- ---- which parts registers look at
 
-row-seen-same : (v w : Valuation) (gs : List TriggerTree) → Each (λ q. v q ≡ w q) (map (λ (g : TriggerTree). g.part) gs)
-    → map (λ (g : TriggerTree). sees v g.part) gs ≡ map (λ (g : TriggerTree). sees w g.part) gs
-row-seen-same v w [] h = refl
-row-seen-same v w (g ∷ gs) h =
-    let here : sees v g.part ≡ sees w g.part = ap (λ d. unwrap_or (as_test d) false) h.0 in
-    let rest = row-seen-same v w gs h.1 in
-    λ i. here i ∷ rest i
+-- what was seen of a part by its value
+seen-by-value : (v w : Valuation) (q : Part) → v q ≡ w q → sees v q ≡ sees w q
+seen-by-value v w q e = ap (λ d. unwrap_or (as_test d) false) e
 
-pub seen-same : (v w : Valuation) (rs : List EdgeRowTree) → Each (λ q. v q ≡ w q) (flat_map row_parts rs) → triggers_seen v rs ≡ triggers_seen w rs
-seen-same v w [] h = refl
-seen-same v w (r ∷ rs) h =
-    let here : row_seen v r ≡ row_seen w r = row-seen-same v w r.triggers (Each-left (λ q. v q ≡ w q) (row_parts r) (flat_map row_parts rs) h) in
-    let rest = seen-same v w rs (Each-right (λ q. v q ≡ w q) (row_parts r) (flat_map row_parts rs) h) in
-    λ i. here i ++ rest i
+any-alike : (before past now : Valuation) (gs : List TriggerTree) → Each (λ q. before q ≡ past q) (map (λ (g : TriggerTree). g.part) gs)
+    → list_any (λ (g : TriggerTree). fires (Some (sees before g.part)) now g) gs ≡ list_any (λ (g : TriggerTree). fires (Some (sees past g.part)) now g) gs
+any-alike before past now [] h = refl
+any-alike before past now (g ∷ gs) h =
+    let here = ap (λ b. fires (Some b) now g) (seen-by-value before past g.part h.0) in
+    let rest = any-alike before past now gs h.1 in
+    λ i. here i || rest i
+
+-- they look at the values before of their parts alone
+pub registers-alike : (before past now : Valuation) (args : List Range) (at : Instant) (w : Wish) (rs : List EdgeRowTree) → Each (λ q. before q ≡ past q) (flat_map row_parts rs)
+    → fold (register_made before now args at) w rs ≡ fold (register_made past now args at) w rs
+registers-alike before past now args at w [] h = refl
+registers-alike before past now args at w (r ∷ rs) h =
+    ap (λ b. fold (register_made before now args at) (if b then register_drives now args at w r else w) rs)
+    (any-alike before past now r.triggers (Each-left (λ q. before q ≡ past q) (row_parts r) (flat_map row_parts rs) h))
+    ∙ registers-alike before past now args at (register_made past now args at w r) rs (Each-right (λ q. before q ≡ past q) (row_parts r) (flat_map row_parts rs) h)
+
+-- where a part has the value that it had, no trigger of it fires
+rests-by : (rise b g : Bool) → (mode_holds (mode_of rise) (Some b) b && g) ≡ false
+rests-by true true g = refl
+rests-by true false g = refl
+rests-by false true g = refl
+rests-by false false g = refl
+
+none-fires : (now : Valuation) (gs : List TriggerTree) → list_any (λ (g : TriggerTree). fires (Some (sees now g.part)) now g) gs ≡ false
+none-fires now [] = refl
+none-fires now (g ∷ gs) =
+    let here = rests-by g.rise (sees now g.part) (unwrap_or (as_test (mean now now g.gate)) false) in
+    let rest = none-fires now gs in
+    λ i. here i || rest i
+
+all-rest : (now : Valuation) (args : List Range) (at : Instant) (w : Wish) (rs : List EdgeRowTree) → fold (register_made now now args at) w rs ≡ w
+all-rest now args at w [] = refl
+all-rest now args at w (r ∷ rs) =
+    ap (λ b. fold (register_made now now args at) (if b then register_drives now args at w r else w) rs) (none-fires now r.triggers) ∙ all-rest now args at w rs
+
+-- and registers drive nothing where none of their parts changes
+pub registers-rest : (past now : Valuation) (args : List Range) (at : Instant) (w : Wish) (rs : List EdgeRowTree) → Each (λ q. past q ≡ now q) (flat_map row_parts rs)
+    → fold (register_made past now args at) w rs ≡ w
+registers-rest past now args at w rs h = registers-alike past now now args at w rs h ∙ all-rest now args at w rs

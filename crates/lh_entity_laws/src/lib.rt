@@ -1,4 +1,4 @@
-//! Laws of emitted entities: the entity that is emitted for the shape of a process may stand for that process.
+//! Laws of entities in the place of processes: one that does what the rows of a shape say, as the emitted one does, may stand for the process.
 #![tactic(auto)]
 
 pub mod given;

@@ -1,9 +1,6 @@
-use Rattle.lh_flat_state_laws.specs.Lasting.{Lasting}
-use Rattle.lh_entity_laws.proofs.StandsForProcess.{each-edge}
-use Rattle.lh_entity_laws.proofs.Instances.{reach-over}
+use Rattle.lh_entity_laws.proofs.EmittedStands.{each-edge}
 use Rattle.lh_entity_laws.proofs.laws.edge_stands.Goals as goal
 
 pub returns : goal.returns
 returns c =
-    each-edge Lasting c.begins_law.ensures c.acts_law.ensures c.bits_law.ensures c.parts_law.ensures c.activations_law.ensures (reach-over c.ranges_law.ensures) c.formed_law.ensures
-    c.edge_given.ensures c.regions_alike.ensures.rows c.second_rows_are_typed.ensures c.swaps_keep_meaning.ensures
+    each-edge c.formed_law.ensures c.edge_stands_for.ensures c.edge_given.ensures

@@ -1,9 +1,6 @@
-use Rattle.lh_flat_state_laws.specs.Lasting.{Lasting}
-use Rattle.lh_entity_laws.proofs.StandsForProcess.{each-once}
-use Rattle.lh_entity_laws.proofs.Instances.{reach-over}
+use Rattle.lh_entity_laws.proofs.EmittedStands.{each-once}
 use Rattle.lh_entity_laws.proofs.laws.once_stands.Goals as goal
 
 pub returns : goal.returns
 returns c =
-    each-once Lasting c.begins_law.ensures c.acts_law.ensures c.bits_law.ensures c.parts_law.ensures c.activations_law.ensures (reach-over c.ranges_law.ensures) c.formed_law.ensures
-    c.once_given.ensures
+    each-once c.formed_law.ensures c.once_stands_for.ensures c.once_given.ensures
