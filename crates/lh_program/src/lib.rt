@@ -5,7 +5,7 @@ ghost use Rattle.std.specs.Prelude.{◌≡◌, ◌⊎◌, [], map, drop, IfOk, O
 ghost use Rattle.std.specs.String.{string_bytes};
 ghost use Rattle.std.specs.Vec.Iter.{into_iter_items};
 ghost use Rattle.std.specs.Process.{exit_status};
-ghost use Rattle.lh_run.specs.Account.{use_of, Gained, BreaksOff};
+ghost use Rattle.lh_run.specs.Account.{use_of, Gained, WriteBreaksOff};
 ghost use Rattle.lh_run.specs.StatusLines.{status_code, status_line};
 
 use lh_io::stream::Sink;
@@ -52,7 +52,7 @@ pub fn words_of(alloc: Global, args: io::Result<Args>) -> Result<TextList, NoMem
 /// Tells on the log that there was no memory for `run` to begin with, and answers the code to end with.
 pub fn no_memory<L: Sink>(log: &mut L) -> ExitCode
     ensures code { exit_status result ≡ status_code Status.OutOfMemory }
-    ensures told { Gained (use_of (L.written log.old) (L.written log.new) (L.faults log.old) (L.faults log.new)) (status_line Status.OutOfMemory) ⊎ BreaksOff (use_of (L.written log.old) (L.written log.new) (L.faults log.old) (L.faults log.new)) (status_line Status.OutOfMemory) }
+    ensures told { Gained (use_of (L.written log.old) (L.written log.new) (L.faults log.old) (L.faults log.new)) (status_line Status.OutOfMemory) ⊎ WriteBreaksOff (use_of (L.written log.old) (L.written log.new) (L.faults log.old) (L.faults log.new)) (status_line Status.OutOfMemory) }
 {
     let status = Status::OutOfMemory;
     // Where the log fails too, nothing is left to tell it by.

@@ -1,4 +1,4 @@
-//! Whole reads and writes over the system's files and pipes. Reads and writes in memory, each of which fails in turn, are tried by `lh_run_trials`.
+//! Whole reads and writes over the system's files and pipes. Reads and writes in memory, each of which fails in turn, are tried by `lh_trials`.
 use lh_io::adapter::{StdSink, StdSource};
 use lh_io::whole::{ReadAllFault, read_all, write_all};
 use std::{fs, io};
