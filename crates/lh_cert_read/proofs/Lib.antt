@@ -1,0 +1,9 @@
+pub mod Found
+pub mod Triggers
+pub mod Steps
+pub mod RowsFound
+pub mod SpelledTypes
+pub mod Fits
+pub mod Taking
+pub mod Arguments
+pub mod Lines
