@@ -1,0 +1,5 @@
+pub mod ArgumentsKnown
+pub mod SaysState
+pub mod SaysNeeds
+pub mod SaysRows
+pub mod Said
