@@ -5,6 +5,7 @@ pub mod CallGraph
 pub mod Lengths
 pub mod Names
 pub mod NumberNames
+pub mod CopiedIds
 pub mod BuilderRoom
 pub mod BlockCopies
 pub mod CopyIds
@@ -17,6 +18,7 @@ pub mod RefusalLaws
 pub mod Formed
 pub mod Marks
 pub mod Apart
+pub mod ResultNames
 pub mod Distinct
 pub mod FlatTexts
 pub mod Bounds

@@ -6,7 +6,7 @@ ghost use Rattle.lh_flat.specs.Building.{line_of, call_room, call_ids, put, take
 ghost use Rattle.lh_flat.specs.CopyOf.{IsCopy};
 
 use crate::calls::callee;
-use crate::copy::{CopyPlace, UnitCopy};
+use crate::copy::{CopyPlace, UnitCopy, new_ids};
 use crate::flat::{FlatBlock, FlatBlockList, FlatInst, Merge};
 use crate::layout::{plus, unit_room};
 use lh_types::memory::NoMemory;
@@ -173,15 +173,12 @@ impl FlatBuilder {
         let at = self.next()?;
         let back = plus(at, unit_room(depth, view)?)?;
         let args = copy.args(self.blocks.allocator(), id)?;
-        let place = CopyPlace {
-            at,
-            from: self.values,
-            back,
-        };
-        UnitCopy::new(self.blocks.allocator(), depth, view, args.as_slice(), place)
+        let values = new_ids(self.blocks.allocator(), view, args.as_slice(), self.values)?;
+        let place = CopyPlace { at, back };
+        UnitCopy::new(self.blocks.allocator(), depth, view, values, place)
     }
 
-    /// The open block leads into a copy, whose values have ids from then on.
+    /// The open block leads into a copy, whose results have ids from then on.
     fn enter(&mut self, called: &UnitCopy<'_>) -> Result<(), NoMemory>
         ensures { OnOk result (self.new ≡ entering called.now.view.module.now called.now.view.unit self.old) }
     {
@@ -191,6 +188,6 @@ impl FlatBuilder {
             inst: Inst::Br(BlockId(entry)),
         })?;
         self.put()?;
-        self.take_values(called.view.values())
+        self.take_values(called.view.module().inst_count(called.view.id()))
     }
 }

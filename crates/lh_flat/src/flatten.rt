@@ -13,7 +13,7 @@ ghost use Rattle.lh_flat.specs.Reads.{Flattens};
 
 use crate::build::FlatBuilder;
 use crate::calls::{CallNode, graph};
-use crate::copy::{CopyPlace, UnitCopy};
+use crate::copy::{CopyPlace, UnitCopy, own_ids};
 use crate::fault::FlatFault;
 use crate::flat::{ArgList, Flat};
 use crate::measure::CallMeasure;
@@ -116,12 +116,8 @@ fn made(alloc: Global, view: UnitView<'_>) -> Result<Flat, NoMemory>
 fn text_of(alloc: Global, view: UnitView<'_>) -> Result<FlatBuilder, NoMemory>
     ensures { IfOk result (λ text. text ≡ top_text view.entry.module.now view.entry.unit.0) }
 {
-    let place = CopyPlace {
-        at: 0,
-        from: 0,
-        back: 0,
-    };
-    let copy = UnitCopy::new(alloc, MAX_NESTED, view, &[], place)?;
+    let place = CopyPlace { at: 0, back: 0 };
+    let copy = UnitCopy::new(alloc, MAX_NESTED, view, own_ids(alloc, view)?, place)?;
     let mut text = FlatBuilder::new(alloc, view.values());
     let added = text.add_unit(MAX_NESTED, &copy);
     drop(copy);
