@@ -1,3 +1,4 @@
+pub mod Members
 mod SoundCopies
 pub mod Cuts
 mod CopyPieces

@@ -1,3 +1,4 @@
+pub mod Members
 pub mod Formed
 pub mod Tidy
 pub mod Activates

@@ -1,4 +1,3 @@
-pub mod Among
 pub mod MergedValues
 pub mod Sites
 pub mod PartReads

@@ -10,7 +10,7 @@ use Rattle.lh_region_def.specs.Joins.{RegionPlace}
 use Rattle.lh_region_def.specs.Places.{next_place}
 use Rattle.lh_region_def.specs.Regions.{numbers_below, all_places, is_place, max_turns}
 use Rattle.lh_region_def.specs.Typed.{Among}
-use Rattle.lh_region_def.proofs.Among.{in-each, among-left, among-right}
+use Rattle.lh_flat_laws.proofs.Members.{in-each, among-left, among-right}
 
 -- by turns, then by block
 abbrev pub Before : RegionPlace → RegionPlace → Type 0

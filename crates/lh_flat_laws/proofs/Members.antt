@@ -1,7 +1,8 @@
 -- Members of lists.
-use Rattle.std.proofs.Common.{◌≡◌, ◌⊎◌, inl, inr, List, [], ◌∷◌, ◌++◌, Bool, true, false, filter, if◌then◌else◌, refl, ap, sym, ◌∙◌, subst}
+use Rattle.std.proofs.Common.{◌≡◌, ◌⊎◌, inl, inr, List, [], ◌∷◌, ◌++◌, map, Bool, true, false, filter, if◌then◌else◌, refl, ap, sym, ◌∙◌, subst}
+use Rattle.std.specs.List.{flat_map}
 use Rattle.lh_unit.specs.Within.{Each}
-use Rattle.lh_region_def.specs.Typed.{Among}
+use Rattle.lh_flat_laws.specs.Members.{Among}
 
 pub in-each : {X : Type 0} (P : X → Type 0) (xs : List X) (x : X) → Each P xs → Among x xs → P x
 in-each P [] x h a = absurd a
@@ -49,3 +50,23 @@ filter-among p x (y ∷ ys) a = at (filter-among p x ys) (p y) refl a
     at go true q (inl e) = (inl e, ap p (sym e) ∙ q)
     at go true q (inr g) = let r = go g in (inr r.0, r.1)
     at go false q g = let r = go g in (inr r.0, r.1)
+
+-- ---- members of lists that are made of others
+
+pub among-middle : {X : Type 0} (xs ys : List X) (x : X) → Among x (xs ++ x ∷ ys)
+among-middle xs ys x = among-right x xs (x ∷ ys) (inl refl)
+
+pub among-image : {X Y : Type 0} (f : X → Y) (xs : List X) (x : X) → Among x xs → Among (f x) (map f xs)
+among-image f [] x a = absurd a
+among-image f (y ∷ xs) x (inl e) = inl (ap f e)
+among-image f (y ∷ xs) x (inr a) = inr (among-image f xs x a)
+
+pub among-map : {X Y : Type 0} (f : X → Y) (xs : List X) (y : Y) → Among y (map f xs) → (x : X) × Among x xs × (y ≡ f x)
+among-map f [] y a = absurd a
+among-map f (x ∷ xs) y (inl e) = (x, inl refl, sym e)
+among-map f (x ∷ xs) y (inr a) = let r = among-map f xs y a in (r.0, inr r.1, r.2)
+
+pub among-flat : {X Y : Type 0} (f : X → List Y) (xs : List X) (x : X) (y : Y) → Among x xs → Among y (f x) → Among y (flat_map f xs)
+among-flat f [] x y h k = absurd h
+among-flat f (z ∷ xs) x y (inl e) k = among-left y (f z) (flat_map f xs) (subst (λ w. Among y (f w)) (sym e) k)
+among-flat f (z ∷ xs) x y (inr h) k = among-right y (f z) (flat_map f xs) (among-flat f xs x y h k)
