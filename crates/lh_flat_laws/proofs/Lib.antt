@@ -35,3 +35,4 @@ mod ReturnSteps
 pub mod FlatActivations
 pub mod TidyUnits
 mod ActivationRows
+mod CallSearch
