@@ -24,3 +24,4 @@ pub mod Activations
 pub mod Second
 pub mod Adjacent
 mod SampleRows
+mod Solved
