@@ -1,6 +1,7 @@
 -- What an emitted entity says.
-use Rattle.std.proofs.Common.{◌≡◌, ℕ, ◌+◌, ◌≤◌, Bool, true, false, ◌&&◌, nat_eq, List, [], ◌∷◌, ◌++◌, length, map, Option, Some, None, slice_get, refl, ap, sym, ◌∙◌, subst, arith, append-nil}
-use Rattle.std.specs.List.{list_all}
+use Rattle.std.proofs.Common.{◌≡◌, ℕ, ◌+◌, ◌≤◌, Bool, true, false, ◌&&◌, ◌||◌, nat_eq, List, [], ◌∷◌, ◌++◌, length, map, Option, Some, None, slice_get, refl, ap, sym, ◌∙◌, subst, arith, append-nil}
+use Rattle.std.specs.List.{list_all, list_any}
+use Rattle.std.specs.Prelude.{filter}
 use Rattle.lh_types.specs.Types.{TypeTree, signal_type, same_type}
 use Rattle.lh_types.specs.Same.{and_both, same-is}
 use Rattle.lh_unit.specs.Contents.{LineText, ArgText, UnitText}
@@ -22,12 +23,14 @@ use Rattle.lh_emit_def.specs.Ways.{IsReached}
 use Rattle.lh_emit_def.proofs.Arguments.{AreApart, are-apart}
 use Rattle.lh_emit_def.proofs.Induction.{IsNamed, Kept}
 use Rattle.lh_emit_def.proofs.PassState.{HasFewArgs, Begins}
-use Rattle.lh_emit_def.proofs.Whole.{IsWithin, within, Good, good-drives, good-waited, each-second, none-left, given-rows}
-use Rattle.lh_cert_rows.specs.Rows.{EntityRow}
+use Rattle.lh_emit_def.proofs.Whole.{IsWithin, within, Good, good-drives, good-waited, each-second, given-rows}
+use Rattle.lh_cert_rows.specs.Rows.{TriggerRow, EntityRow}
+use Rattle.lh_cert_def.specs.Headers.{has_hierarchy, has_drive, has_register}
+use Rattle.lh_cert_def.specs.KeptRows.{register_of, has_triggers}
 use Rattle.lh_cert_rows.specs.Reading.{EntityText, reads_lines, read}
-use Rattle.lh_cert_emitted.specs.Laws.{drive_said, registers_said, CombSaysRows, OnceSaysRows, EdgeSaysRows}
+use Rattle.lh_cert_emitted.specs.Laws.{drive_said, register_said, registers_said, CombSaysRows, OnceSaysRows, EdgeSaysRows}
 use Rattle.lh_cert_emitted.proofs.ArgumentsKnown.{other-known, argument-known}
-use Rattle.lh_cert_emitted.proofs.SaysState.{frame, begun, said, Says, Inv}
+use Rattle.lh_cert_emitted.proofs.SaysState.{frame, begun, said, Says, Inv, is_drive_row, is_register_row}
 use Rattle.lh_cert_emitted.proofs.SaysRows.{drives-emitted, rows-emitted, probes-emitted}
 
 module _ (u : UnitText) (steps : Part → List PartStep) (a : HasApartArgs u) (G : Part → Type 0) where
@@ -65,6 +68,9 @@ module _ (u : UnitText) (steps : Part → List PartStep) (a : HasApartArgs u) (G
     room = omega arith;
     probed = tt;
     asked = λ p n. absurd (let z = n.is in cc);
+    hierarchy = refl;
+    drives = refl;
+    registers = refl;
   }
 
   module _ (y : UnitText) (fits : Bool) (e : Emitted) (w : IsWithin u y fits e.lines) where
@@ -78,6 +84,22 @@ module _ (u : UnitText) (steps : Part → List PartStep) (a : HasApartArgs u) (G
       where
         first-said : UnitText → EntityText
         first-said z = reads_lines (record { known = with_arguments nothing_known 0 z.args; probes = []; rows = [] }) (lines_of z.blocks)
+
+    lines-are : lines_of y.blocks ≡ e.lines
+    lines-are = ap (λ (z : UnitText). lines_of z.blocks) w.is ∙ append-nil e.lines
+
+-- ---- kinds of rows
+
+no-registers : (ds : List Drive) → list_any is_register_row (map drive_said ds) ≡ false
+no-registers [] = refl
+no-registers (d ∷ ds) = no-registers ds
+
+no-drives : (rs : List (Part × List TriggerRow)) → list_any is_drive_row (map register_said rs) ≡ false
+no-drives [] = refl
+no-drives (r ∷ rs) = no-drives rs
+
+neither : (a b : Bool) → a ≡ false → b ≡ false → (a || b) ≡ false
+neither a b p q = rw (p, q) refl
 
 -- what has a name is probed
 all-asked : (u : UnitText) (steps : Part → List PartStep) (few : HasFewArgs u) (G : Part → Type 0) (rows : List EntityRow) (e x : Emitted) (ps : List Part) → Kept e x → Each (λ p. IsNamed e (now_of p)) ps
@@ -96,7 +118,9 @@ comb-says test u y steps waited ds h a ws gs ps rs =
     let b = drives-emitted u steps a.few G (λ p r. r.0) [] ds (good-drives u steps P ds gs rs) w.all_fit x n.inv in
     let m : Says u steps a.few G (map drive_said ds) (comb s waited ds) = b.inv y (begun-so u steps a G y (list_all drive_fits ds) (comb s waited ds) w) in
     let r = read-is u steps a G y (list_all drive_fits ds) (comb s waited ds) w in
+    let l = lines-are u steps a G y (list_all drive_fits ds) (comb s waited ds) w in
     record {
+      form = neither _ _ (ap has_hierarchy l ∙ m.hierarchy) (ap has_register l ∙ m.registers ∙ no-registers ds);
       rows = ap (λ (z : EntityText). z.rows) r ∙ m.rows_are;
       probes = record {
         all_have = subst (λ (z : EntityText). Each P z.probes) (sym r) (each-second _ P _ m.probed);
@@ -112,7 +136,12 @@ once-says u y steps ds h a gs rs =
     let b = drives-emitted u steps a.few G (λ p r. r.0) [] ds (good-drives u steps (λ p. ⊥) ds gs rs) w.all_fit (nothing_emitted s) (begins u steps a G) in
     let m : Says u steps a.few G (map drive_said ds) (once s ds) = b.inv y (begun-so u steps a G y (list_all drive_fits ds) (once s ds) w) in
     let r = read-is u steps a G y (list_all drive_fits ds) (once s ds) w in
-    (ap (λ (z : EntityText). z.rows) r ∙ m.rows_are, ap (λ (z : EntityText). z.probes) r ∙ none-left _ _ m.probed)
+    let l = lines-are u steps a G y (list_all drive_fits ds) (once s ds) w in
+    record {
+      form = neither _ _ (ap has_hierarchy l ∙ m.hierarchy) (ap has_register l ∙ m.registers ∙ no-registers ds);
+      rows = ap (λ (z : EntityText). z.rows) r ∙ m.rows_are;
+      probes = record { all_have = subst (λ (z : EntityText). Each (λ p. ⊥) z.probes) (sym r) (each-second _ (λ p. ⊥) _ m.probed); all_there = tt };
+    }
 
 pub edge-says : EdgeSaysRows
 edge-says u y steps rs h a gs =
@@ -122,4 +151,8 @@ edge-says u y steps rs h a gs =
     let b = rows-emitted u steps a.few G (λ p r. r) [] rs (given-rows u steps rs gs) w.all_fit (nothing_emitted s) (begins u steps a G) in
     let m : Says u steps a.few G (registers_said rs) (edge s rs) = b y (begun-so u steps a G y (list_all row_fits rs) (edge s rs) w) in
     let r = read-is u steps a G y (list_all row_fits rs) (edge s rs) w in
-    ap (λ (z : EntityText). z.rows) r ∙ m.rows_are
+    let l = lines-are u steps a G y (list_all row_fits rs) (edge s rs) w in
+    record {
+      form = neither _ _ (ap has_hierarchy l ∙ m.hierarchy) (ap has_drive l ∙ m.drives ∙ no-drives (filter has_triggers (map register_of rs)));
+      rows = ap (λ (z : EntityText). z.rows) r ∙ m.rows_are;
+    }

@@ -213,21 +213,21 @@ module _ (u : UnitText) (steps : Part → List PartStep) (few : HasFewArgs u) (G
       let g = λ (y : UnitText) (b : Begins (frame u steps few Good) few y (gives s i e).lines).
       step-says rows e (inv y (before y b)) n q st.to st.op (h y (before y b)) l.0 in
       steps-say rows p st.to (next_name s e) more (gives s i e)
-      (λ y b. let m = inv y (before y b) in gives-says u steps few Good rows y e i _ _ b m (g y b) m.probed (λ p k. k))
-      (λ y b. let m = inv y (before y b) in known-new u steps few Good rows y e i _ _ b m (g y b) m.probed (λ p k. k))
+      (λ y b. let m = inv y (before y b) in gives-says u steps few Good rows y e i _ _ b m (g y b) m.probed (λ p k. k) (refl, refl, refl))
+      (λ y b. let m = inv y (before y b) in known-new u steps few Good rows y e i _ _ b m (g y b) m.probed (λ p k. k) (refl, refl, refl))
       l.1
 
   pub keeps : (rows : List EntityRow) → ((p : Part) → Good p → IsReached (source_of u steps) p) → Keeps (source_of u steps) Good (Inv u steps few Good rows)
   keeps rows reached = record {
     scalar = λ v e s t inv y b.
         let m = inv y (begins-before (frame u steps few Good) few y e.lines _ b) in
-        term-says u steps few Good rows y e (constant v) (const_text v) _ b m (scalar-says rows e m v) m.probed (λ p k. k) (λ p q. absurd cc);
+        term-says u steps few Good rows y e (constant v) (const_text v) _ b m (scalar-says rows e m v) m.probed (λ p k. k) (λ p q. absurd cc) (refl, refl, refl);
     computed = λ o ts t e c r d h inv y b.
         let m = inv y (begins-before (frame u steps few Good) few y e.lines _ b) in
-        term-says u steps few Good rows y e t (operation_text e o ts) _ b m (operation-says rows e m o ts t c h) m.probed (λ p k. k) (no-probe t _ d);
+        term-says u steps few Good rows y e t (operation_text e o ts) _ b m (operation-says rows e m o ts t c h) m.probed (λ p k. k) (no-probe t _ d) (refl, refl, refl);
     probed = λ p t e c d h inv y b.
         let m = inv y (begins-before (frame u steps few Good) few y e.lines _ b) in
-        term-says u steps few Good rows y e t (prb_text (signal e p)) _ b m (probe-says rows e m p t c h) (good-more _ p m.probed d) (λ q k. among-before q _ (p ∷ []) k) (probed-now p t _ c);
+        term-says u steps few Good rows y e t (prb_text (signal e p)) _ b m (probe-says rows e m p t c h) (good-more _ p m.probed d) (λ q k. among-before q _ (p ∷ []) k) (probed-now p t _ c) (refl, refl, refl);
     stepped = λ p e d r inv.
         let q : Part = whole_argument p.arg r.carries in
         steps-say rows p q (arg_name (slice_get u.args p.arg)) (steps p) e inv

@@ -129,7 +129,7 @@ module _ (u : UnitText) (steps : Part → List PartStep) (few : HasFewArgs u) (G
       record {
         inv = λ y a.
             let m = n4.inv y (begins-before (frame u steps few Good) few y e4.lines _ a) in
-            puts-says u steps few Good rows (rows ++ drive_said d ∷ []) e4 _ m (drive-says rows e4 m d v l q n4.named);
+            puts-says u steps few Good rows (drive_said d) e4 _ m (drive-says rows e4 m d v l q n4.named) refl refl refl;
         kept = kept-then e e4 _ (kept-then e e1 e4 n1.kept (kept-then e1 e2 e4 n2.kept (kept-then e2 e3 e4 n3.kept n4.kept))) (puts-kept _ e4);
       }
 
@@ -206,8 +206,8 @@ module _ (u : UnitText) (steps : Part → List PartStep) (few : HasFewArgs u) (G
         let put : Says-of (rows ++ registered r.part (map (trigger_of r) (g ∷ gs)) ∷ []) (puts (reg_text (signal e3 r.part) (map (trigger_text r e3) (g ∷ gs))) e3) =
         λ y a.
         let m = n3.inv y (begins-before (frame u steps few Good) few y e3.lines _ a) in
-        puts-says u steps few Good rows (rows ++ registered r.part (map (trigger_of r) (g ∷ gs)) ∷ []) e3 _ m
-        (register-says rows e3 m r (g ∷ gs) (k.terms r.value n1.value) (k.terms r.delay n1.delay) n3.named all) in
+        puts-says u steps few Good rows (registered r.part (map (trigger_of r) (g ∷ gs))) e3 _ m
+        (register-says rows e3 m r (g ∷ gs) (k.terms r.value n1.value) (k.terms r.delay n1.delay) n3.named all) refl refl refl in
         subst (λ (l : List TriggerTree). Says-of (rows ++ registered r.part (map (trigger_of r) l) ∷ [])
         (let x = need_part s r.part (fold (need_trigger s r) e l) in puts (reg_text (signal x r.part) (map (trigger_text r x) l)) x)) (sym q) put
 

@@ -1,5 +1,6 @@
 -- What the lines of an entity say so far: under the name of each term the term read again from its leaves, under the name of each part the part.
-use Rattle.std.proofs.Common.{◌≡◌, ℕ, ◌+◌, ◌*◌, ◌<◌, ◌≤◌, ◌^◌, Bool, true, false, if◌then◌else◌, List, [], ◌∷◌, ◌++◌, length, Option, Some, None, slice_get, refl, ap, sym, ◌∙◌, subst, arith, length-append}
+use Rattle.std.proofs.Common.{◌≡◌, ℕ, ◌+◌, ◌*◌, ◌<◌, ◌≤◌, ◌^◌, Bool, true, false, ◌||◌, if◌then◌else◌, List, [], ◌∷◌, ◌++◌, length, Option, Some, None, slice_get, refl, ap, sym, ◌∙◌, subst, arith, length-append}
+use Rattle.std.specs.List.{list_any}
 use Rattle.lh_types.specs.Types.{TypeTree, signal_type}
 use Rattle.lh_unit_names.specs.Names.{same_name}
 use Rattle.lh_unit_names.proofs.NameLists.{same_name-is, same_name-refl}
@@ -19,8 +20,42 @@ use Rattle.lh_emit_def.proofs.Induction.{IsNamed}
 use Rattle.lh_emit_def.proofs.ValueNames.{names_differ, free_from-within}
 use Rattle.lh_emit_def.proofs.PassState.{Frame, HasFewArgs, Begins, MayName, next-may, begins-before}
 use Rattle.lh_cert_terms.specs.Rebuilding.{rebuilt}
-use Rattle.lh_cert_rows.specs.Rows.{EntityRow}
+use Rattle.lh_cert_rows.specs.Rows.{EntityRow, driven_by, registered}
 use Rattle.lh_cert_rows.specs.Reading.{EntityText, reads_line, reads_lines}
+use Rattle.lh_cert_def.specs.Headers.{adds_hierarchy, is_drive, is_register, has_hierarchy, has_drive, has_register}
+
+-- ---- kinds of lines and rows
+
+abbrev pub is_drive_row : EntityRow → Bool
+is_drive_row (driven_by d) = true
+is_drive_row (registered p gs) = false
+
+abbrev pub is_register_row : EntityRow → Bool
+is_register_row (driven_by d) = false
+is_register_row (registered p gs) = true
+
+-- an instruction that is no `sig`, `inst`, `drv` or `reg`
+abbrev pub IsQuiet : InstText → Type 0
+IsQuiet i = (adds_hierarchy i ≡ false) × (is_drive i ≡ false) × (is_register i ≡ false)
+
+any-none : {A : Type 0} (f : A → Bool) (xs : List A) (x : A) → f x ≡ false → list_any f (xs ++ x ∷ []) ≡ list_any f xs
+any-none f [] x h = rw h refl
+any-none f (y ∷ ys) x h = ap (λ b. f y || b) (any-none f ys x h)
+
+any-one : {A : Type 0} (f : A → Bool) (xs : List A) (x : A) → list_any f (xs ++ x ∷ []) ≡ (list_any f xs || f x)
+any-one f [] x = ap (λ b. b) (or-none (f x))
+  where
+    or-none : (b : Bool) → (b || false) ≡ (false || b)
+    or-none true = refl
+    or-none false = refl
+any-one f (y ∷ ys) x = ap (λ b. f y || b) (any-one f ys x) ∙ or-assoc (f y) (list_any f ys) (f x)
+  where
+    or-assoc : (a b c : Bool) → (a || (b || c)) ≡ ((a || b) || c)
+    or-assoc true b c = refl
+    or-assoc false b c = refl
+
+any-same : {A B : Type 0} (f : A → Bool) (g : B → Bool) (xs : List A) (ys : List B) (x : A) (y : B) → list_any f xs ≡ list_any g ys → f x ≡ g y → list_any f (xs ++ x ∷ []) ≡ list_any g (ys ++ y ∷ [])
+any-same f g xs ys x y h k = any-one f xs x ∙ (λ i. h i || k i) ∙ sym (any-one g ys y)
 
 -- lines one after the other
 pub read-then : (e : EntityText) (xs ys : List LineText) → reads_lines e (xs ++ ys) ≡ reads_lines (reads_lines e xs) ys
@@ -51,6 +86,9 @@ module _ (u : UnitText) (steps : Part → List PartStep) (few : HasFewArgs u) (G
     pub room : e.next ≤ length e.lines * (length u.args + 1)
     pub probed : Each Good (said e.lines).probes
     pub asked : (p : Part) → IsNamed e (now_of p) → Among p (said e.lines).probes
+    pub hierarchy : has_hierarchy e.lines ≡ false
+    pub drives : has_drive e.lines ≡ list_any is_drive_row rows
+    pub registers : has_register e.lines ≡ list_any is_register_row rows
 
   -- of every entity that begins so
   abbrev pub Inv : List EntityRow → Emitted → Type 0
@@ -69,7 +107,7 @@ module _ (u : UnitText) (steps : Part → List PartStep) (few : HasFewArgs u) (G
       at false s = rw s p
 
   module _ (rows : List EntityRow) (y : UnitText) (e : Emitted) (i : InstText) (x : Known) (ps : List Part) (b : Begins frame few y (gives source i e).lines) (m : Says rows e)
-      (g : SaysKnown i x ps (said e.lines)) (good : Each Good ps) (on : (p : Part) → Among p (said e.lines).probes → Among p ps) where
+      (g : SaysKnown i x ps (said e.lines)) (good : Each Good ps) (on : (p : Part) → Among p (said e.lines).probes → Among p ps) (quiet : IsQuiet i) where
     abbrev name : List ℕ
     name = next_name source e
 
@@ -120,6 +158,9 @@ module _ (u : UnitText) (steps : Part → List PartStep) (few : HasFewArgs u) (G
       room = room-on;
       probed = subst (λ (z : List Part). Each Good z) (sym (ap (λ (q : EntityText). q.probes) passed)) good;
       asked = λ p n. among-new p (on p (m.asked p (record { name = n.name; is = n.is })));
+      hierarchy = any-none (λ (l : LineText). adds_hierarchy l.inst) e.lines line quiet.0 ∙ m.hierarchy;
+      drives = any-none (λ (l : LineText). is_drive l.inst) e.lines line quiet.1 ∙ m.drives;
+      registers = any-none (λ (l : LineText). is_register l.inst) e.lines line quiet.2 ∙ m.registers;
     }
 
   -- a term that is known has a name
@@ -134,6 +175,9 @@ module _ (u : UnitText) (steps : Part → List PartStep) (few : HasFewArgs u) (G
     room = m.room;
     probed = m.probed;
     asked = λ p k. there p k (same_tree t (now_of p)) refl;
+    hierarchy = m.hierarchy;
+    drives = m.drives;
+    registers = m.registers;
   }
     where
       at : (x : Tree) (k : List ℕ) → (if same_tree t x then Some n else e.terms x) ≡ Some k → (b : Bool) → same_tree t x ≡ b → (said e.lines).known k ≡ Some (known_value (rebuilt x))
@@ -158,6 +202,9 @@ module _ (u : UnitText) (steps : Part → List PartStep) (few : HasFewArgs u) (G
     room = m.room;
     probed = m.probed;
     asked = λ q k. m.asked q (record { name = k.name; is = k.is });
+    hierarchy = m.hierarchy;
+    drives = m.drives;
+    registers = m.registers;
   }
     where
       at : (x : Part) (k : List ℕ) → (if same_part p x then Some n else e.parts x) ≡ Some k → (b : Bool) → same_part p x ≡ b → (said e.lines).known k ≡ Some (known_part x)
@@ -170,17 +217,18 @@ module _ (u : UnitText) (steps : Part → List PartStep) (few : HasFewArgs u) (G
   -- an instruction that gives the value of a term
   pub term-says : (rows : List EntityRow) (y : UnitText) (e : Emitted) (t : Tree) (i : InstText) (ps : List Part) → Begins frame few y (gives source i e).lines → Says rows e →
       SaysKnown i (known_value (rebuilt t)) ps (said e.lines) → Each Good ps → ((p : Part) → Among p (said e.lines).probes → Among p ps) → ((p : Part) → t ≡ now_of p → Among p ps) →
-      Says rows (gives_term source t i e)
-  term-says rows y e t i ps b m g good on w =
-      names-term rows (gives source i e) t (next_name source e) (gives-says rows y e i _ ps b m g good on) (known-new rows y e i _ ps b m g good on)
-      (λ p q. among-new rows y e i _ ps b m g good on p (w p q))
+      IsQuiet i → Says rows (gives_term source t i e)
+  term-says rows y e t i ps b m g good on w quiet =
+      names-term rows (gives source i e) t (next_name source e) (gives-says rows y e i _ ps b m g good on quiet) (known-new rows y e i _ ps b m g good on quiet)
+      (λ p q. among-new rows y e i _ ps b m g good on quiet p (w p q))
 
-  -- an instruction that gives none, and says these rows
-  pub puts-says : (rows more : List EntityRow) (e : Emitted) (i : InstText) → Says rows e →
-      reads_line (said e.lines) i None ≡ record { known = (said e.lines).known; probes = (said e.lines).probes; rows = more } → Says more (puts i e)
-  puts-says rows more e i m g =
+  -- an instruction that gives none, and says one more row
+  pub puts-says : (rows : List EntityRow) (r : EntityRow) (e : Emitted) (i : InstText) → Says rows e →
+      reads_line (said e.lines) i None ≡ record { known = (said e.lines).known; probes = (said e.lines).probes; rows = rows ++ r ∷ [] } →
+      adds_hierarchy i ≡ false → is_drive i ≡ is_drive_row r → is_register i ≡ is_register_row r → Says (rows ++ r ∷ []) (puts i e)
+  puts-says rows r e i m g a b c =
       let line : LineText = record { result = None; inst = i } in
-      let passed : said (e.lines ++ line ∷ []) ≡ record { known = (said e.lines).known; probes = (said e.lines).probes; rows = more } = read-then begun e.lines (line ∷ []) ∙ g in
+      let passed : said (e.lines ++ line ∷ []) ≡ record { known = (said e.lines).known; probes = (said e.lines).probes; rows = rows ++ r ∷ [] } = read-then begun e.lines (line ∷ []) ∙ g in
       let on = λ (n : List ℕ). ap (λ (q : EntityText). q.known n) passed in
       let same = sym (ap (λ (q : EntityText). q.probes) passed) in
       let q : length (e.lines ++ line ∷ []) ≡ length e.lines + 1 = length-append e.lines (line ∷ []) in
@@ -193,4 +241,7 @@ module _ (u : UnitText) (steps : Part → List PartStep) (few : HasFewArgs u) (G
         room = rw q (omega (arith, m.room));
         probed = subst (λ (z : List Part). Each Good z) same m.probed;
         asked = λ p n. subst (λ (z : List Part). Among p z) same (m.asked p (record { name = n.name; is = n.is }));
+        hierarchy = any-none (λ (l : LineText). adds_hierarchy l.inst) e.lines line a ∙ m.hierarchy;
+        drives = any-same (λ (l : LineText). is_drive l.inst) is_drive_row e.lines rows line r m.drives b;
+        registers = any-same (λ (l : LineText). is_register l.inst) is_register_row e.lines rows line r m.registers c;
       }

@@ -192,7 +192,7 @@ comb-senses test u y steps waited ds args h fit ws gs ps rs =
     }
 
 -- no part is left
-pub none-left : (P : Part → Type 0) (ps : List Part) → Each (λ p. P p × ⊥) ps → ps ≡ []
+none-left : (P : Part → Type 0) (ps : List Part) → Each (λ p. P p × ⊥) ps → ps ≡ []
 none-left P [] h = refl
 none-left P (p ∷ ps) h = absurd h.0.1
 
