@@ -1,0 +1,3 @@
+pub mod SameHeaders
+pub mod RowsWithThemselves
+pub mod Lowered
