@@ -42,6 +42,13 @@ pub room-more : (k n : ℕ) (a : Arena) (f : UnitId) → (k ≡ 0 → ⊥) → n
 room-more zero n a f h e = absurd (h refl)
 room-more (suc k) n a f h e = ap (λ m. m + 1) e ∙ ap (λ j. unit_room (call_room j a) a f.0 + 1) (sym (less_one k)) ∙ sym (room-next k a f)
 
+-- a call takes the room of the copy, and one block more
+pub room-of_call : (k : ℕ) (a b : Arena) (f g : UnitId) (o : Option UnitId) → (k ≡ 0 → ⊥) → b ≡ a → g ≡ f → o ≡ Some f → unit_room (call_room (k - 1) b) b g.0 + 1 ≡ call_room k a o
+room-of_call k a b f g o n e q h =
+    room-more k (unit_room (call_room (k - 1) b) b g.0) a f n
+    (ap (λ (x : Arena). unit_room (call_room (k - 1) x) x g.0) e ∙ ap (λ (x : UnitId). unit_room (call_room (k - 1) a) a x.0) q)
+    ∙ sym (ap (call_room k a) h)
+
 -- one more id
 pub ids-next : (id : ℕ → ValueId) (n k : ℕ) (x : ValueId) (xs ys : List ValueId) → xs ≡ map id (range_with_len 0 n) → n ≡ k → x ≡ id k → ys ≡ xs ++ x ∷ [] → ys ≡ map id (range_with_len 0 (n + 1))
 ids-next id n k x xs ys e f h g = g ∙ (λ i. e i ++ h i ∷ []) ∙ sym (map-range_with_len_more id 0 n k (zero_first n ∙ f))

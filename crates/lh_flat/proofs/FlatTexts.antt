@@ -8,7 +8,7 @@ use Rattle.lh_unit.specs.Activation.{functions}
 use Rattle.lh_unit.specs.Table.{HasBlocks, ArgsWithin}
 use Rattle.lh_unit.specs.Within.{Each}
 use Rattle.lh_unit.specs.Arena.{Arena, IsArena, contents, table_at, naming, blocks_at, args_at, unit_count, value_count, unit_name_at, value_name_at, unit_text_at, kind_at}
-use Rattle.lh_unit.specs.WellFormed.{IsFaultless}
+use Rattle.lh_unit.specs.WellFormed.{IsSpelled, IsFaultless}
 use Rattle.lh_unit.specs.declared.inst.UnitId.{UnitId}
 use Rattle.lh_unit.specs.declared.inst.UnitKind.{UnitKind}
 use Rattle.lh_unit.specs.declared.inst.UnitKind.TheVariants as kind
@@ -31,7 +31,7 @@ use Rattle.lh_unit_graph.specs.Measures.{Measures}
 use Rattle.lh_flat.specs.Measures.{measuring, fault_of}
 use Rattle.lh_flat.specs.Marks.{UnitsAreNamed}
 use Rattle.lh_flat.specs.Below.{IdsBelow}
-use Rattle.lh_flat.specs.Made.{IsMade}
+use Rattle.lh_flat.specs.Made.{IsMade, TopHasRoom}
 use Rattle.lh_flat.proofs.Bounds.{name_or_mark, name-inside, inside, blocks-below}
 use Rattle.lh_flat.proofs.BuilderRoom.{length-own_ids}
 use Rattle.lh_flat.proofs.NumberNames.{labels, read, named-left, named-right, moved, long-by_text}
@@ -41,7 +41,9 @@ use Rattle.lh_flat.proofs.NestedCopies.{nests_below, below-any, CopyStarts, copy
 use Rattle.lh_flat.proofs.Apart.{apart-at}
 use Rattle.lh_flat.proofs.Distinct.{process-values, copies-values, unit-labels, copies-labels}
 use Rattle.lh_flat.proofs.Formed.{units-right}
-use Rattle.lh_flat.proofs.RefusalLaws.{Refuses-measured, Refuses-deep, Refuses-large, Flattens-measured, not-deep}
+use Rattle.lh_flat.proofs.RefusalLaws.{Refuses-measured, Refuses-deep, Refuses-large, Flattens-measured, not-deep, length-few}
+use Rattle.lh_flat.proofs.Endings.{units-end}
+use Rattle.lh_flat.proofs.Enough.{top-room}
 use Rattle.lh_flat.proofs.CalledFunctions.{zero_first}
 
 -- names at their places
@@ -213,3 +215,12 @@ module _ (a : Arena) (g h : List CallNode) (top : ℕ) (o : IsArena a) (f : IsFa
   flat-below n m w d b u t eb eu t-made =
       made_below a o f n top l (process-blocks (kind_at a top) p) p (not-deep a g top o f graph l p m w (le-ltb 65 m.depth d)) t
       (subst (λ x. IsMade a x t) eu (subst (λ x. IsMade x u.0 t) eb t-made))
+
+  -- where the process itself has no more values than this, ids are left for all that is copied
+  pub flat-room : IsSpelled (contents a) → (m : CallMeasure) → Measures measuring g top (Ok m) → m.depth ≤ 65 → m.insts ≤ 65536 → (b : Arena) (u : UnitId) (n : ℕ) → b ≡ a → u.0 ≡ top
+      → n ≡ value_count b u.0 → n ≤ 4294901759 → TopHasRoom b u.0
+  flat-room s m w d i b u n eb eu en h =
+      subst (λ x. TopHasRoom x u.0) (sym eb) (subst (TopHasRoom a) (sym eu)
+      (top-room a o (functions (contents a)) (units-right a o f) (units-end a o (s, f)) 65 top l (process-blocks (kind_at a top) p)
+      (subst (λ x. x ≤ 4294901759) (en ∙ ap (λ x. value_count x u.0) eb ∙ ap (value_count a) eu) h) refl
+      (length-few a g top o f graph l p m w (le-ltb 65 m.depth d) 65 refl i)))

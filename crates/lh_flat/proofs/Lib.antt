@@ -7,6 +7,7 @@ pub mod Names
 pub mod NumberNames
 pub mod CopiedIds
 pub mod BuilderRoom
+pub mod Rooms
 pub mod BlockCopies
 pub mod CopyIds
 pub mod CopyValues
@@ -20,6 +21,8 @@ pub mod Marks
 pub mod Apart
 pub mod ResultNames
 pub mod Distinct
-pub mod FlatTexts
 pub mod Bounds
 pub mod Loops
+pub mod Endings
+pub mod Enough
+pub mod FlatTexts

@@ -1,14 +1,14 @@
 //! A copy of a unit in a flat text.
-ghost use Rattle.std.specs.Prelude.{◌≡◌, ◌<◌, ◌++◌, [], length, IfOk, OnOk};
+ghost use Rattle.std.specs.Prelude.{◌≡◌, ◌+◌, ◌^◌, ◌<◌, ◌++◌, [], length, IfOk, OnOk};
 ghost use Rattle.lh_unit.specs.Arena.{table_at, value_count, inst_count, blocks_at, block_insts_at};
 ghost use Rattle.lh_unit.specs.Within.{InstWithin};
 ghost use Rattle.lh_flat.specs.Graph.{BlockPlaced};
 ghost use Rattle.lh_flat.specs.Renames.{sizes_in, max_units};
 ghost use Rattle.lh_flat.specs.Fits.{IdsFit};
-ghost use Rattle.lh_flat.specs.Building.{line_of, call_room, own_ids, new_id, new_ids, ids_for, call_args, edge_given, insts_give, blocks_give, merge_in, line_in};
+ghost use Rattle.lh_flat.specs.Building.{line_of, unit_room, call_room, own_ids, new_id, new_ids, ids_for, call_args, edge_given, insts_give, blocks_give, merge_in, line_in};
 
 use crate::flat::{FlatInst, Merge, MergeEdge, MergeList};
-use crate::layout::{layout, plus};
+use crate::layout::layout;
 use crate::rename::Renaming;
 use lh_types::memory::NoMemory;
 use lh_unit::inst::{BlockId, Inst, InstId, ValueDef, ValueId, ValueIdList};
@@ -51,33 +51,29 @@ pub fn new_ids(
     args: &[ValueId],
     from: u32,
 ) -> Result<ValueIdList, NoMemory>
+    requires { from + inst_count view.module.now view.unit.0 < 2 ^ 32 }
     ensures { IfOk result (λ ids. ids ≡ new_ids (table_at view.entry.module.now view.entry.unit.0) args.now from) }
 {
     let mut ids = ValueIdList::new(alloc);
     for value in 0..view.values() {
-        let id = new_id(view, args, from, ValueId(value))?;
-        ids.push(id)?;
+        ids.push(new_id(view, args, from, ValueId(value)))?;
     }
     Ok(ids)
 }
 
 /// The id of a value of a copy. A value that nothing defines is used nowhere.
-fn new_id(
-    view: UnitView<'_>,
-    args: &[ValueId],
-    from: u32,
-    value: ValueId,
-) -> Result<ValueId, NoMemory>
-    requires { value.0 < value_count view.module.now view.unit.0 }
-    ensures { IfOk result (λ id. id ≡ new_id (table_at view.entry.module.now view.entry.unit.0) args.now from value.0) }
+fn new_id(view: UnitView<'_>, args: &[ValueId], from: u32, value: ValueId) -> ValueId
+    requires value { value.0 < value_count view.module.now view.unit.0 }
+    requires few { from + inst_count view.module.now view.unit.0 < 2 ^ 32 }
+    ensures { result ≡ new_id (table_at view.entry.module.now view.entry.unit.0) args.now from value.0 }
 {
     match view.value_def(value) {
         ValueDef::Arg(place) => match args.get(place as usize) {
-            Some(id) => Ok(*id),
-            None => Ok(ValueId(0)),
+            Some(id) => *id,
+            None => ValueId(0),
         },
-        ValueDef::Inst(inst) => Ok(ValueId(plus(from, inst.0)?)),
-        ValueDef::Missing => Ok(ValueId(0)),
+        ValueDef::Inst(inst) => ValueId(from + inst.0),
+        ValueDef::Missing => ValueId(0),
     }
 }
 
@@ -106,7 +102,8 @@ impl<'m> UnitCopy<'m> {
         values: ValueIdList,
         place: CopyPlace,
     ) -> Result<UnitCopy<'m>, NoMemory>
-        requires { length values ≡ value_count view.module.now view.unit.0 }
+        requires values { length values ≡ value_count view.module.now view.unit.0 }
+        requires few { place.at + unit_room (call_room depth view.module.now) view.module.now view.unit.0 < 2 ^ 32 }
         ensures { let a = view.entry.module.now in IfOk result (λ c. IsCopy a view.entry.unit (ids_for (call_room depth a) a view.entry.unit.0 values place.at place.back) c) }
     {
         let spans = layout(alloc, depth, view, place.at)?;

@@ -1,4 +1,4 @@
-use Rattle.std.proofs.Common.{length, refl}
+use Rattle.std.proofs.Common.{◌+◌, length, refl}
 use Rattle.std.proofs.lemmas.Option.{slice_get_read, slice_get_past}
 use Rattle.lh_unit.specs.Arena.{table_at}
 use Rattle.lh_flat.proofs.CopiedIds.{id-argument, id-unbound, id-result, id-missing}
@@ -15,10 +15,10 @@ returns-in-None c =
     id-unbound (table_at c.args.view.module.now c.args.view.unit.0) (c.value_def.ensures.sound.tables c.args.view.unit.0 c.args.view.in_place) c.args.args.now c.args.from c.args.value.0 c.in-Arg.place
     c.in-Arg.ensures.definition (slice_get_past c.args.args.now c.in-Arg.place c.in-None.ensures.lookup.3)
 
-pub returns-in_ok-plus-in-Inst : goal.returns-in_ok-plus-in-Inst
-returns-in_ok-plus-in-Inst c =
+pub returns-in-Inst : goal.returns-in-Inst
+returns-in-Inst c =
     id-result (table_at c.args.view.module.now c.args.view.unit.0) (c.value_def.ensures.sound.tables c.args.view.unit.0 c.args.view.in_place) c.args.args.now c.args.from c.args.value.0 c.in-Inst.inst
-    c.in_ok-plus-in-Inst.field-0 c.in-Inst.ensures.definition c.in_ok-plus-in-Inst.ensures
+    (c.args.from + c.in-Inst.inst.0) c.in-Inst.ensures.definition refl
 
 pub returns-in-Missing : goal.returns-in-Missing
 returns-in-Missing c =
