@@ -1,0 +1,3 @@
+pub mod DriveWishes
+pub mod EntityRows
+pub mod KeptRegisters
