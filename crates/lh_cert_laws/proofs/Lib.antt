@@ -1,3 +1,5 @@
 pub mod DriveWishes
 pub mod EntityRows
 pub mod KeptRegisters
+pub mod AgreedRegisters
+pub mod Edges
