@@ -34,8 +34,8 @@ use Rattle.lh_cert_def.specs.RowsAgree.{each_with_partner, same_mode, is_edge, i
 use Rattle.lh_cert_laws.proofs.EntityRows.{Register, made, RegisterTyped}
 
 pub any-of : {X : Type 0} (p : X → Bool) (xs : List X) → list_any p xs ≡ true → (x : X) × Among x xs × (p x ≡ true)
-any-of p [] h = absurd (false≢true h)
-any-of p (x ∷ xs) h = by (or_cases (p x) (list_any p xs) h) (any-of p xs)
+any-of {X = X} p [] h = absurd (false≢true h)
+any-of {X = X} p (x ∷ xs) h = by (or_cases (p x) (list_any p xs) h) (any-of p xs)
   where
     by : (p x ≡ true) ⊎ (list_any p xs ≡ true) → (list_any p xs ≡ true → (y : X) × Among y xs × (p y ≡ true)) → (y : X) × Among y (x ∷ xs) × (p y ≡ true)
     by (inl e) go = (x, inl refl, e)

@@ -80,19 +80,21 @@ module _ (rebuilds : RebuiltKeepsMeaning) (s : Source) where
         let delay = (rebuilds r.delay h.delay.typed).mean now fit in
         λ i. with_drive w (due_by t (delay i)) (range_in args r.part).lo (value_bits (value i))
 
+    -- some trigger of the process fires
+    abbrev some_fires : List TriggerTree → Bool
+    some_fires gs = list_any (λ (g : TriggerTree). emitted.fires (Some (emitted.sees past g.part)) now g) gs
+
     row-made : (w : Wish) (r : EdgeRowTree) → RowIsGiven s r → (gs : List TriggerTree) → Each (TriggerIsGiven s) gs
         → stored now args t r.part w (first_fired (Some past) now (map (trigger_of r) gs))
-        ≡ (if list_any (λ (g : TriggerTree). emitted.fires (Some (emitted.sees past g.part)) now g) gs then register_drives now args t w r else w)
+        ≡ (if some_fires gs then register_drives now args t w r else w)
     row-made w r h [] k = refl
     row-made w r h (g ∷ gs) k =
         ap (λ b. stored now args t r.part w (if b then Some (trigger_of r g) else first_fired (Some past) now (map (trigger_of r) gs))) (trigger-fires r g k.0)
         ∙ by (emitted.fires (Some (emitted.sees past g.part)) now g) (row-made w r h gs k.1)
       where
-        abbrev others : Bool
-        others = list_any (λ (g : TriggerTree). emitted.fires (Some (emitted.sees past g.part)) now g) gs
-
-        by : (b : Bool) → stored now args t r.part w (first_fired (Some past) now (map (trigger_of r) gs)) ≡ (if others then register_drives now args t w r else w)
-            → stored now args t r.part w (if b then Some (trigger_of r g) else first_fired (Some past) now (map (trigger_of r) gs)) ≡ (if b || others then register_drives now args t w r else w)
+        by : (b : Bool) → stored now args t r.part w (first_fired (Some past) now (map (trigger_of r) gs)) ≡ (if some_fires gs then register_drives now args t w r else w)
+            → stored now args t r.part w (if b then Some (trigger_of r g) else first_fired (Some past) now (map (trigger_of r) gs))
+            ≡ (if b || some_fires gs then register_drives now args t w r else w)
         by true e = trigger-drives w r h g
         by false e = e
 

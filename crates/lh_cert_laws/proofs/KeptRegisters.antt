@@ -156,17 +156,17 @@ module _ (P : TriggerRow → Type 0) (modes : HoldsOfModes P) where
   pub triggers-have : (gs : List TriggerRow) → Each P gs → Each P (kept_triggers gs)
   triggers-have gs h = each-filter P can_fire (flat_map singles gs) (singles-have gs h)
 
-module _ (P : Part → TriggerRow → Type 0) (modes : (p : Part) → HoldsOfModes (P p)) where
-  -- each trigger of a register has it
-  abbrev pub AllHave : Register → Type 0
-  AllHave r = Each (P r.0) r.1
+-- each trigger of a register has it
+abbrev pub AllHave : (Part → TriggerRow → Type 0) → Register → Type 0
+AllHave P r = Each (P r.0) r.1
 
-  each-have : (rs : List Register) → Each AllHave rs → Each AllHave (map kept_register rs)
+module _ (P : Part → TriggerRow → Type 0) (modes : (p : Part) → HoldsOfModes (P p)) where
+  each-have : (rs : List Register) → Each (AllHave P) rs → Each (AllHave P) (map kept_register rs)
   each-have [] h = tt
   each-have (r ∷ rs) h = (triggers-have (P r.0) (modes r.0) r.1 h.0, each-have rs h.1)
 
-  pub registers-have : (rs : List Register) → Each AllHave rs → Each AllHave (kept_registers rs)
-  registers-have rs h = each-filter AllHave has_triggers (map kept_register rs) (each-have rs h)
+  pub registers-have : (rs : List Register) → Each (AllHave P) rs → Each (AllHave P) (kept_registers rs)
+  registers-have rs h = each-filter (AllHave P) has_triggers (map kept_register rs) (each-have rs h)
 
 pub kept-registers-typed : (rs : List Register) → Each RegisterTyped rs → Each RegisterTyped (kept_registers rs)
 kept-registers-typed rs h =

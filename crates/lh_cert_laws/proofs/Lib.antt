@@ -3,3 +3,4 @@ pub mod EntityRows
 pub mod KeptRegisters
 pub mod AgreedRegisters
 pub mod Edges
+pub mod UnitStands
