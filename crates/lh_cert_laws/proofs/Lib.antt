@@ -4,3 +4,5 @@ pub mod KeptRegisters
 pub mod AgreedRegisters
 pub mod Edges
 pub mod UnitStands
+pub mod Headers
+pub mod CertifiedTrace

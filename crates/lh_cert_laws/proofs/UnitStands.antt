@@ -71,7 +71,7 @@ lines-plain (l ∷ ls) e =
 
 -- ---- drives that are typed
 
-given-typed : (s : Source) (ds : List Drive) → Each (DriveIsGiven s) ds → Each DriveTyped ds
+pub given-typed : (s : Source) (ds : List Drive) → Each (DriveIsGiven s) ds → Each DriveTyped ds
 given-typed s [] h = tt
 given-typed s (d ∷ ds) h = (
   record {
