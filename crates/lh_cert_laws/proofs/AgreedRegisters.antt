@@ -1,5 +1,5 @@
 -- Registers that agree drive the same: one fires exactly where the other does, and whichever trigger fires first drives one value after one delay.
-use Rattle.std.proofs.Common.{◌≡◌, ◌⊎◌, inl, inr, List, [], ◌∷◌, ◌++◌, fold, Bool, true, false, ◌&&◌, ◌||◌, Option, Some, None, unwrap_or, refl, ap, sym, ◌∙◌, subst}
+use Rattle.std.proofs.Common.{◌≡◌, ◌⊎◌, inl, inr, List, [], ◌∷◌, ◌++◌, fold, Bool, true, false, ◌&&◌, Option, Some, None, unwrap_or, refl, ap, sym, ◌∙◌, subst}
 use Rattle.std.specs.Bool.{if◌then◌else◌}
 use Rattle.std.specs.List.{list_any, list_all}
 use Rattle.std.specs.Option.{option_map}
@@ -16,7 +16,6 @@ use Rattle.lh_unit.specs.declared.inst.Mode.TheVariants.{Rise, Fall, Both, High,
 use Rattle.lh_unit.specs.Held.{as_test}
 use Rattle.lh_unit.specs.Pass.{mode_holds}
 use Rattle.lh_unit.specs.Within.{Each}
-use Rattle.lh_term.specs.Tree.{Tree}
 use Rattle.lh_term.specs.Mean.{Valuation, IsFitting, mean}
 use Rattle.lh_term.specs.Same.{same_part, same_part-is}
 use Rattle.lh_term.specs.SameTree.{same_tree, same_tree-is}
@@ -30,7 +29,7 @@ use Rattle.lh_cert_agree.specs.Laws.{AgreedTermsMeanSame}
 use Rattle.lh_cert_rows.specs.Rows.{TriggerRow}
 use Rattle.lh_cert_rows.specs.Means.{sees, fires, first_fired, stored}
 use Rattle.lh_cert_rows.specs.Passing.{TriggerTyped}
-use Rattle.lh_cert_def.specs.RowsAgree.{each_with_partner, same_mode, is_edge, is_match, matched, drive_same, register_agrees, registers_agree}
+use Rattle.lh_cert_def.specs.RowsAgree.{same_mode, is_edge, is_match, matched, drive_same, register_agrees, registers_agree}
 use Rattle.lh_cert_laws.proofs.EntityRows.{Register, made, RegisterTyped}
 
 pub any-of : {X : Type 0} (p : X → Bool) (xs : List X) → list_any p xs ≡ true → (x : X) × Among x xs × (p x ≡ true)

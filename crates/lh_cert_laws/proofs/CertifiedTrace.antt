@@ -1,13 +1,11 @@
 -- An edited module for which there is no cause has the same trace: unit by unit its units are the module's, or may stand for them.
-use Rattle.std.proofs.Common.{◌≡◌, ◌⊎◌, inl, inr, ℕ, ◌<◌, ◌+◌, List, [], ◌∷◌, map, Bool, true, false, not, ◌||◌, Option, Some, None, refl, ap, sym, ◌∙◌, subst}
-use Rattle.std.specs.Bool.{if◌then◌else◌}
-use Rattle.std.proofs.lemmas.Bool.{false≢true, or_parts, not-false}
+use Rattle.std.proofs.Common.{◌≡◌, ◌⊎◌, inl, inr, ℕ, ◌<◌, ◌+◌, List, [], ◌∷◌, map, Bool, true, false, not, ◌||◌, Option, None, refl, sym, ◌∙◌, subst}
+use Rattle.std.proofs.lemmas.Bool.{or_parts, not-false}
 use Rattle.std.proofs.lemmas.Option.{none-some}
 use Rattle.lh_types.specs.Types.{bit_count}
 use Rattle.lh_types.specs.declared.part.Range.{Range}
 use Rattle.lh_unit.specs.declared.inst.Item.{Item}
 use Rattle.lh_unit.specs.declared.inst.Item.TheVariants as item
-use Rattle.lh_unit.specs.declared.inst.UnitKind.TheVariants as unit_kind
 use Rattle.lh_unit.specs.Arena.{Arena, contents, unit_count, unit_text_at, item_text_at}
 use Rattle.lh_unit.specs.Contents.{UnitText, ItemText, unit_text, declare_text}
 use Rattle.lh_unit.specs.Hierarchy.{lines_of}
@@ -27,10 +25,10 @@ use Rattle.lh_region_def.specs.Typed.{Among}
 use Rattle.lh_region_def.proofs.Among.{each-among}
 use Rattle.lh_shape.specs.Laws.{MergedDrivesWish, MergedDrivesAreTyped}
 use Rattle.lh_shape.specs.Reasons.{is_empty, first_holding}
-use Rattle.lh_shape.specs.Shapes.{ShapeText, comb, edge, once, left, shape_of_text, shape_by_text, shape_in}
-use Rattle.lh_entity_laws.specs.AnyEntity.{AreWide, IsEntityLike, OnceStandsFor, CombStandsFor, EdgeStandsFor}
+use Rattle.lh_shape.specs.Shapes.{ShapeText, comb, edge, once, left, shape_of_text, shape_by_text}
+use Rattle.lh_entity_laws.specs.AnyEntity.{AreWide, OnceStandsFor, CombStandsFor, EdgeStandsFor}
 use Rattle.lh_entity_laws.specs.Given.{source_in, CombIsGiven, EdgeIsGiven, OnceIsGiven}
-use Rattle.lh_entity_laws.specs.Stands.{IsFlattened, IsEnough, MaxIsEnough}
+use Rattle.lh_entity_laws.specs.Stands.{IsFlattened, MaxIsEnough}
 use Rattle.lh_lower_laws.specs.Same.{IsSourceModule, IsEnoughFor}
 use Rattle.lh_lower_laws.proofs.Outcomes.{ItemPlaced, items-placed, process-kind}
 use Rattle.lh_cert_terms.specs.Laws.{RebuiltKeepsMeaning}

@@ -1,5 +1,5 @@
 -- Drives that agree wish the same: read again from their leaves, without those that never drive, and merged.
-use Rattle.std.proofs.Common.{◌≡◌, List, [], ◌∷◌, map, filter, Bool, true, false, not, ◌&&◌, nat_eq, ℕ, refl, ap, sym, ◌∙◌, subst, arith}
+use Rattle.std.proofs.Common.{◌≡◌, List, [], ◌∷◌, map, filter, Bool, true, false, not, ◌&&◌, nat_eq, ℕ, refl, ap, sym, ◌∙◌, arith}
 use Rattle.std.specs.Bool.{if◌then◌else◌}
 use Rattle.std.proofs.lemmas.Bool.{false≢true}
 use Rattle.std.proofs.lemmas.Bool.Decides.{nat_tests}
@@ -18,10 +18,7 @@ use Rattle.lh_term.specs.SameTree.{same_tree, same_tree-is}
 use Rattle.lh_region_def.specs.Rows.{Drive}
 use Rattle.lh_region_def.specs.Means.{range_in, is_true, due_by, with_row, with_rows}
 use Rattle.lh_region_def.specs.Right.{DriveTyped}
-use Rattle.lh_region_def.specs.Typed.{IsCondition, IsOfType}
 use Rattle.lh_shape.specs.Laws.{MergedDrivesWish, MergedDrivesAreTyped}
-use Rattle.lh_shape.specs.Merging.{merged_drives}
-use Rattle.lh_cert_terms.specs.Rebuilding.{rebuilt}
 use Rattle.lh_cert_terms.specs.Laws.{RebuiltKeepsMeaning}
 use Rattle.lh_cert_agree.specs.Agreeing.{agree}
 use Rattle.lh_cert_agree.specs.Laws.{AgreedTermsMeanSame}

@@ -1,14 +1,12 @@
 -- The registers of a process, and of an entity that agrees with it: at which parts they look, and where they rest.
-use Rattle.std.proofs.Common.{◌≡◌, ◌⊎◌, inl, inr, List, [], ◌∷◌, ◌++◌, map, fold, Bool, true, false, not, ◌&&◌, ◌||◌, Option, Some, None, unwrap_or, refl, ap, sym, ◌∙◌, subst}
+use Rattle.std.proofs.Common.{◌≡◌, List, [], ◌∷◌, map, fold, Bool, true, false, ◌&&◌, ◌||◌, Option, Some, None, unwrap_or, refl, ap, sym, ◌∙◌, subst}
 use Rattle.std.specs.Bool.{if◌then◌else◌}
 use Rattle.std.specs.List.{list_any, list_all, flat_map}
-use Rattle.std.specs.Option.{option_map}
 use Rattle.std.proofs.lemmas.Bool.{false≢true}
 use Rattle.std.proofs.lemmas.List.Folds.{list_all-append}
 use Rattle.lh_time.specs.declared.Instant.{Instant}
 use Rattle.lh_types.specs.Bits.{value_bits}
 use Rattle.lh_types.specs.Same.{and_both}
-use Rattle.lh_types.specs.Types.{int_type}
 use Rattle.lh_types.specs.Wish.{Wish, with_drive}
 use Rattle.lh_types.specs.declared.part.Range.{Range}
 use Rattle.lh_unit.specs.declared.inst.Mode.{Mode}
@@ -19,9 +17,8 @@ use Rattle.lh_unit.specs.Within.{Each}
 use Rattle.lh_unit.proofs.Lists.{Each-append, Each-left, Each-right}
 use Rattle.lh_term.specs.Tree.{Tree, constant, past_of, now_of, operation, choice_of}
 use Rattle.lh_term.specs.Leaves.{AllParts}
-use Rattle.lh_term.specs.Mean.{Valuation, IsFitting, mean}
+use Rattle.lh_term.specs.Mean.{Valuation, IsFitting}
 use Rattle.lh_term.specs.SameTree.{same_tree, same_tree-is}
-use Rattle.lh_term.specs.Types.{type_of}
 use Rattle.lh_term.specs.declared.part.Part.{Part}
 use Rattle.lh_edge.specs.Triggers.{TriggerTree, EdgeRowTree}
 use Rattle.lh_region_def.specs.Means.{range_in, due_by}
@@ -33,9 +30,7 @@ use Rattle.lh_emit_def.specs.Registers as emitted
 use Rattle.lh_emit_def.specs.Registers.{register_made, register_drives}
 use Rattle.lh_emit_def.specs.Laws.{row_parts}
 use Rattle.lh_emit_def.specs.Ways.{TriggerIsGiven, RowIsGiven}
-use Rattle.lh_entity_laws.proofs.OnceActivations.{all-of}
 use Rattle.lh_cert_terms.specs.Laws.{RebuiltKeepsMeaning}
-use Rattle.lh_cert_terms.specs.Rebuilding.{rebuilt}
 use Rattle.lh_cert_agree.specs.Agreeing.{agree}
 use Rattle.lh_cert_rows.specs.Rows.{TriggerRow}
 use Rattle.lh_cert_rows.specs.Means.{sees, fires, first_fired, stored}
@@ -43,8 +38,8 @@ use Rattle.lh_cert_rows.specs.Passing.{TriggerTyped, TriggerReads}
 use Rattle.lh_cert_def.specs.KeptRows.{trigger_of, register_of, kept_registers}
 use Rattle.lh_cert_def.specs.RowsAgree.{same_mode, is_change, is_now, is_edge, is_match, register_agrees, registers_agree}
 use Rattle.lh_cert_laws.proofs.EntityRows.{Register, made, RegisterTyped}
-use Rattle.lh_cert_laws.proofs.KeptRegisters.{HoldsOfModes, AllHave, registers-have}
-use Rattle.lh_cert_laws.proofs.AgreedRegisters.{Agreed, agreed-of}
+use Rattle.lh_cert_laws.proofs.KeptRegisters.{AllHave, registers-have}
+use Rattle.lh_cert_laws.proofs.AgreedRegisters.{agreed-of}
 
 -- ---- the registers of a process
 

@@ -1,6 +1,5 @@
 -- The rows of an entity without `reg`, and of one without `drv`.
-use Rattle.std.proofs.Common.{◌≡◌, ℕ, List, [], ◌∷◌, ◌++◌, fold, Bool, true, false, ◌||◌, Option, Some, None, refl, ap, sym, ◌∙◌, subst}
-use Rattle.std.specs.List.{list_any}
+use Rattle.std.proofs.Common.{◌≡◌, ℕ, List, [], ◌∷◌, fold, Bool, false, Option, Some, None, refl, ap, sym, ◌∙◌}
 use Rattle.std.proofs.lemmas.Bool.{false≢true, or_parts}
 use Rattle.lh_time.specs.declared.Instant.{Instant}
 use Rattle.lh_types.specs.Wish.{Wish}
@@ -13,7 +12,6 @@ use Rattle.lh_unit.proofs.Lists.{Each-append}
 use Rattle.lh_term.specs.Tree.{Tree}
 use Rattle.lh_term.specs.Mean.{Valuation}
 use Rattle.lh_term.specs.declared.part.Part.{Part}
-use Rattle.lh_region_def.specs.Rows.{Drive}
 use Rattle.lh_region_def.specs.Means.{with_rows, with_row as row_wished}
 use Rattle.lh_region_def.specs.Right.{DriveTyped}
 use Rattle.lh_region_def.specs.Known.{part_known, value_known}

@@ -1,9 +1,8 @@
 -- Units of one header have one name and the same arguments; and an entity without `sig` and `inst` is one with the process to elaboration.
-use Rattle.std.proofs.Common.{◌≡◌, List, [], ◌∷◌, Bool, true, false, not, ◌&&◌, ◌||◌, refl, ap, sym, ◌∙◌}
+use Rattle.std.proofs.Common.{◌≡◌, List, [], ◌∷◌, Bool, true, false, not, ◌&&◌, ◌||◌, refl}
 use Rattle.std.proofs.lemmas.Bool.{false≢true}
 use Rattle.lh_types.specs.Same.{and_both, same-is}
 use Rattle.lh_types.specs.Types.{same_type}
-use Rattle.lh_unit_names.specs.declared.name.UnitName.{UnitName}
 use Rattle.lh_unit_names.specs.Names.{same_name}
 use Rattle.lh_unit_names.specs.UnitNames.{same_unit_name}
 use Rattle.lh_unit_names.proofs.NameLists.{same_name-is}

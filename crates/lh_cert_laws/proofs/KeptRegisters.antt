@@ -1,13 +1,12 @@
 -- What is kept of registers drives what they drive: `both` is a rise and a fall, a trigger of the constant gate 0 never fires, and a register
 -- without triggers drives nothing.
-use Rattle.std.proofs.Common.{◌≡◌, ◌⊎◌, inl, inr, List, [], ◌∷◌, ◌++◌, map, filter, fold, Bool, true, false, not, ◌&&◌, ◌||◌, nat_eq, ℕ, Option, Some, None, unwrap_or, refl, ap, sym, ◌∙◌, subst, arith}
+use Rattle.std.proofs.Common.{◌≡◌, List, [], ◌∷◌, ◌++◌, map, filter, fold, Bool, true, false, not, ◌&&◌, ◌||◌, nat_eq, Option, Some, None, unwrap_or, refl, ap, sym, ◌∙◌}
 use Rattle.std.specs.Bool.{if◌then◌else◌}
 use Rattle.std.specs.List.{flat_map}
 use Rattle.std.specs.Option.{option_map}
 use Rattle.std.proofs.lemmas.Bool.{false≢true}
 use Rattle.lh_time.specs.declared.Instant.{Instant}
 use Rattle.lh_types.specs.Same.{and_both}
-use Rattle.lh_types.specs.Types.{TypeTree}
 use Rattle.lh_types.specs.Values.{Datum, int_value, time_value, array_value, tuple_value}
 use Rattle.lh_types.specs.Wish.{Wish}
 use Rattle.lh_types.specs.declared.part.Range.{Range}
@@ -18,9 +17,8 @@ use Rattle.lh_unit.specs.Pass.{mode_holds}
 use Rattle.lh_unit.specs.Within.{Each}
 use Rattle.lh_term.specs.Tree.{Tree, constant, past_of, now_of, operation, choice_of}
 use Rattle.lh_term.specs.Make.{is_bit, is_bit_value}
-use Rattle.lh_term.specs.Mean.{Valuation, mean}
+use Rattle.lh_term.specs.Mean.{Valuation}
 use Rattle.lh_term.specs.declared.part.Part.{Part}
-use Rattle.lh_shape.specs.Reasons.{is_empty}
 use Rattle.lh_cert_rows.specs.Rows.{TriggerRow}
 use Rattle.lh_cert_rows.specs.Means.{sees, fires, first_fired, stored}
 use Rattle.lh_cert_rows.specs.Passing.{TriggerTyped}

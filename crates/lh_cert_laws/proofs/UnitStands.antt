@@ -1,26 +1,16 @@
 -- An entity without a cause may stand for the process in whose place it is.
-use Rattle.std.proofs.Common.{◌≡◌, ◌⊎◌, inl, inr, ℕ, ◌<◌, List, [], ◌∷◌, map, fold, Bool, true, false, not, ◌&&◌, ◌||◌, Option, Some, None, refl, ap, sym, ◌∙◌, subst}
-use Rattle.std.specs.Bool.{if◌then◌else◌}
-use Rattle.std.specs.List.{list_any, flat_map}
+use Rattle.std.proofs.Common.{◌≡◌, List, [], ◌∷◌, map, fold, Bool, true, false, Option, Some, None, refl, ap, sym, ◌∙◌, subst}
 use Rattle.std.proofs.lemmas.Bool.{false≢true, or_parts}
-use Rattle.std.proofs.lemmas.Option.{none-some}
 use Rattle.lh_time.specs.declared.Instant.{Instant}
-use Rattle.lh_types.specs.Types.{TypeTree, bit_count}
-use Rattle.lh_types.specs.Same.{and_both}
-use Rattle.lh_types.specs.Wish.{Wish, no_wish}
+use Rattle.lh_types.specs.Wish.{no_wish}
 use Rattle.lh_types.specs.declared.part.Range.{Range}
-use Rattle.lh_unit.specs.declared.inst.UnitKind.{UnitKind}
-use Rattle.lh_unit.specs.declared.inst.UnitKind.TheVariants as kind
-use Rattle.lh_unit.specs.Arena.{Arena, contents, unit_text_at}
-use Rattle.lh_unit.specs.Contents.{InstText, sig_text, child_text, LineText, ArgText, UnitText, ItemText}
+use Rattle.lh_unit.specs.Contents.{InstText, sig_text, child_text, LineText, UnitText}
 use Rattle.lh_unit.specs.Hierarchy.{lines_of}
-use Rattle.lh_unit.specs.Pass.{pass, probes}
+use Rattle.lh_unit.specs.Pass.{pass}
 use Rattle.lh_unit.specs.Within.{Each}
 use Rattle.lh_unit.specs.World.{bit_numbers}
 use Rattle.lh_trace_laws.proofs.BitSets.{SameSet, IsWithin}
-use Rattle.lh_trace_laws.proofs.MayStandLaw.{is_plain, AllPlain, same_hierarchy}
-use Rattle.lh_flat_laws.specs.Formed.{IsFormed}
-use Rattle.lh_flat.specs.Flat.{FlatText, flat_unit}
+use Rattle.lh_trace_laws.proofs.MayStandLaw.{is_plain, AllPlain}
 use Rattle.lh_term.specs.Mean.{Valuation}
 use Rattle.lh_term.specs.declared.part.Part.{Part}
 use Rattle.lh_term_cover.specs.Bits.{same_bits}
@@ -31,25 +21,23 @@ use Rattle.lh_region_def.specs.Right.{DriveTyped}
 use Rattle.lh_region_def.specs.Typed.{Among}
 use Rattle.lh_region_def.proofs.PartReads.{reads-fit}
 use Rattle.lh_shape.specs.Laws.{MergedDrivesWish, MergedDrivesAreTyped}
-use Rattle.lh_shape.specs.Reasons.{is_empty, first_holding}
+use Rattle.lh_shape.specs.Reasons.{is_empty}
 use Rattle.lh_emit_def.specs.Emitted.{Source}
 use Rattle.lh_emit_def.specs.Registers.{registers_wish}
-use Rattle.lh_emit_def.specs.Laws.{row_parts}
 use Rattle.lh_emit_def.specs.Ways.{DriveIsGiven, RowIsGiven}
-use Rattle.lh_entity_laws.specs.AnyEntity.{IsEntityLike, AreWide, DoesComb, DoesOnce, DoesEdge}
+use Rattle.lh_entity_laws.specs.AnyEntity.{DoesComb, DoesOnce, DoesEdge}
 use Rattle.lh_entity_laws.proofs.Bits.{bits_of, both-within, same-left, same-right, there-bits}
 use Rattle.lh_cert_terms.specs.Laws.{RebuiltKeepsMeaning}
 use Rattle.lh_cert_agree.specs.Laws.{AgreedTermsMeanSame}
-use Rattle.lh_cert_rows.specs.Rows.{EntityRow, drives_in, registers_in}
-use Rattle.lh_cert_rows.specs.Means.{rows_wish, row_made, seen_by}
+use Rattle.lh_cert_rows.specs.Rows.{drives_in, registers_in}
+use Rattle.lh_cert_rows.specs.Means.{rows_wish, seen_by}
 use Rattle.lh_cert_rows.specs.Reading.{read}
-use Rattle.lh_cert_rows.specs.Passing.{IsPlain, SaysTypedRows, PassDoesRows, memory_of}
-use Rattle.lh_cert_def.specs.Headers.{same_argument, same_arguments, adds_hierarchy, has_hierarchy, has_drive, has_register}
+use Rattle.lh_cert_rows.specs.Passing.{IsPlain, SaysTypedRows, PassDoesRows}
+use Rattle.lh_cert_def.specs.Headers.{adds_hierarchy, has_hierarchy, has_drive, has_register}
 use Rattle.lh_cert_def.specs.KeptRows.{rebuilt_drive, kept_drives, register_of, kept_registers}
-use Rattle.lh_cert_def.specs.RowsAgree.{drives_agree, registers_agree}
 use Rattle.lh_cert_def.specs.Causes.{has_these_drives, has_these_registers}
 use Rattle.lh_cert_laws.proofs.DriveWishes.{all-rebuilt-typed, kept-typed, rebuilt-wish, kept-wish, agreed-wish}
-use Rattle.lh_cert_laws.proofs.EntityRows.{IsDriveRow, IsRegisterRow, drives-alone, registers-alone, drives-wish, Register, made, registers-made, drives-typed, RegisterTyped, registers-typed, registers-read, pass-alike}
+use Rattle.lh_cert_laws.proofs.EntityRows.{drives-alone, registers-alone, drives-wish, Register, made, registers-made, drives-typed, RegisterTyped, registers-typed, registers-read, pass-alike}
 use Rattle.lh_cert_laws.proofs.KeptRegisters.{registers-kept, kept-registers-typed}
 use Rattle.lh_cert_laws.proofs.AgreedRegisters.{registers-same}
 use Rattle.lh_cert_laws.proofs.Edges.{process-typed, process-made, parts_of, process-among, first-edges, second-edges, first-run, registers-alike, registers-rest, matched-parts, kept-reads}
