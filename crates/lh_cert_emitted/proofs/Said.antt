@@ -8,25 +8,22 @@ use Rattle.lh_unit.specs.Contents.{LineText, ArgText, UnitText}
 use Rattle.lh_unit.specs.Hierarchy.{lines_of}
 use Rattle.lh_unit.specs.Within.{Each}
 use Rattle.lh_unit.proofs.Lists.{some_inj, nat_eq-is}
-use Rattle.lh_types.specs.Types.{IsData}
-use Rattle.lh_term.specs.Tree.{Tree, TreeRow, constant, past_of, now_of, operation, choice_of, no_trees, more_trees}
-use Rattle.lh_term.specs.Leaves.{AllParts, AllPartsIn}
+use Rattle.lh_term.specs.Tree.{now_of}
 use Rattle.lh_term.specs.Parts.{whole_argument}
 use Rattle.lh_term.specs.declared.part.Part.{Part}
 use Rattle.lh_edge.specs.Triggers.{EdgeRowTree}
 use Rattle.lh_region_def.specs.Known.{known_part, nothing_known, with_arguments}
-use Rattle.lh_region_def.specs.Rows.{Drive, DriveReads}
+use Rattle.lh_region_def.specs.Rows.{Drive}
 use Rattle.lh_region_def.specs.Typed.{Among}
 use Rattle.lh_emit_def.specs.Names.{value_name}
 use Rattle.lh_emit_def.specs.Emitted.{PartStep, source_of, Emitted, nothing_emitted, name_if_whole, whole_name}
 use Rattle.lh_emit_def.specs.Entities.{entity_with, comb, edge, once, emit_probes, drive_fits, row_fits}
 use Rattle.lh_emit_def.specs.Laws.{HasApartArgs, PartPasses}
-use Rattle.lh_emit_def.specs.Ways.{IsReached, WaitIsGiven, DriveIsGiven}
+use Rattle.lh_emit_def.specs.Ways.{IsReached}
 use Rattle.lh_emit_def.proofs.Arguments.{AreApart, are-apart}
 use Rattle.lh_emit_def.proofs.Induction.{IsNamed, Kept}
 use Rattle.lh_emit_def.proofs.PassState.{HasFewArgs, Begins}
-use Rattle.lh_emit_def.proofs.KeptByRows.{DriveHas}
-use Rattle.lh_emit_def.proofs.Whole.{IsWithin, within, given-rows}
+use Rattle.lh_emit_def.proofs.Whole.{IsWithin, within, Good, good-drives, good-waited, each-second, given-rows}
 use Rattle.lh_cert_rows.specs.Rows.{TriggerRow, EntityRow}
 use Rattle.lh_cert_def.specs.Headers.{has_hierarchy, has_drive, has_register}
 use Rattle.lh_cert_def.specs.KeptRows.{register_of, has_triggers}
@@ -35,49 +32,6 @@ use Rattle.lh_cert_emitted.specs.Laws.{drive_said, register_said, registers_said
 use Rattle.lh_cert_emitted.proofs.ArgumentsKnown.{other-known, argument-known}
 use Rattle.lh_cert_emitted.proofs.SaysState.{frame, begun, said, Says, Inv, is_drive_row, is_register_row}
 use Rattle.lh_cert_emitted.proofs.SaysRows.{drives-emitted, rows-emitted, probes-emitted}
-
--- ---- parts that are reached, and have a property
-
-mutual
-  all-both : (P Q : Part → Type 0) (t : Tree) → AllParts P t → AllParts Q t → AllParts (λ p. P p × Q p) t
-  all-both P Q (constant v) h k = tt
-  all-both P Q (past_of p) h k = (h, k)
-  all-both P Q (now_of p) h k = (h, k)
-  all-both P Q (operation op ts) h k = all-both-in P Q ts h k
-  all-both P Q (choice_of c f t) h k = (all-both P Q c h.0 k.0, all-both P Q f h.1 k.1, all-both P Q t h.2 k.2)
-
-  all-both-in : (P Q : Part → Type 0) (ts : TreeRow) → AllPartsIn P ts → AllPartsIn Q ts → AllPartsIn (λ p. P p × Q p) ts
-  all-both-in P Q no_trees h k = tt
-  all-both-in P Q (more_trees t ts) h k = (all-both P Q t h.0 k.0, all-both-in P Q ts h.1 k.1)
-
-each-second : (P Q : Part → Type 0) (ps : List Part) → Each (λ p. P p × Q p) ps → Each Q ps
-each-second P Q [] h = tt
-each-second P Q (p ∷ ps) h = (h.0.1, each-second P Q ps h.1)
-
-module _ (u : UnitText) (steps : Part → List PartStep) (P : Part → Type 0) where
-  -- a part that is reached, and has the property
-  abbrev Good : Part → Type 0
-  Good p = IsReached (source_of u steps) p × P p
-
-  good-drives : (ds : List Drive) → Each (DriveIsGiven (source_of u steps)) ds → Each (DriveReads P) ds → Each (DriveHas Good (source_of u steps)) ds
-  good-drives [] g r = tt
-  good-drives (d ∷ ds) g r = (
-    record {
-      cond = record { typed = g.0.cond.typed; parts = all-both _ P d.cond g.0.cond.parts r.0.cond };
-      value = record { typed = g.0.value.typed; parts = all-both _ P d.value g.0.value.parts r.0.value };
-      delay = record { typed = g.0.delay.typed; parts = all-both _ P d.delay g.0.delay.parts r.0.delay };
-      is_condition = g.0.is_condition;
-      is_value = g.0.is_value;
-      is_delay = g.0.is_delay;
-      carries = g.0.carries;
-      part = g.0.part;
-    },
-    good-drives ds g.1 r.1,
-  )
-
-  good-waited : (ps : List Part) → Each (WaitIsGiven (source_of u steps)) ps → Each P ps → Each (λ (p : Part). IsData p.ty × Good p) ps
-  good-waited [] w r = tt
-  good-waited (p ∷ ps) w r = ((w.0.is_data, (w.0.part, r.0)), good-waited ps w.1 r.1)
 
 module _ (u : UnitText) (steps : Part → List PartStep) (a : HasApartArgs u) (G : Part → Type 0) where
   argument-is : (k : ℕ) (x : ArgText) (t : TypeTree) → slice_get u.args k ≡ Some x → x.ty ≡ signal_type t → (begun u steps a.few G).known x.name ≡ Some (known_part (whole_argument k t))

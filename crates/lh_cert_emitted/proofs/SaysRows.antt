@@ -1,5 +1,5 @@
 -- The drives and registers of an entity say the rows that they are emitted from.
-use Rattle.std.proofs.Common.{◌≡◌, ℕ, ◌+◌, Bool, true, false, not, ◌&&◌, if◌then◌else◌, nat_eq, List, [], ◌∷◌, ◌++◌, map, Option, Some, None, refl, ap, sym, ◌∙◌, subst, append_assoc, append-nil}
+use Rattle.std.proofs.Common.{◌≡◌, ℕ, ◌+◌, Bool, true, false, not, ◌&&◌, if◌then◌else◌, List, [], ◌∷◌, ◌++◌, map, Option, Some, None, refl, ap, sym, ◌∙◌, subst, append_assoc, append-nil}
 use Rattle.std.specs.Prelude.{fold, filter}
 use Rattle.std.specs.List.{list_all}
 use Rattle.std.specs.Option.{option_and_then}
@@ -8,9 +8,7 @@ use Rattle.lh_types.specs.Same.{and_both}
 use Rattle.lh_unit.specs.Contents.{InstText, TriggerText, drv_text, reg_text, UnitText}
 use Rattle.lh_unit.specs.Held.{front}
 use Rattle.lh_unit.specs.Within.{Each}
-use Rattle.lh_types.specs.Values.{int_value}
-use Rattle.lh_unit.proofs.Lists.{nat_eq-is}
-use Rattle.lh_term.specs.Tree.{Tree, constant, past_of, now_of, operation, choice_of}
+use Rattle.lh_term.specs.Tree.{Tree, now_of}
 use Rattle.lh_term.specs.Make.{is_bit, bit_of}
 use Rattle.lh_term.specs.declared.part.Part.{Part}
 use Rattle.lh_edge.specs.Triggers.{TriggerTree, EdgeRowTree}
@@ -20,7 +18,7 @@ use Rattle.lh_emit_def.specs.Emitted.{PartStep, source_of, Emitted, puts, term_n
 use Rattle.lh_emit_def.specs.Needs.{need}
 use Rattle.lh_emit_def.specs.Entities.{need_cond, cond_name, need_drive, emit_drive, emit_drives, emit_probes, need_trigger, mode_of, trigger_text, need_register, put_register, emit_register_by, emit_register, choices_fit, drive_fits, row_fits}
 use Rattle.lh_emit_def.specs.Ways.{IsReached}
-use Rattle.lh_emit_def.proofs.DrivePasses.{CondNamed}
+use Rattle.lh_emit_def.proofs.DrivePasses.{one-is, CondNamed}
 use Rattle.lh_emit_def.proofs.Induction.{IsNamed, IsNamedPart, Kept, kept-same, kept-then}
 use Rattle.lh_emit_def.proofs.KeptByRows.{Has, DriveHas, TriggerHas, RowHas}
 use Rattle.lh_emit_def.proofs.NeedLaws.{Needed, need-needed, part-needed}
@@ -33,15 +31,6 @@ use Rattle.lh_cert_def.specs.KeptRows.{rebuilt_drive, trigger_of, register_of, h
 use Rattle.lh_cert_emitted.specs.Laws.{drive_said, register_said, registers_said}
 use Rattle.lh_cert_emitted.proofs.SaysState.{frame, said, Says, Inv, puts-says}
 use Rattle.lh_cert_emitted.proofs.SaysNeeds.{keeps, term-known, part-known}
-
--- the constant 1
-one-is : (c : Tree) → is_bit 1 c ≡ true → c ≡ constant (int_value 1 1)
-one-is (constant (int_value n a)) h = let b = and_both (nat_eq n 1) (nat_eq a 1) h in let p : n ≡ 1 = nat_eq-is n 1 b.0 in let q : a ≡ 1 = nat_eq-is a 1 b.1 in λ i. constant (int_value (p i) (q i))
-one-is (constant _) h = absurd cc
-one-is (past_of p) h = absurd cc
-one-is (now_of p) h = absurd cc
-one-is (operation op ts) h = absurd cc
-one-is (choice_of c f t) h = absurd cc
 
 module _ (u : UnitText) (steps : Part → List PartStep) (few : HasFewArgs u) (Good : Part → Type 0) (reached : (p : Part) → Good p → IsReached (source_of u steps) p) where
   abbrev Says-of : List EntityRow → Emitted → Type 0

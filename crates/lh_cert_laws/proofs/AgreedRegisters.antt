@@ -22,7 +22,7 @@ use Rattle.lh_term.specs.SameTree.{same_tree, same_tree-is}
 use Rattle.lh_term.specs.declared.part.Part.{Part}
 use Rattle.lh_region_def.specs.Means.{range_in, due_by}
 use Rattle.lh_region_def.specs.Typed.{Among}
-use Rattle.lh_region_def.proofs.Among.{in-each}
+use Rattle.lh_flat_laws.proofs.Members.{in-each}
 use Rattle.lh_entity_laws.proofs.OnceActivations.{all-of}
 use Rattle.lh_cert_agree.specs.Agreeing.{agree}
 use Rattle.lh_cert_agree.specs.Laws.{AgreedTermsMeanSame}

@@ -22,7 +22,7 @@ use Rattle.lh_flat_laws.specs.Formed.{IsFormed}
 use Rattle.lh_flat_state_laws.specs.Formed.{FlatTextsAreFormed}
 use Rattle.lh_region_def.specs.Rows.{Drive}
 use Rattle.lh_region_def.specs.Typed.{Among}
-use Rattle.lh_region_def.proofs.Among.{each-among}
+use Rattle.lh_flat_laws.proofs.Members.{each-among}
 use Rattle.lh_shape.specs.Laws.{MergedDrivesWish, MergedDrivesAreTyped}
 use Rattle.lh_shape.specs.Reasons.{is_empty, first_holding}
 use Rattle.lh_shape.specs.Shapes.{ShapeText, comb, edge, once, left, shape_of_text, shape_by_text}

@@ -23,7 +23,7 @@ use Rattle.lh_term.specs.declared.part.Part.{Part}
 use Rattle.lh_edge.specs.Triggers.{TriggerTree, EdgeRowTree}
 use Rattle.lh_region_def.specs.Means.{range_in, due_by}
 use Rattle.lh_region_def.specs.Typed.{Among}
-use Rattle.lh_region_def.proofs.Among.{in-each, each-among}
+use Rattle.lh_flat_laws.proofs.Members.{in-each, each-among}
 use Rattle.lh_emit_def.specs.Emitted.{Source}
 use Rattle.lh_emit_def.specs.Entities.{mode_of}
 use Rattle.lh_emit_def.specs.Registers as emitted

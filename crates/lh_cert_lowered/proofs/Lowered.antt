@@ -16,7 +16,7 @@ use Rattle.lh_trace_laws.specs.Replacing.{units_defined}
 use Rattle.lh_flat.specs.Flat.{FlatText, flat_unit}
 use Rattle.lh_flat_laws.specs.Formed.{IsFormed}
 use Rattle.lh_flat_laws.proofs.FlatActivations.{flat-is}
-use Rattle.lh_region_def.proofs.Among.{in-each}
+use Rattle.lh_flat_laws.proofs.Members.{in-each}
 use Rattle.lh_flat_state_laws.specs.Formed.{FlatTextsAreFormed}
 use Rattle.lh_term.specs.declared.part.Part.{Part}
 use Rattle.lh_term_cover.specs.Bits.{covers, same_bits}

@@ -17,7 +17,7 @@ use Rattle.lh_eval_laws.proofs.FitLaws.{of-unit, unit-is-sound}
 use Rattle.lh_eval_laws.proofs.SoundLines.{lines-printed}
 use Rattle.lh_term.specs.declared.term.TermNode.{TermNode}
 use Rattle.lh_region_def.specs.Typed.{Among}
-use Rattle.lh_region_def.proofs.Among.{each-among}
+use Rattle.lh_flat_laws.proofs.Members.{each-among}
 use Rattle.lh_cert_rows.specs.Passing.{IsPlain, IsPlainEntity}
 use Rattle.lh_cert_rows.specs.Reading.{EntityText, reads_line, reads_lines, read}
 use Rattle.lh_cert_rows.proofs.Begun.{begun-fine}

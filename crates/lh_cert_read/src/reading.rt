@@ -50,7 +50,7 @@ pub(crate) struct Reading {
 /// What an entity of a well-formed module says that has no `sig` and no `inst`, its terms made by their constructors in the order of the
 /// text.
 ///
-/// It goes over its lines once. For want of memory the terms made before keep their ids.
+/// It goes over its lines once. Where memory runs out, the terms made before keep their ids.
 pub fn read_entity(
     alloc: Global,
     unit: UnitView<'_>,

@@ -11,7 +11,7 @@ use Rattle.lh_eval_laws.specs.Units.{HasItsType, IsPort, HasPorts}
 use Rattle.lh_eval_laws.proofs.SoundLines.{IsTyped, RowsIn, rows-of-items, items-printable, lines-printed, unit-sound, ports-written}
 use Rattle.lh_eval_laws.proofs.NamedOnce.{IsFirst, each-first, args-typed}
 use Rattle.lh_eval_laws.proofs.FindingPass.{NamesKnown, IsFitLine, EntityLines, EntityIn, entities-of-items, fit-lines}
-use Rattle.lh_region_def.proofs.Among.{in-each}
+use Rattle.lh_flat_laws.proofs.Members.{in-each}
 use Rattle.lh_cert_rows.specs.Passing.{IsPlain, IsPlainEntity}
 
 -- a line: it is sound, no other gives its result, it may stand in an entity, and it adds no signal and no instance

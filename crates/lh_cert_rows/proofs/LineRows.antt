@@ -35,7 +35,7 @@ use Rattle.lh_region_def.specs.Known.{Known, known_value, known_cell, known_part
 use Rattle.lh_region_def.specs.Right.{DriveTyped}
 use Rattle.lh_region_def.specs.Rows.{Drive, DriveReads}
 use Rattle.lh_region_def.specs.Typed.{Among, KnowsTyped, IsCondition, IsOfType}
-use Rattle.lh_region_def.proofs.Among.{among-left, among-right}
+use Rattle.lh_flat_laws.proofs.Members.{among-left, among-right}
 use Rattle.lh_region_def.proofs.KnowledgeChanges.{constant-typed, GivenTyped, given-typed, given-stays, given-known}
 use Rattle.lh_region_def.proofs.MergedValues.{bit-condition}
 use Rattle.lh_region_def.proofs.Operations.{value-known, part-known}

@@ -18,7 +18,7 @@ use lh_types::val::Val;
 /// An operation on terms that its row takes: a `mux` by one bit of an array whose two elements are known is a choice between these, and
 /// any other operation is as it is made.
 ///
-/// For want of memory the terms made before keep their ids.
+/// Where memory runs out, the terms made before keep their ids.
 pub fn read_operation(terms: &mut Terms, op: &Op, args: &[TermId]) -> Result<TermId, NoMemory>
     requires within { AreIn terms.old args.now }
     requires fits { TakesTypes op.now (types_of (tree_row (trees_at terms.old args.now))) }

@@ -19,7 +19,7 @@ use std::collections::HashMap;
 
 /// These terms made anew from their leaves, and those that they are made of: by the id of each what stands in its place.
 ///
-/// It looks at the terms alone that these are made of, and makes each once. For want of memory the terms made before keep their ids.
+/// It looks at the terms alone that these are made of, and makes each once. Where memory runs out, the terms made before keep their ids.
 pub fn make_anew(
     alloc: Global,
     terms: &mut Terms,

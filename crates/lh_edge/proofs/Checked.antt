@@ -81,7 +81,7 @@ module _ (waited : List Part) (c : Tree) (ats : List Tree) (whole : (t : Tree) �
 
 -- ---- the atoms that were found
 
-atoms_distinct : (e : Tree) → AreDistinct (atoms_of e)
+pub atoms_distinct : (e : Tree) → AreDistinct (atoms_of e)
 unfolding atoms_of
 atoms_distinct e = once_distinct (subterms e ++ presents (subterms e))
 

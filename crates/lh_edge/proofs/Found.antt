@@ -87,13 +87,13 @@ none_of ns ts = record { are_in = refl; distinct = tt; sound = λ t h. cc }
 
 -- ---- the subterms found so far
 
--- of those terms that are no connective each is found
-pub record FoundSoFar (ns : List TermNode) (e : TermId) (found done : List TermId) : Type 0 where
-  pub of : AreIdsOf ns (subterms (tree_at (trees ns) e)) found
+-- what is found is of these terms, and of those that are no connective each is found
+pub record FoundSoFar (ns : List TermNode) (ts : List Tree) (found done : List TermId) : Type 0 where
+  pub of : AreIdsOf ns ts found
   pub each : (j : ℕ) → is_on done j ≡ true → is_atom (tree_at (trees ns) (record { 0 = j })) ≡ true → has (trees_at ns found) (tree_at (trees ns) (record { 0 = j })) ≡ true
 
-pub found_start : (ns : List TermNode) (e : TermId) (found : List TermId) → found ≡ [] → FoundSoFar ns e found []
-found_start ns e found m = subst (λ (xs : List TermId). FoundSoFar ns e xs []) (sym m) (record { of = none_of ns (subterms (tree_at (trees ns) e)); each = λ j o. cc })
+pub found_start : (ns : List TermNode) (ts : List Tree) (found : List TermId) → found ≡ [] → FoundSoFar ns ts found []
+found_start ns ts found m = subst (λ (xs : List TermId). FoundSoFar ns ts xs []) (sym m) (record { of = none_of ns ts; each = λ j o. cc })
 
 atom_alone : (t : Tree) → is_atom t ≡ true → subterms t ≡ t ∷ []
 atom_alone (constant d) e = at (is_one_bit (constant d)) e
@@ -131,9 +131,13 @@ subterm_of ns e ids r j t o h = at (has (subterms (tree_at (trees ns) e)) t) ref
     at false q = absurd (not_both (has (subterms (tree_at (trees ns) (record { 0 = j }))) t) h
         (not-true (has (subterms (tree_at (trees ns) (record { 0 = j }))) t) (pass_on lacks ids j (r.only lacks passes (not_from_false (has (subterms (tree_at (trees ns) e)) t) q, tt)) o)))
 
-pub found_next : (ns : List TermNode) (e : TermId) (found done ids : List TermId) (x : TermId) (more : List TermId) → FoundSoFar ns e found done → AreReached (joined_by (trees ns)) ns (e ∷ []) ids → is_on ids x.0 ≡ true → IsIn ns x
-    → more ≡ with_atom ns found x → FoundSoFar ns e more (done ++ x ∷ [])
-found_next ns e found done ids x more s r o l m = subst (λ (xs : List TermId). FoundSoFar ns e xs (done ++ x ∷ [])) (sym m) (at (is_atom T) refl)
+-- the subterms of a term are of these
+abbrev pub HasSubterms : List TermNode → List Tree → TermId → Type 0
+HasSubterms ns ts x = (t : Tree) → has (subterms (tree_at (trees ns) x)) t ≡ true → has ts t ≡ true
+
+found_next : (ns : List TermNode) (ts : List Tree) (found done : List TermId) (x : TermId) (more : List TermId) → FoundSoFar ns ts found done → HasSubterms ns ts x → IsIn ns x → more ≡ with_atom ns found x
+    → FoundSoFar ns ts more (done ++ x ∷ [])
+found_next ns ts found done x more s o l m = subst (λ (xs : List TermId). FoundSoFar ns ts xs (done ++ x ∷ [])) (sym m) (at (is_atom T) refl)
   where
     T : Tree
     T = tree_at (trees ns) x
@@ -141,7 +145,7 @@ found_next ns e found done ids x more s r o l m = subst (λ (xs : List TermId). 
     same : (j : ℕ) → j ≡ x.0 → tree_at (trees ns) (record { 0 = j }) ≡ T
     same j p = ap (λ n. tree_at (trees ns) (record { 0 = n })) p
 
-    at : (b : Bool) → is_atom T ≡ b → FoundSoFar ns e (if b then with_missing ns found x else found) (done ++ x ∷ [])
+    at : (b : Bool) → is_atom T ≡ b → FoundSoFar ns ts (if b then with_missing ns found x else found) (done ++ x ∷ [])
     at false q = record {
       of = s.of;
       each = λ j d a. elim (on_push done x j d) [
@@ -152,23 +156,28 @@ found_next ns e found done ids x more s r o l m = subst (λ (xs : List TermId). 
     at true q =
         let h : has (subterms T) T ≡ true = ap (λ us. has us T) (atom_alone T q) ∙ has_self T [] in
         record {
-          of = missing_of ns found x (subterms (tree_at (trees ns) e)) s.of l (subterm_of ns e ids r x.0 T o h);
+          of = missing_of ns found x ts s.of l (o T h);
           each = λ j d a. elim (on_push done x j d) [
             | inl p ↦ ap (has (trees_at ns (with_missing ns found x))) (same j p) ∙ missing_has ns found x
             | inr p ↦ missing_keeps ns found x (tree_at (trees ns) (record { 0 = j })) (s.each j p a)
           ];
         }
 
-pub found_turn : (ns : List TermNode) (e : TermId) (found ids more : List TermId) (n : ℕ) (d : TermId) → AreReached (joined_by (trees ns)) ns (e ∷ []) ids → n < length ids → FoundSoFar ns e found (take n ids)
-    → more ≡ with_atom ns found (get_or ids n d) → FoundSoFar ns e more (take (n + 1) ids)
-found_turn ns e found ids more n d r l s m =
-    subst (λ (xs : List TermId). FoundSoFar ns e more xs) (sym (take_more ids n d l))
-    (found_next ns e found (take n ids) ids (get_or ids n d) more s r (on_at ids n d l) (on_below (length ns) ids (get_or ids n d).0 r.are_in (on_at ids n d l)) m)
+-- one more term of a list, each of which has subterms of these alone
+pub found_one_more : (ns : List TermNode) (ts : List Tree) (found ids more : List TermId) (n : ℕ) (d : TermId) → AreIn ns ids → ((x : TermId) → is_on ids x.0 ≡ true → HasSubterms ns ts x) → n < length ids
+    → FoundSoFar ns ts found (take n ids) → more ≡ with_atom ns found (get_or ids n d) → FoundSoFar ns ts more (take (n + 1) ids)
+found_one_more ns ts found ids more n d i h l s m =
+    subst (λ (xs : List TermId). FoundSoFar ns ts more xs) (sym (take_more ids n d l))
+    (found_next ns ts found (take n ids) (get_or ids n d) more s (h (get_or ids n d) (on_at ids n d l)) (on_below (length ns) ids (get_or ids n d).0 i (on_at ids n d l)) m)
+
+pub found_turn : (ns : List TermNode) (e : TermId) (found ids more : List TermId) (n : ℕ) (d : TermId) → AreReached (joined_by (trees ns)) ns (e ∷ []) ids → n < length ids
+    → FoundSoFar ns (subterms (tree_at (trees ns) e)) found (take n ids) → more ≡ with_atom ns found (get_or ids n d) → FoundSoFar ns (subterms (tree_at (trees ns) e)) more (take (n + 1) ids)
+found_turn ns e found ids more n d r l s m = found_one_more ns (subterms (tree_at (trees ns) e)) found ids more n d r.are_in (λ x o t h. subterm_of ns e ids r x.0 t o h) l s m
 
 -- each subterm of a term that is reached is found
 module _ (ns : List TermNode) (found ids : List TermId) (t : Tree)
     (each : (j : ℕ) → is_on ids j ≡ true → is_atom (tree_at (trees ns) (record { 0 = j })) ≡ true → has (trees_at ns found) (tree_at (trees ns) (record { 0 = j })) ≡ true) where
-  all_below : (left : List TermId) → AreIn ns left → ((j : ℕ) → is_on left j ≡ true → is_on ids j ≡ true) → GoOn (joined_by (trees ns)) ns none_left left → (j : ℕ) → is_on left j ≡ true
+  pub all_below : (left : List TermId) → AreIn ns left → ((j : ℕ) → is_on left j ≡ true → is_on ids j ≡ true) → GoOn (joined_by (trees ns)) ns none_left left → (j : ℕ) → is_on left j ≡ true
       → has (subterms (tree_at (trees ns) (record { 0 = j }))) t ≡ true → has (trees_at ns found) t ≡ true
   all_below [] i sub g j o h = cc
   all_below (x ∷ left) i sub g j o h =
@@ -210,10 +219,10 @@ take_all [] (suc n) l = refl
 take_all (x ∷ xs) zero l = absurd (omega arith)
 take_all (x ∷ xs) (suc n) l = ap (λ r. x ∷ r) (take_all xs n (omega arith))
 
-pub finds_all : (ns : List TermNode) (e : TermId) (found ids : List TermId) (n : ℕ) → AreReached (joined_by (trees ns)) ns (e ∷ []) ids → length ids ≤ n → length found ≤ 12 → FoundSoFar ns e found (take n ids)
+pub finds_all : (ns : List TermNode) (e : TermId) (found ids : List TermId) (n : ℕ) → AreReached (joined_by (trees ns)) ns (e ∷ []) ids → length ids ≤ n → length found ≤ 12 → FoundSoFar ns (subterms (tree_at (trees ns) e)) found (take n ids)
     → AreAllIdsOf ns (subterms (tree_at (trees ns) e)) found
 finds_all ns e found ids n r z few w =
-    let v : FoundSoFar ns e found ids = subst (λ (xs : List TermId). FoundSoFar ns e found xs) (take_all ids n z) w in
+    let v : FoundSoFar ns (subterms (tree_at (trees ns) e)) found ids = subst (λ (xs : List TermId). FoundSoFar ns (subterms (tree_at (trees ns) e)) found xs) (take_all ids n z) w in
     record { are = v.of; few = few; whole = λ t h. all_below ns found ids t v.each ids r.are_in (λ j p. p) r.go_on e.0 r.there.0 h }
 
 -- ---- values now are added

@@ -19,3 +19,4 @@ pub mod Gathered
 pub mod Made
 pub mod Order
 pub mod Answered
+pub mod Sorted

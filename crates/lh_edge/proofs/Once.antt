@@ -15,6 +15,7 @@ use Rattle.lh_edge.specs.Atoms.{has, each_once}
 use Rattle.lh_edge.specs.Shown.{can_show, showing_parts}
 use Rattle.lh_edge.specs.Triggers.{comes_first, with_part, in_order}
 use Rattle.lh_edge.specs.Gates.{AllBit}
+use Rattle.lh_edge.specs.Sorted.{DistinctParts}
 use Rattle.lh_edge.specs.Steps.{AreDistinct}
 use Rattle.lh_edge.proofs.Bools.{has_once, has_self}
 
@@ -68,13 +69,13 @@ fits_in (t ∷ ts) us d h =
 
 -- ---- parts in order
 
-first_of_two : (a b c d : ℕ) → (nat_lt a b || (nat_eq a b && nat_le c d)) ≡ false → (nat_lt b a || (nat_eq b a && nat_le d c)) ≡ true
+pub first_of_two : (a b c d : ℕ) → (nat_lt a b || (nat_eq a b && nat_le c d)) ≡ false → (nat_lt b a || (nat_eq b a && nat_le d c)) ≡ true
 first_of_two a b c d h = grind (arith, nat_tests)
 
 both_first : (a b c d : ℕ) → (nat_lt a b || (nat_eq a b && nat_le c d)) ≡ true → (nat_lt b a || (nat_eq b a && nat_le d c)) ≡ true → (a ≡ b) × (c ≡ d)
 both_first a b c d h k = (grind (arith, nat_tests), grind (arith, nat_tests))
 
-first_on : (a b c d e f : ℕ) → (nat_lt a b || (nat_eq a b && nat_le d e)) ≡ true → (nat_lt b c || (nat_eq b c && nat_le e f)) ≡ true → (nat_lt a c || (nat_eq a c && nat_le d f)) ≡ true
+pub first_on : (a b c d e f : ℕ) → (nat_lt a b || (nat_eq a b && nat_le d e)) ≡ true → (nat_lt b c || (nat_eq b c && nat_le e f)) ≡ true → (nat_lt a c || (nat_eq a c && nat_le d f)) ≡ true
 first_on a b c d e f h k = grind (arith, nat_tests)
 
 -- two parts of one bit that are not one: one of them comes first
@@ -147,10 +148,6 @@ pull p (q ∷ qs) t h e = at (same_part q p) refl (pull p qs t h.1)
     at false k next =
         let m : list_any (same_part p) qs ≡ true = ap (λ b. b || list_any (same_part p) qs) (sym (turned false k)) ∙ e in
         ap (with_part q) (next m) ∙ put_either q p (h.0 ∙ sym t) k (in_order (but p qs))
-
-abbrev pub DistinctParts : List Part → Type 0
-DistinctParts [] = Unit {0}
-DistinctParts (p ∷ ps) = (list_any (same_part p) ps ≡ false) × DistinctParts ps
 
 but_any : (p : Part) (qs : List Part) (x : Part) → same_part p x ≡ false → list_any (same_part x) (but p qs) ≡ list_any (same_part x) qs
 but_any p [] x s = refl

@@ -7,3 +7,4 @@ pub mod Reached
 pub mod Steps
 pub mod Answers
 pub mod Gates
+pub mod Sorted

@@ -1,4 +1,5 @@
 //! Laws of edge-shown conditions, each the contract of a function that does nothing.
+ghost use Rattle.lh_edge.specs.Sorted.{TriggersAreInOrder};
 ghost use Rattle.lh_edge.specs.Laws.{ValuationsTellAll, TriggersShow, RestsWithoutChange, TriggersAreWaited};
 
 use lh_term::laws::swaps_keep_meaning;
@@ -25,4 +26,10 @@ pub fn rests_without_change()
 /// The part of each trigger is of one bit, which is waited on.
 pub fn triggers_are_waited()
     ensures { TriggersAreWaited }
+{}
+
+/// The triggers of a condition are the rise and fall of each part that can show it, the parts by argument and then by lowest bit: those of
+/// one bit that are waited on and whose values before are atoms of its edge part, each once.
+pub fn triggers_are_in_order()
+    ensures { TriggersAreInOrder }
 {}

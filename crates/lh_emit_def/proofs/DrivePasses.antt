@@ -36,7 +36,7 @@ use Rattle.lh_emit_def.proofs.PassState.{Frame, HasFewArgs, source, start, after
 use Rattle.lh_emit_def.proofs.KeptByNeed.{reads-fit, keeps, term-held, part-held}
 
 -- the constant 1
-one-is : (c : Tree) → is_bit 1 c ≡ true → c ≡ constant (int_value 1 1)
+pub one-is : (c : Tree) → is_bit 1 c ≡ true → c ≡ constant (int_value 1 1)
 one-is (constant (int_value n a)) h = let b = and_both (nat_eq n 1) (nat_eq a 1) h in let p : n ≡ 1 = nat_eq-is n 1 b.0 in let q : a ≡ 1 = nat_eq-is a 1 b.1 in λ i. constant (int_value (p i) (q i))
 one-is (constant _) h = absurd cc
 one-is (past_of p) h = absurd cc

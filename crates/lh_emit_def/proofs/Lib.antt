@@ -30,3 +30,4 @@ pub mod Times
 pub mod Headed
 pub mod PrintableEntities
 pub mod PartsLed
+mod FirstSteps

@@ -337,22 +337,22 @@ module _ (u : UnitText) where
 
 -- ---- the steps that are found
 
-record Found (f : List ℕ → Option Reached) (p : Part) (ss : List PartStep) : Type 0 where
-  name : List ℕ
-  way : Reached
-  reaches : f name ≡ Some way
-  part : way.part ≡ p
-  steps : way.steps ≡ ss
+pub record Found (f : List ℕ → Option Reached) (p : Part) (ss : List PartStep) : Type 0 where
+  pub name : List ℕ
+  pub way : Reached
+  pub reaches : f name ≡ Some way
+  pub part : way.part ≡ p
+  pub steps : way.steps ≡ ss
 
-if-found : (f : List ℕ → Option Reached) (p : Part) (o : Option (List ℕ)) (ss : List PartStep) → steps_if p (option_and_then f o) ≡ Some ss → Found f p ss
+pub if-found : (f : List ℕ → Option Reached) (p : Part) (o : Option (List ℕ)) (ss : List PartStep) → steps_if p (option_and_then f o) ≡ Some ss → (x : Found f p ss) × (o ≡ Some x.name)
 if-found f p None ss h = absurd cc
 if-found f p (Some n) ss h = at (f n) refl h
   where
-    by : (r : Reached) → f n ≡ Some r → (b : Bool) → same_part r.part p ≡ b → (if b then Some r.steps else None) ≡ Some ss → Found f p ss
-    by r q true e k = record { name = n; way = r; reaches = q; part = same_part-is r.part p e; steps = some_inj r.steps ss k }
+    by : (r : Reached) → f n ≡ Some r → (b : Bool) → same_part r.part p ≡ b → (if b then Some r.steps else None) ≡ Some ss → (x : Found f p ss) × (Some n ≡ Some x.name)
+    by r q true e k = (record { name = n; way = r; reaches = q; part = same_part-is r.part p e; steps = some_inj r.steps ss k }, refl)
     by r q false e k = absurd cc
 
-    at : (x : Option Reached) → f n ≡ x → steps_if p x ≡ Some ss → Found f p ss
+    at : (x : Option Reached) → f n ≡ x → steps_if p x ≡ Some ss → (x : Found f p ss) × (Some n ≡ Some x.name)
     at None q k = absurd cc
     at (Some r) q k = by r q (same_part r.part p) refl k
 
@@ -362,16 +362,19 @@ first-found f p (l ∷ more) ss h = at (steps_if p (option_and_then f l.result))
   where
     at : (x : Option (List PartStep)) → steps_if p (option_and_then f l.result) ≡ x → or_else x (first_steps f p more) ≡ Some ss → (first_steps f p more ≡ Some ss → Found f p ss) → Found f p ss
     at None q k r = r k
-    at (Some s) q k r = if-found f p l.result ss (q ∙ k)
+    at (Some s) q k r = (if-found f p l.result ss (q ∙ k)).0
+
+-- a line whose result is the part gives its steps
+pub given-steps : (f : List ℕ → Option Reached) (p : Part) (n : List ℕ) (r : Reached) (o : Option (List ℕ)) → f n ≡ Some r → r.part ≡ p → o ≡ Some n → steps_if p (option_and_then f o) ≡ Some r.steps
+given-steps f p n r o a e q =
+    ap (λ o. steps_if p (option_and_then f o)) q ∙ ap (steps_if p) a ∙ ap (λ (x : Part). if same_part x p then Some r.steps else None) e
+    ∙ ap (λ b. if b then Some r.steps else None) (same_part-refl p)
 
 -- a line whose result is the part is found, or an earlier one
 finds : (f : List ℕ → Option Reached) (p : Part) (n : List ℕ) (r : Reached) (ls : List LineText) → f n ≡ Some r → r.part ≡ p → Given n ls → (ss : List PartStep) × (first_steps f p ls ≡ Some ss)
 finds f p n r [] a e g = absurd g
 finds f p n r (l ∷ more) a e (inl q) =
-    let b : steps_if p (option_and_then f l.result) ≡ Some r.steps =
-    ap (λ o. steps_if p (option_and_then f o)) q ∙ ap (steps_if p) a ∙ ap (λ (x : Part). if same_part x p then Some r.steps else None) e
-    ∙ ap (λ b. if b then Some r.steps else None) (same_part-refl p) in
-    (r.steps, ap (λ o. or_else o (first_steps f p more)) b)
+    (r.steps, ap (λ o. or_else o (first_steps f p more)) (given-steps f p n r l.result a e q))
 finds f p n r (l ∷ more) a e (inr g) = at (steps_if p (option_and_then f l.result)) (finds f p n r more a e g)
   where
     at : (x : Option (List PartStep)) → (ss : List PartStep) × (first_steps f p more ≡ Some ss) → (ss : List PartStep) × (or_else x (first_steps f p more) ≡ Some ss)

@@ -1,5 +1,6 @@
 -- Names of values: no two numbers have one, and the next name is no argument's.
-use Rattle.std.proofs.Common.{◌≡◌, ℕ, zero, suc, ◌+◌, ◌<◌, ◌≤◌, ◌^◌, Bool, true, false, if◌then◌else◌, List, [], ◌∷◌, length, refl, subst, arith, length-append}
+use Rattle.std.proofs.Common.{◌≡◌, ℕ, zero, suc, ◌+◌, ◌<◌, ◌≤◌, ◌^◌, Bool, true, false, nat_eq, if◌then◌else◌, List, [], ◌∷◌, length, refl, subst, arith, length-append}
+use Rattle.std.proofs.lemmas.Bool.Decides.{nat_tests}
 use Rattle.std.proofs.lemmas.Fmt.{decimal_injective, length-decimal-le_wide}
 use Rattle.std.specs.Prelude.{codes}
 use Rattle.std.specs.Fmt.{decimal}
@@ -7,7 +8,7 @@ use Rattle.lh_unit.specs.Contents.{ArgText, args_define}
 use Rattle.lh_unit_names.specs.Names.{same_name, IsName}
 use Rattle.lh_unit_names.proofs.NameLists.{same_name-is}
 use Rattle.lh_text_laws.proofs.Numerals.{decimal-named, all_name_bytes-append}
-use Rattle.lh_emit_def.specs.Names.{value_name, free_from, free_number}
+use Rattle.lh_emit_def.specs.Names.{value_name, free_from, free_number, NextIsLeast}
 
 -- names of different numbers differ
 pub names_differ : (j k : ℕ) → j < 2 ^ 64 → k < 2 ^ 64 → (j ≡ k → ⊥) → same_name (value_name j) (value_name k) ≡ false
@@ -90,6 +91,23 @@ free_from-free args left (suc n) k l w h = at (args_define (value_name k) args) 
 -- the next name is no argument's
 pub free-free : (args : List ArgText) (k : ℕ) → k + length args < 2 ^ 64 → args_define (value_name (free_number args k)) args ≡ false
 free-free args k w = free_from-free args args (length args) k (omega arith) w (λ j m b e. e)
+
+-- each number before it is an argument's
+passed-over : (args : List ArgText) (n k j : ℕ) → k ≤ j → j < free_from args n k → args_define (value_name j) args ≡ true
+passed-over args zero k j l h = absurd (omega (arith, l, h))
+passed-over args (suc n) k j l h = at (args_define (value_name k) args) refl h (passed-over args n (k + 1) j)
+  where
+    at : (b : Bool) → args_define (value_name k) args ≡ b → j < (if b then free_from args n (k + 1) else k) → (k + 1 ≤ j → j < free_from args n (k + 1) → args_define (value_name j) args ≡ true)
+        → args_define (value_name j) args ≡ true
+    at false q m go = absurd (omega (arith, l, m))
+    at true q m go = by (nat_eq k j) refl
+      where
+        by : (c : Bool) → nat_eq k j ≡ c → args_define (value_name j) args ≡ true
+        by true e = let z : k ≡ j = grind (arith, nat_tests) in subst (λ x. args_define (value_name x) args ≡ true) z q
+        by false e = go (let z : k ≡ j → ⊥ = grind (arith, nat_tests) in omega (arith, l, z)) m
+
+pub next-least : NextIsLeast
+next-least args k w = record { from = (free_from-within args (length args) k).0; free = free-free args k w; least = λ j l h. passed-over args (length args) k j l h }
 
 -- the name of a number
 pub number-name : (k : ℕ) → k < 10 ^ 20 → IsName (value_name k)

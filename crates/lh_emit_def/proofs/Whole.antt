@@ -138,16 +138,16 @@ mutual
   all-both-in P Q no_trees h k = tt
   all-both-in P Q (more_trees t ts) h k = (all-both P Q t h.0 k.0, all-both-in P Q ts h.1 k.1)
 
-each-second : (P Q : Part → Type 0) (ps : List Part) → Each (λ p. P p × Q p) ps → Each Q ps
+pub each-second : (P Q : Part → Type 0) (ps : List Part) → Each (λ p. P p × Q p) ps → Each Q ps
 each-second P Q [] h = tt
 each-second P Q (p ∷ ps) h = (h.0.1, each-second P Q ps h.1)
 
 module _ (u : UnitText) (steps : Part → List PartStep) (P : Part → Type 0) where
   -- a part that is reached, and has the property
-  abbrev Good : Part → Type 0
+  abbrev pub Good : Part → Type 0
   Good p = IsReached (source_of u steps) p × P p
 
-  good-drives : (ds : List Drive) → Each (DriveIsGiven (source_of u steps)) ds → Each (DriveReads P) ds → Each (DriveHas Good (source_of u steps)) ds
+  pub good-drives : (ds : List Drive) → Each (DriveIsGiven (source_of u steps)) ds → Each (DriveReads P) ds → Each (DriveHas Good (source_of u steps)) ds
   good-drives [] g r = tt
   good-drives (d ∷ ds) g r = (
     record {
@@ -163,7 +163,7 @@ module _ (u : UnitText) (steps : Part → List PartStep) (P : Part → Type 0) w
     good-drives ds g.1 r.1,
   )
 
-  good-waited : (ps : List Part) → Each (WaitIsGiven (source_of u steps)) ps → Each P ps → Each (λ (p : Part). IsData p.ty × Good p) ps
+  pub good-waited : (ps : List Part) → Each (WaitIsGiven (source_of u steps)) ps → Each P ps → Each (λ (p : Part). IsData p.ty × Good p) ps
   good-waited [] w r = tt
   good-waited (p ∷ ps) w r = ((w.0.is_data, (w.0.part, r.0)), good-waited ps w.1 r.1)
 

@@ -1,5 +1,5 @@
 -- What an entity that was emitted does: the wish of its pass, what it remembers, and what it senses.
-use Rattle.std.specs.Prelude.{◌≡◌, ◌<◌, ◌^◌, ℕ, List, [], ◌∷◌, length, map, ◌≤◌, Bool, true, false, Option, Some, None}
+use Rattle.std.specs.Prelude.{◌≡◌, ◌<◌, ◌^◌, ℕ, List, [], ◌∷◌, ◌++◌, length, map, ◌≤◌, Bool, true, false, Option, Some, None}
 use Rattle.std.specs.List.{flat_map}
 use Rattle.lh_time.specs.declared.Instant.{Instant}
 use Rattle.lh_types.specs.Types.{bit_count}
@@ -121,6 +121,20 @@ OnceIsEntity = (u y : UnitText) (steps : Part → List PartStep) (ds : List Driv
 -- Each part that a process names is reached by the steps that are found for it.
 abbrev pub PartsAreReached : Type 0
 PartsAreReached = (u : UnitText) (n : List ℕ) (p : Part) → IsReachedPartOf u n p → IsReached (source_of u (steps_in u)) p
+
+-- a line gives the part: some number of steps leads to it under the line's result
+abbrev pub NamesPart : UnitText → Part → LineText → Type 0
+NamesPart u p l = (n : List ℕ) × (l.result ≡ Some n) × IsReachedPartOf u n p
+
+-- the steps lead to the first line in text order that gives the part, and there are none where no line gives it
+pub data AreFirstSteps (u : UnitText) (p : Part) (steps : List PartStep) : Type 0 where
+  of_line : (before after : List LineText) (line : LineText) → lines_of u.blocks ≡ before ++ line ∷ after → Each (λ l. NamesPart u p l → ⊥) before
+      → (named : NamesPart u p line) → steps ≡ named.2.way.steps → AreFirstSteps u p steps
+  of_none : Each (λ l. NamesPart u p l → ⊥) (lines_of u.blocks) → steps ≡ [] → AreFirstSteps u p steps
+
+-- Such are the steps that are found: however many steps a part needs, as many as there are lines are enough.
+abbrev pub StepsAreFirst : Type 0
+StepsAreFirst = (u : UnitText) (p : Part) → AreFirstSteps u p (steps_in u p)
 
 -- ---- well-formedness
 

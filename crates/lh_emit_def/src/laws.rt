@@ -1,7 +1,8 @@
 //! Laws of entities that were emitted, each the contract of a function that does nothing.
 ghost use Rattle.lh_emit_def.specs.Worked.{WorkedEntities};
 ghost use Rattle.lh_emit_def.specs.Printed.{CombIsPrintable, EdgeIsPrintable, OnceIsPrintable};
-ghost use Rattle.lh_emit_def.specs.Laws.{CombPasses, CombSenses, CombIsEntity, CombIsRight, EdgePasses, EdgeSenses, EdgeIsEntity, EdgeIsRight, OncePasses, OnceSenses, OnceIsEntity, OnceIsRight, PartsAreReached};
+ghost use Rattle.lh_emit_def.specs.Names.{NextIsLeast};
+ghost use Rattle.lh_emit_def.specs.Laws.{CombPasses, CombSenses, CombIsEntity, CombIsRight, EdgePasses, EdgeSenses, EdgeIsEntity, EdgeIsRight, OncePasses, OnceSenses, OnceIsEntity, OnceIsRight, PartsAreReached, StepsAreFirst};
 
 /// The entity of drives has the process's name and arguments, neither signals nor instances, and no fault, in whatever module it stands; no
 /// name stands twice. On all values a pass of it gives the wish of the drives. It senses the parts that are waited on, and beyond them only
@@ -38,9 +39,16 @@ pub fn printing_law()
     ensures once { OnceIsPrintable }
 {}
 
-/// The steps that are found for a part of a process lead to it from its argument.
+/// The steps that are found for a part of a process lead to it from its argument. They are those of the first line in text order that
+/// gives the part; as many steps as there are lines are always enough.
 pub fn steps_law()
-    ensures { PartsAreReached }
+    ensures reached { PartsAreReached }
+    ensures first { StepsAreFirst }
+{}
+
+/// The next name of a value has the least number from where the numbers are that is no argument's.
+pub fn names_law()
+    ensures { NextIsLeast }
 {}
 
 /// The entities of small processes, each line of them: a flip-flop with and without reset, a sum, constants, three drives that share a delay, a

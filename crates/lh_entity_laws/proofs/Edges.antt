@@ -42,7 +42,7 @@ use Rattle.lh_region_def.specs.Means.{range_in, reads, with_rows}
 use Rattle.lh_region_def.specs.Ending.{StandsAs}
 use Rattle.lh_region_def.specs.Laws.{max_steps, EndsAs, WaitsAfter, ThenFirst}
 use Rattle.lh_region_def.specs.Right.{DriveTyped}
-use Rattle.lh_region_def.proofs.Among.{each-among}
+use Rattle.lh_flat_laws.proofs.Members.{each-among}
 use Rattle.lh_region_def.proofs.PartReads.{reads-fit}
 use Rattle.lh_region_def.proofs.Second.{past-typed}
 use Rattle.lh_shape.specs.Reasons.{is_halt, is_wait, ends_halted, is_empty, in_some, is_timed, are_mixed, waits_for_head, parts_waited, second_drives}

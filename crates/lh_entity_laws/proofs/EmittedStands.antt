@@ -26,7 +26,7 @@ use Rattle.lh_edge.specs.Triggers.{EdgeRowTree}
 use Rattle.lh_region_def.specs.Rows.{Drive}
 use Rattle.lh_region_def.specs.Means.{reads}
 use Rattle.lh_region_def.specs.Typed.{Among}
-use Rattle.lh_region_def.proofs.Among.{each-among}
+use Rattle.lh_flat_laws.proofs.Members.{each-among}
 use Rattle.lh_shape.specs.Shapes.{ShapeText, comb, edge, once, left, shape_of_text}
 use Rattle.lh_emit_def.specs.Emitted.{PartStep, source_of}
 use Rattle.lh_emit_def.specs.Entities.{emits, comb_emission, edge_emission, once_emission}

@@ -31,7 +31,7 @@ use Rattle.lh_region_def.specs.Known.{Known, known_value, known_cell, known_part
 use Rattle.lh_region_def.specs.Joins.{RegionEdge, or_any, any_taken, in_each, selector, chosen_from, merged, merged_by, joined, phi_on, with_phi, with_phis, known_at}
 use Rattle.lh_region_def.specs.Places.{stepped, part_stepped, operated}
 use Rattle.lh_region_def.specs.Regions.{with_constant, with_constants}
-use Rattle.lh_region_def.proofs.Among.{in-each}
+use Rattle.lh_flat_laws.proofs.Members.{in-each}
 use Rattle.lh_region_def.proofs.Heads.{arguments-case, argument-of}
 use Rattle.lh_region_def.proofs.JoinedKnowledge.{GiveEach, given-each, merged-of, value_on, cell_on, part_on, JoinCase, of_value, of_cell, of_part, join-case, known-by-value, known-by-cell, known-by-part, first-among}
 use Rattle.lh_region_def.proofs.Sites.{LineGood}

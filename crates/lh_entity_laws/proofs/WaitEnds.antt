@@ -15,7 +15,7 @@ use Rattle.lh_flat.specs.Flat.{FlatText}
 use Rattle.lh_region_def.specs.Rows.{Way, halts, enters_head, waits, RegionEnd}
 use Rattle.lh_region_def.specs.Regions.{head_of, waits_for, waited_parts, is_that, waits_alike, target_if, one_target}
 use Rattle.lh_region_def.specs.Typed.{Among}
-use Rattle.lh_region_def.proofs.Among.{in-each, each-among}
+use Rattle.lh_flat_laws.proofs.Members.{in-each, each-among}
 use Rattle.lh_shape.specs.Reasons.{is_halt, ends_halted, is_timed, is_same_wait, are_mixed, waits_for_head, goes_to_head, parts_waited}
 use Rattle.lh_entity_laws.proofs.Bits.{bits_of, same-right, same-left, append-within, left-within, right-within, both-within}
 use Rattle.lh_entity_laws.proofs.EndTargets.{WayFits, EndsFit, from_head}

@@ -31,8 +31,9 @@ use Rattle.lh_flat.specs.Renames.{value_in, renamed, sizes_in}
 use Rattle.lh_flat.specs.Agrees.{Agrees}
 use Rattle.lh_flat.specs.Fits.{IdsFit}
 use Rattle.lh_flat.specs.Building.{line_of, no_block, put, taken, line_in, line_added, insts_added, blocks_added}
-use Rattle.lh_flat.specs.CopyNames.{call_names, insts_names, blocks_names, NamedFrom, IsCallable, InstIsRight, BlockIsRight}
+use Rattle.lh_flat.specs.CopyNames.{call_names, insts_names, blocks_names, NamedFrom, IsCallable, is_known, InstIsRight, BlockIsRight}
 use Rattle.lh_flat.proofs.BuilderRoom.{maybe-within}
+use Rattle.lh_flat.proofs.CopiedIds.{result-known}
 use Rattle.lh_flat.proofs.Names.{maybe-same, renames_as_copied}
 use Rattle.lh_flat.proofs.NumberNames.{named-left, named-right, labels, labels-left, labels-right, moved, read, read-one_more, long-by_text, none_less}
 use Rattle.lh_types.proofs.Tests.{or_false_left, or_false_right}
@@ -113,7 +114,7 @@ pub record CopyIs (a : Arena) (fs : List UnitText) (g : Naming) (u : ℕ) (c : C
   pub blocks : HasBlocks (kind_at a u)
   pub unit : c.unit ≡ unit_text_at a u
   pub fits : IdsFit a u r
-  pub agrees : Agrees (naming a u) g fs (blocks_at a u) (is_function (kind_text (kind_at a u))) c r
+  pub agrees : Agrees (naming a u) g fs (is_known a u) (blocks_at a u) (is_function (kind_text (kind_at a u))) c r
 
 -- what is built for a call reads as the branch into the copy, and the copy
 pub record CallReads (fs : List UnitText) (g : Naming) (c d : Copy) (l : LineText) (copies : List FlatBlockText) (names : List (List ℕ)) (t t' : FlatBuilder) : Type 0 where
@@ -139,8 +140,8 @@ pub record BlocksRead (g : Naming) (texts : List FlatBlockText) (names : List (L
 abbrev pub CallsRead : (a : Arena) (fs : List UnitText) (g : Naming) (called : UnitId → Renaming → TableLine → FlatBuilder → FlatBuilder) (copy_of : Copy → List FlatBlockText) (names : UnitId → List ℕ
     → List (List ℕ)) (test : UnitName → Bool) → Type 0
 CallsRead a fs g called copy_of names test =
-    (u : ℕ) (c : Copy) (r : Renaming) (i : InstId) (f : UnitId) (path : List ℕ) (t : FlatBuilder) → CopyIs a fs g u c r → callee_of a (line_of a u i).inst ≡ Some f → IsCallable a fs f
-    → test (unit_name_at a f.0) ≡ false →
+    (u : ℕ) (c : Copy) (r : Renaming) (i : InstId) (f : UnitId) (path : List ℕ) (t : FlatBuilder) → CopyIs a fs g u c r → callee_of a (line_of a u i).inst ≡ Some f
+    → InstIsRight a fs u (line_of a u i).inst → test (unit_name_at a f.0) ≡ false →
     NamedFrom g.label_name (length t.blocks + 1) (labels (copy_of (copy_at path (arg_names c (line_text_of a u i).inst) (unit_text_at a f.0)))) →
     g.label_name (length t.blocks + 1 + length (copy_of (copy_at path (arg_names c (line_text_of a u i).inst) (unit_text_at a f.0)))) ≡ path →
     NamedFrom g.value_name t.values (names f path) →
@@ -195,10 +196,10 @@ module _ (a : Arena) (o : IsArena a) (fs : List UnitText) (g : Naming) (called :
   line-same u c r i k w =
       line-records (maybe_text g (option_map (value_in r) (line_of a u i).result)) (option_map c.value (maybe_text (naming a u) (line_of a u i).result)) (inst_text g (renamed r (line_of a u i).inst))
       (copied fs c (inst_text (naming a u) (line_of a u i).inst))
-      (maybe-same (naming a u) g fs (blocks_at a u) (is_function (kind_text (kind_at a u))) c r (unit_count a) k.agrees (line_of a u i).result
-      (maybe-within a o u k.within r k.fits (unit_count a) i.0 (line_of a u i).result refl))
-      (renames_as_copied (naming a u) g fs (blocks_at a u) (is_function (kind_text (kind_at a u))) c r (unit_count a) k.agrees (line_of a u i).inst w.code
-      (inst-fits a u r (line_of a u i).inst k.fits (line-placed a u i.0 o)) w.blocks)
+      (maybe-same (naming a u) g fs (is_known a u) (blocks_at a u) (is_function (kind_text (kind_at a u))) c r (unit_count a) k.agrees (line_of a u i).result
+      (maybe-within a o u k.within r k.fits (unit_count a) i.0 (line_of a u i).result refl) (result-known a u o k.within i.0 (line_of a u i).result refl))
+      (renames_as_copied (naming a u) g fs (is_known a u) (blocks_at a u) (is_function (kind_text (kind_at a u))) c r (unit_count a) k.agrees (line_of a u i).inst w.code
+      (inst-fits a u r (line_of a u i).inst k.fits (line-placed a u i.0 o)) w.values w.blocks)
 
   -- the lines of a block from line n on
   pub lines-read : (u : ℕ) (c : Copy) (r : Renaming) (k : CopyIs a fs g u c r) (label : List ℕ) (is : List InstId) → Each (λ (i : InstId). InstIsRight a fs u (line_of a u i).inst) is → (n : ℕ)
@@ -255,7 +256,7 @@ module _ (a : Arena) (o : IsArena a) (fs : List UnitText) (g : Naming) (called :
           let right : NamedFrom g.label_name (length t.blocks + 1 + length (copy_of d)) (labels (D ∷ p.more)) = labels-right g.label_name (length t.blocks + 1) (copy_of d) (D ∷ p.more) hs in
           let s : FlatBuilder = called f r (line_of a u i) t in
           let one : CallReads fs g c d l (copy_of d) (names f (call_path c label n)) t s =
-          calls u c r i f (call_path c label n) t k e ok z (labels-left g.label_name (length t.blocks + 1) (copy_of d) (D ∷ p.more) hs) right.0
+          calls u c r i f (call_path c label n) t k e w.0 z (labels-left g.label_name (length t.blocks + 1) (copy_of d) (D ∷ p.more) hs) right.0
           (named-left g.value_name t.values (names f (call_path c label n)) ns hv) in
           let B : FlatBlockText = record {
             label = g.label_name (length t.blocks);

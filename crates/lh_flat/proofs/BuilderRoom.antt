@@ -1,15 +1,14 @@
 -- What the code that builds a flat text has to know: room, new ids, and ids within their numbers.
-use Rattle.std.proofs.Common.{◌≡◌, ℕ, zero, suc, ◌+◌, ◌-◌, ◌<◌, min, inl, inr, List, [], ◌∷◌, ◌++◌, length, drop, set, replicate, refl, ap, sym, ◌∙◌, subst, arith, Option, Some, None}
-use Rattle.std.proofs.lemmas.Bool.{cases_lt}
+use Rattle.std.proofs.Common.{◌≡◌, ℕ, zero, suc, ◌+◌, ◌-◌, ◌<◌, List, [], ◌∷◌, ◌++◌, length, map, set, replicate, refl, ap, sym, ◌∙◌, subst, arith, Option, Some, None}
+use Rattle.std.specs.List.{range_with_len}
 use Rattle.std.proofs.lemmas.List.{length-set, length-replicate}
 use Rattle.std.proofs.lemmas.List.FromFn.{map-range_with_len_more, length-map-range_with_len}
-use Rattle.lh_unit.specs.Table.{ArgsWithin, ResultWithin}
+use Rattle.lh_unit.specs.Table.{Table, ResultWithin}
 use Rattle.lh_unit.specs.Within.{MaybeWithin}
-use Rattle.lh_unit.specs.Arena.{Arena, IsArena, table_at, args_at, blocks_at, unit_count, value_count, label_count}
+use Rattle.lh_unit.specs.Arena.{Arena, IsArena, table_at, blocks_at, unit_count, value_count, label_count}
 use Rattle.lh_unit.specs.declared.inst.UnitId.{UnitId}
 use Rattle.lh_unit.specs.declared.inst.BlockId.{BlockId}
 use Rattle.lh_unit.specs.declared.inst.ValueId.{ValueId}
-use Rattle.lh_unit.specs.declared.inst.Arg.{Arg}
 use Rattle.lh_unit.specs.declared.table.TableLine.{TableLine}
 use Rattle.lh_unit.proofs.ById.{result-within}
 use Rattle.lh_flat.specs.declared.flat.Merge.{Merge}
@@ -18,8 +17,8 @@ use Rattle.lh_flat.specs.declared.rename.Renaming.{Renaming}
 use Rattle.lh_flat.specs.declared.build.FlatBuilder.{FlatBuilder}
 use Rattle.lh_flat.specs.Renames.{no_span, sizes_in}
 use Rattle.lh_flat.specs.Fits.{IdsFit}
-use Rattle.lh_flat.specs.Building.{line_of, insts_room, block_room, unit_room, call_room, span_at, spans_with, spans_of, new_ids, bound, call_ids, blocks_give, merge_in, merging, entering, blocks_added, call_added, unit_added}
-use Rattle.lh_types.proofs.Lists.{drop_end}
+use Rattle.lh_flat.specs.Building.{line_of, insts_room, block_room, unit_room, call_room, span_at, spans_with, spans_of, own_ids, new_id, new_ids, call_ids, blocks_give, merge_in, merging, entering, blocks_added, call_added, unit_added}
+use Rattle.lh_flat.proofs.CalledFunctions.{zero_first}
 
 -- the room that a call takes
 pub no_room : (k : ℕ) (a : Arena) → call_room k a None ≡ 0
@@ -43,34 +42,23 @@ pub room-more : (k n : ℕ) (a : Arena) (f : UnitId) → (k ≡ 0 → ⊥) → n
 room-more zero n a f h e = absurd (h refl)
 room-more (suc k) n a f h e = ap (λ m. m + 1) e ∙ ap (λ j. unit_room (call_room j a) a f.0 + 1) (sym (less_one k)) ∙ sym (room-next k a f)
 
--- one more new id
-pub ids-next : (from n k : ℕ) (xs ys : List ValueId) → xs ≡ new_ids from n → from + n ≡ k → ys ≡ xs ++ record { 0 = k } ∷ [] → ys ≡ new_ids from (n + 1)
-ids-next from n k xs ys e f g = g ∙ ap (λ zs. zs ++ record { 0 = k } ∷ []) e ∙ sym (map-range_with_len_more (λ (j : ℕ). record { 0 = j }) from n k f)
+-- a call takes the room of the copy, and one block more
+pub room-of_call : (k : ℕ) (a b : Arena) (f g : UnitId) (o : Option UnitId) → (k ≡ 0 → ⊥) → b ≡ a → g ≡ f → o ≡ Some f → unit_room (call_room (k - 1) b) b g.0 + 1 ≡ call_room k a o
+room-of_call k a b f g o n e q h =
+    room-more k (unit_room (call_room (k - 1) b) b g.0) a f n
+    (ap (λ (x : Arena). unit_room (call_room (k - 1) x) x g.0) e ∙ ap (λ (x : UnitId). unit_room (call_room (k - 1) a) a x.0) q)
+    ∙ sym (ap (call_room k a) h)
 
--- beyond the last parameter or the last argument none is bound
-no-args : (ps : List Arg) (vs : List ValueId) → vs ≡ bound ps [] vs
-no-args [] vs = refl
-no-args (p ∷ ps) vs = refl
+-- one more id
+pub ids-next : (id : ℕ → ValueId) (n k : ℕ) (x : ValueId) (xs ys : List ValueId) → xs ≡ map id (range_with_len 0 n) → n ≡ k → x ≡ id k → ys ≡ xs ++ x ∷ [] → ys ≡ map id (range_with_len 0 (n + 1))
+ids-next id n k x xs ys e f h g = g ∙ (λ i. e i ++ h i ∷ []) ∙ sym (map-range_with_len_more id 0 n k (zero_first n ∙ f))
 
-pub bound-none : (ps : List Arg) (xs vs : List ValueId) (n : ℕ) → n ≡ min (length ps) (length xs) → vs ≡ bound (drop n ps) (drop n xs) vs
-bound-none ps xs vs n e = elim (cases_lt (length ps) (length xs)) [
-  | inl l ↦ ap (λ qs. bound qs (drop n xs) vs) (sym (drop_end ps n (omega arith)))
-  | inr l ↦ no-args (drop n ps) vs ∙ ap (λ ys. bound (drop n ps) ys vs) (sym (drop_end xs n (omega arith)))
-]
+-- a copy has as many ids and spans as its unit has values and labels
+pub length-own_ids : (n : ℕ) → length (own_ids n) ≡ n
+length-own_ids n = length-map-range_with_len (λ (k : ℕ). record { 0 = k }) 0 n
 
-pub length-new_ids : (from n : ℕ) → length (new_ids from n) ≡ n
-length-new_ids from n = length-map-range_with_len (λ (k : ℕ). record { 0 = k }) from n
-
-pub args-fit : (a : Arena) (u from n : ℕ) (vs : List ValueId) (args : List Arg) → IsArena a → u < unit_count a → vs ≡ new_ids from n → n ≡ value_count a u → args ≡ args_at a u
-    → ArgsWithin (length vs) args
-args-fit a u from n vs args o l e f h =
-    subst (λ xs. ArgsWithin (length vs) xs) (sym h) (subst (λ m. ArgsWithin m (args_at a u)) (sym (ap length e ∙ length-new_ids from n ∙ f)) (o.tables u l).args_within)
-
--- as many ids and spans as there are values and labels
-pub length-bound : (ps : List Arg) (xs vs : List ValueId) → length (bound ps xs vs) ≡ length vs
-length-bound [] xs vs = refl
-length-bound (p ∷ ps) [] vs = refl
-length-bound (p ∷ ps) (x ∷ xs) vs = length-set (bound ps xs vs) p.value.0 x ∙ length-bound ps xs vs
+pub length-new_ids : (t : Table) (args : List ValueId) (from : ℕ) → length (new_ids t args from) ≡ length t.values
+length-new_ids t args from = length-map-range_with_len (new_id t args from) 0 (length t.values)
 
 length-spans : (room : Option UnitId → ℕ) (a : Arena) (u at : ℕ) (bs : List BlockId) (ss : List Span) → length (spans_with room a u at bs ss) ≡ length ss
 length-spans room a u at [] ss = refl
@@ -80,13 +68,6 @@ length-spans room a u at (b ∷ bs) ss =
 
 pub length-spans_of : (room : Option UnitId → ℕ) (a : Arena) (u at : ℕ) → length (spans_of room a u at) ≡ label_count a u
 length-spans_of room a u at = length-spans room a u at (blocks_at a u) (replicate (label_count a u) no_span) ∙ length-replicate (label_count a u) no_span
-
-pub ids-fit : (room : Option UnitId → ℕ) (a : Arena) (u at from n : ℕ) (ps : List Arg) (xs vs ws : List ValueId) (ss : List Span) (b : BlockId) → vs ≡ new_ids from n → n ≡ value_count a u
-    → ws ≡ bound ps xs vs → ss ≡ spans_of room a u at → IdsFit a u (record { values = ws; spans = ss; back = b })
-ids-fit room a u at from n ps xs vs ws ss b e f g h = record {
-  values = ap length g ∙ length-bound ps xs vs ∙ ap length e ∙ length-new_ids from n ∙ f;
-  labels = ap length h ∙ length-spans_of room a u at;
-}
 
 -- the result of an instruction has a new id
 pub maybe-within : (a : Arena) (o : IsArena a) (u : ℕ) (l : u < unit_count a) (r : Renaming) (f : IdsFit a u r) (n i : ℕ) (v : Option ValueId) → v ≡ (line_of a u (record { 0 = i })).result

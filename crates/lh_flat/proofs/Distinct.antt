@@ -8,36 +8,28 @@ use Rattle.lh_unit.specs.Naming.{block_text}
 use Rattle.lh_unit.specs.Table.{insts_at, is_block, HasBlocks, BlocksWithin}
 use Rattle.lh_unit_names.specs.Distinct.{AllDistinct}
 use Rattle.lh_unit.specs.Within.{Each}
-use Rattle.lh_unit.specs.Arena.{Arena, IsArena, table_at, naming, blocks_at, unit_count, label_count, label_name_at, unit_text_at, kind_at}
+use Rattle.lh_unit.specs.Arena.{Arena, IsArena, table_at, naming, blocks_at, unit_count, value_count, label_count, value_name_at, label_name_at, unit_text_at, kind_at}
 use Rattle.lh_unit.specs.declared.inst.UnitId.{UnitId}
 use Rattle.lh_unit.specs.declared.inst.BlockId.{BlockId}
 use Rattle.lh_unit.specs.declared.inst.InstId.{InstId}
 use Rattle.lh_unit.proofs.Lists.{Each-append, Same, same, other, same_or, nat_eq-other, or_true}
-use Rattle.lh_unit.proofs.ModuleLaws.{label-by_name}
+use Rattle.lh_unit.proofs.ModuleLaws.{value-by_name, label-by_name}
 use Rattle.lh_unit.proofs.Defined.{blocks-within}
 use Rattle.lh_unit.proofs.Within.{Each-more}
 use Rattle.lh_flat.specs.Graph.{callee_of}
 use Rattle.lh_flat.specs.Copies.{Copy, call_path, copy_at, opened}
 use Rattle.lh_flat.specs.Flat.{FlatBlockText, Pieces, merge_of, with_line, pieces_from, flat_block, flat_copy}
 use Rattle.lh_flat.specs.Building.{line_of}
-use Rattle.lh_flat.specs.CopyNames.{own_names, call_names, insts_names, blocks_names, copy_names, IsCallable, InstIsRight, BlockIsRight, UnitsAreRight}
+use Rattle.lh_flat.specs.CopyNames.{own_names, unit_results, call_names, insts_names, blocks_names, copy_names, IsCallable, InstIsRight, BlockIsRight, UnitsAreRight}
 use Rattle.lh_flat.specs.Marks.{UnitsAreNamed}
 use Rattle.lh_flat.proofs.Marks.{nothing_behind, longer-apart}
 use Rattle.lh_flat.proofs.NumberNames.{labels}
 use Rattle.lh_flat.proofs.BlockCopies.{line_text_of, arg_names, opened-none, opened-some, block-named}
 use Rattle.lh_flat.proofs.NestedCopies.{block-in, copy_names-none, copy_names-next, is_block-head}
 use Rattle.lh_flat.proofs.Apart.{Differs, Apart, differs-from, apart-append, plain-name, name-there, Begins, At, Under, UnderFrom, from-at, from-first, from-later, at-apart, begins-under, line-apart, plain-under, begins-more}
+use Rattle.lh_flat.proofs.ResultNames.{distinct-tail, distinct-head, Own, own-begins, own-under, own-each, own-apart, once, results-each, results-apart}
 
 -- no block stands twice
-next-place : (i j : ℕ) → suc i ≡ suc j → i ≡ j
-next-place i j e = omega (arith, e)
-
-distinct-tail : {K : Type 0} (x : K) (xs : List K) → AllDistinct (x ∷ xs) → AllDistinct xs
-distinct-tail x xs h = λ i j k p q. next-place i j (h (suc i) (suc j) k p q)
-
-distinct-head : {K : Type 0} (x : K) (xs : List K) → AllDistinct (x ∷ xs) → (i : ℕ) → slice_get xs i ≡ Some x → ⊥
-distinct-head x xs h i e = let n : 0 ≡ suc i = h 0 (suc i) x refl e in omega (arith, n)
-
 block-place : (bs : List BlockId) (b : BlockId) → is_block bs b.0 ≡ true → (i : ℕ) × (slice_get bs i ≡ Some b)
 block-place [] b e = absurd cc
 block-place (x ∷ bs) b e = by (same_or x.0 b.0) (λ q. block-place bs b q)
@@ -45,22 +37,6 @@ block-place (x ∷ bs) b e = by (same_or x.0 b.0) (λ q. block-place bs b q)
     by : Same x.0 b.0 → (is_block bs b.0 ≡ true → (i : ℕ) × (slice_get bs i ≡ Some b)) → (i : ℕ) × (slice_get (x ∷ bs) i ≡ Some b)
     by (same q) f = (0, ap (λ n. Some (record { 0 = n })) q)
     by (other q) f = let r = f (sym (ap (λ y. y || is_block bs b.0) (nat_eq-other x.0 b.0 q)) ∙ e) in (suc r.0, r.1)
-
--- the values of one copy
-abbrev Own : List ℕ → List ℕ → Type 0
-Own p x = (n : List ℕ) × IsName n × (x ≡ p ++ n)
-
-own-each : (p : List ℕ) (xs : List (List ℕ)) → ((v : ℕ) → v < length xs → IsName (get_or xs v [])) → Each (Own p) (map (λ n. p ++ n) xs)
-own-each p [] h = tt
-own-each p (x ∷ xs) h = ((x, h 0 (omega arith), refl), own-each p xs (λ v l. h (suc v) (omega arith)))
-
-own-differs : (p x : List ℕ) (xs : List (List ℕ)) → ((i : ℕ) → slice_get xs i ≡ Some x → ⊥) → Differs (p ++ x) (map (λ n. p ++ n) xs)
-own-differs p x [] h = tt
-own-differs p x (y ∷ xs) h = ((λ e. h 0 (ap Some (sym (append_cancel_left p x y e)))), own-differs p x xs (λ i q. h (suc i) q))
-
-own-apart : (p : List ℕ) (xs : List (List ℕ)) → AllDistinct xs → Apart (map (λ n. p ++ n) xs)
-own-apart p [] h = tt
-own-apart p (x ∷ xs) h = (own-differs p x xs (distinct-head x xs h), own-apart p xs (distinct-tail x xs h))
 
 -- the label of one of these blocks, with something behind it
 abbrev AtOne : (a : Arena) (u : ℕ) (p : List ℕ) → List BlockId → List ℕ → Type 0
@@ -132,25 +108,30 @@ module _ (a : Arena) (o : IsArena a) (fs : List UnitText) (named : UnitsAreNamed
       )
 
   -- those of a unit, and of all copies in it
-  pub unit-values : (names : UnitId → List ℕ → List (List ℕ)) → NamesDiffer names → (u : ℕ) (l : u < unit_count a) → HasBlocks (kind_at a u) → (p : List ℕ) →
-      Apart (own_names a u p ++ blocks_names names a u p (blocks_at a u)) × Each (Begins p) (own_names a u p ++ blocks_names names a u p (blocks_at a u))
-  unit-values names h u l k p =
-      let own : Each (Own p) (own_names a u p) = own-each p (table_at a u).values (named u l).values in
+  unit-values : (names : UnitId → List ℕ → List (List ℕ)) → NamesDiffer names → (u : ℕ) (l : u < unit_count a) → HasBlocks (kind_at a u) → (p : List ℕ) (own : List (List ℕ)) → Apart own
+      → Each (Own p) own → Apart (own ++ blocks_names names a u p (blocks_at a u)) × Each (Begins p) (own ++ blocks_names names a u p (blocks_at a u))
+  unit-values names h u l k p own differ own-each =
       let w : BlocksWithin (label_count a u) (blocks_at a u) = blocks-within (kind_at a u) (table_at a u) k (o.tables u l).fits_kind in
       let inner : Apart (blocks_names names a u p (blocks_at a u)) × Each (UnderOne a u p (blocks_at a u)) (blocks_names names a u p (blocks_at a u)) =
       blocks-values names h u l p (blocks_at a u) (o.tables u l).blocks_distinct w (formed u l k) in
       let name : (b : BlockId) → is_block (blocks_at a u) b.0 ≡ true → IsName (label_name_at a u b.0) = λ b e. (named u l).labels b.0 (block-in (label_count a u) (blocks_at a u) b w e) in (
-        apart-append (Own p) (UnderOne a u p (blocks_at a u)) (own_names a u p) (blocks_names names a u p (blocks_at a u)) (own-apart p (table_at a u).values (o.tables u l).values_distinct) inner.0
-            own inner.1
-            (λ x y s t e. plain-under p s.0 (label_name_at a u t.0.0) 0 x y (plain-name s.0 s.1) s.2 t.2 e),
-        Each-append (Begins p) (own_names a u p) (blocks_names names a u p (blocks_at a u)) (Each-more (Own p) (Begins p) (own_names a u p) (λ x s. (s.0, name-there s.0 s.1, s.2)) own)
+        apart-append (Own p) (UnderOne a u p (blocks_at a u)) own (blocks_names names a u p (blocks_at a u)) differ inner.0 own-each inner.1
+            (λ x y s t e. own-under p (label_name_at a u t.0.0) x y (name t.0 t.1) s t.2 e),
+        Each-append (Begins p) own (blocks_names names a u p (blocks_at a u)) (Each-more (Own p) (Begins p) own (λ x s. own-begins p x s) own-each)
             (Each-more (UnderOne a u p (blocks_at a u)) (Begins p) (blocks_names names a u p (blocks_at a u))
             (λ x t. begins-more p (label_name_at a u t.0.0) 0 x (name-there (label_name_at a u t.0.0) (name t.0 t.1)) (from-at p (label_name_at a u t.0.0) 0 x t.2)) inner.1),
       )
 
+  -- those of a process
+  pub process-values : (names : UnitId → List ℕ → List (List ℕ)) → NamesDiffer names → (u : ℕ) (l : u < unit_count a) → HasBlocks (kind_at a u) →
+      Apart (own_names a u ++ blocks_names names a u [] (blocks_at a u)) × Each (Begins []) (own_names a u ++ blocks_names names a u [] (blocks_at a u))
+  process-values names h u l k = unit-values names h u l k [] (own_names a u) (own-apart (own_names a u) (o.tables u l).values_distinct) (own-each (own_names a u) (named u l).values)
+
   pub copies-values : (depth : ℕ) → NamesDiffer (copy_names depth a)
   copies-values zero f p k = subst (λ ns. Apart ns × Each (Begins p) ns) (sym (copy_names-none a f p)) (tt, tt)
-  copies-values (suc j) f p k = subst (λ ns. Apart ns × Each (Begins p) ns) (sym (copy_names-next j a f p)) (unit-values (copy_names j a) (copies-values j) f.0 k.within k.blocks p)
+  copies-values (suc j) f p k = subst (λ ns. Apart ns × Each (Begins p) ns) (sym (copy_names-next j a f p)) (unit-values (copy_names j a) (copies-values j) f.0 k.within k.blocks p (unit_results a f.0 p)
+      (results-apart (value_name_at a f.0) p (value_count a f.0) (λ v w x y e. value-by_name a f.0 v w o k.within x y e) (named f.0 k.within).values 0 (table_at a f.0).lines (o.tables f.0 k.within).results_within
+      (λ i j v x y e q. once (table_at a f.0) (o.tables f.0 k.within) i j v x y e q)) (results-each (value_name_at a f.0) p (value_count a f.0) (named f.0 k.within).values 0 (table_at a f.0).lines (o.tables f.0 k.within).results_within))
 
   -- ---- labels
 

@@ -8,7 +8,7 @@ use Rattle.lh_unit.specs.Activation.{functions}
 use Rattle.lh_unit.specs.Table.{HasBlocks, ArgsWithin}
 use Rattle.lh_unit.specs.Within.{Each}
 use Rattle.lh_unit.specs.Arena.{Arena, IsArena, contents, table_at, naming, blocks_at, args_at, unit_count, value_count, unit_name_at, value_name_at, unit_text_at, kind_at}
-use Rattle.lh_unit.specs.WellFormed.{IsFaultless}
+use Rattle.lh_unit.specs.WellFormed.{IsSpelled, IsFaultless}
 use Rattle.lh_unit.specs.declared.inst.UnitId.{UnitId}
 use Rattle.lh_unit.specs.declared.inst.UnitKind.{UnitKind}
 use Rattle.lh_unit.specs.declared.inst.UnitKind.TheVariants as kind
@@ -21,27 +21,29 @@ use Rattle.lh_flat.specs.declared.flat.Flat.{Flat}
 use Rattle.lh_flat.specs.declared.rename.Renaming.{Renaming}
 use Rattle.lh_flat.specs.declared.build.FlatBuilder.{FlatBuilder}
 use Rattle.lh_flat.specs.Calls.{callees, nest_deeper}
-use Rattle.lh_flat.specs.Copies.{top_copy, argument_or}
+use Rattle.lh_flat.specs.Copies.{top_copy}
 use Rattle.lh_flat.specs.Flat.{FlatBlockText, FlatText, flat_copy, max_nested, text_of, refused, call_too_deep, flat_too_large, flat_of}
 use Rattle.lh_flat.specs.Reads.{ReadsAs, Flattens}
-use Rattle.lh_flat.specs.Building.{call_room, ids_for, no_text, blocks_added, call_added}
+use Rattle.lh_flat.specs.Building.{call_room, own_ids, ids_for, no_text, blocks_added, call_added}
 use Rattle.lh_flat.specs.CopyNames.{own_names, blocks_names, copy_names, NamedFrom}
 use Rattle.lh_flat.specs.Graph.{IsGraph}
 use Rattle.lh_unit_graph.specs.Measures.{Measures}
 use Rattle.lh_flat.specs.Measures.{measuring, fault_of}
 use Rattle.lh_flat.specs.Marks.{UnitsAreNamed}
 use Rattle.lh_flat.specs.Below.{IdsBelow}
-use Rattle.lh_flat.specs.Made.{IsMade}
+use Rattle.lh_flat.specs.Made.{IsMade, TopHasRoom}
 use Rattle.lh_flat.proofs.Bounds.{name_or_mark, name-inside, inside, blocks-below}
-use Rattle.lh_flat.proofs.BuilderRoom.{length-new_ids}
+use Rattle.lh_flat.proofs.BuilderRoom.{length-own_ids}
 use Rattle.lh_flat.proofs.NumberNames.{labels, read, named-left, named-right, moved, long-by_text}
 use Rattle.lh_flat.proofs.BlockCopies.{CopyIs, BlocksRead, blocks-read}
-use Rattle.lh_flat.proofs.CopyValues.{values-named}
+use Rattle.lh_flat.proofs.CopyValues.{own-named}
 use Rattle.lh_flat.proofs.NestedCopies.{nests_below, below-any, CopyStarts, copy-is, calls-read}
 use Rattle.lh_flat.proofs.Apart.{apart-at}
-use Rattle.lh_flat.proofs.Distinct.{unit-values, copies-values, unit-labels, copies-labels}
+use Rattle.lh_flat.proofs.Distinct.{process-values, copies-values, unit-labels, copies-labels}
 use Rattle.lh_flat.proofs.Formed.{units-right}
-use Rattle.lh_flat.proofs.RefusalLaws.{Refuses-measured, Refuses-deep, Refuses-large, Flattens-measured, not-deep}
+use Rattle.lh_flat.proofs.RefusalLaws.{Refuses-measured, Refuses-deep, Refuses-large, Flattens-measured, not-deep, length-few}
+use Rattle.lh_flat.proofs.Endings.{units-end}
+use Rattle.lh_flat.proofs.Enough.{top-room}
 use Rattle.lh_flat.proofs.CalledFunctions.{zero_first}
 
 -- names at their places
@@ -74,10 +76,6 @@ no-function (Some kind.Func) e y = cc
 no-function (Some kind.Entity) e y = cc
 no-function None e y = cc
 
-unbound : (ps : List ArgText) (other n : List ℕ) → argument_or ps [] other n ≡ other
-unbound [] other n = refl
-unbound (p ∷ ps) other n = refl
-
 module _ (a : Arena) (o : IsArena a) (f : IsFaultless (contents a)) (named : UnitsAreNamed a) (top : ℕ) (l : top < unit_count a) (k : HasBlocks (kind_at a top))
     (p : kind_at a top ≡ Some kind.Proc) where
   abbrev fs : List UnitText
@@ -88,7 +86,7 @@ module _ (a : Arena) (o : IsArena a) (f : IsFaultless (contents a)) (named : Uni
 
   module _ (depth : ℕ) (shallow : nest_deeper depth fs (callees text) ≡ false) where
     abbrev own : List (List ℕ)
-    own = own_names a top []
+    own = own_names a top
 
     abbrev inner : List (List ℕ)
     inner = blocks_names (copy_names depth a) a top [] (blocks_at a top)
@@ -97,17 +95,14 @@ module _ (a : Arena) (o : IsArena a) (f : IsFaultless (contents a)) (named : Uni
     blocks = flat_copy (suc depth) fs (top_copy text)
 
     abbrev ids : Renaming
-    ids = ids_for (call_room depth a) a top [] 0 0 0
+    ids = ids_for (call_room depth a) a top (own_ids (value_count a top)) 0 0
 
     abbrev made : FlatBuilder
     made = blocks_added (call_added depth a) a top ids (blocks_at a top) (no_text (value_count a top))
 
-    own-long : length own ≡ value_count a top
-    own-long = length-map (table_at a top).values (λ n. [] ++ n)
-
     -- it reads so by any names that stand at these places
     module _ (g : Naming) (gu : g.unit_name ≡ unit_name_at a) (gl : NamedFrom g.label_name 0 (labels blocks)) (gv : NamedFrom g.value_name 0 (own ++ inner)) where
-      starts : CopyStarts a fs g depth top (top_copy text) 0 0
+      starts : CopyStarts a fs g depth top (top_copy text) 0
       starts = record {
         within = l;
         blocks = k;
@@ -115,20 +110,18 @@ module _ (a : Arena) (o : IsArena a) (f : IsFaultless (contents a)) (named : Uni
         nests = sym (below-any depth fs (callees text)) ∙ shallow;
         labels = gl;
         back = λ y. absurd (no-function (kind_at a top) p y);
-        values = named-left g.value_name 0 own inner gv;
       }
 
       top-is : CopyIs a fs g top (top_copy text) ids
-      top-is = copy-is a o fs (units-right a o f) g gu depth top (top_copy text) 0 0 0 [] starts (λ y. absurd (no-function (kind_at a top) p y))
-          (λ v w. values-named a o top l g [] 0 [] v (length-new_ids 0 (value_count a top)) starts.values w
-          ∙ unbound (map (arg_text (naming a top)) (args_at a top)) (value_name_at a top v.0) (value_name_at a top v.0))
+      top-is = copy-is a o fs (units-right a o f) g gu depth top (top_copy text) 0 0 (own_ids (value_count a top)) starts (λ y. absurd (no-function (kind_at a top) p y))
+          (length-own_ids (value_count a top)) (λ v w n. own-named a o top l g v (named-left g.value_name 0 own inner gv) w)
 
       made-by : BlocksRead g blocks inner (no_text (value_count a top)) made
       made-by =
           blocks-read a o fs g (call_added depth a) (flat_copy depth fs) (copy_names depth a) (nests_below depth fs) (calls-read a o fs (units-right a o f) g gu depth) top (top_copy text) ids top-is
           (blocks_at a top)
           (units-right a o f top l k) starts.nests (no_text (value_count a top)) refl gl
-          (moved g.value_name (0 + length own) (value_count a top) inner (zero_first (length own) ∙ own-long) (named-right g.value_name 0 own inner gv))
+          (moved g.value_name (0 + length own) (value_count a top) inner (zero_first (length own)) (named-right g.value_name 0 own inner gv))
 
     -- the names of its ids
     abbrev names : Naming
@@ -145,7 +138,7 @@ module _ (a : Arena) (o : IsArena a) (f : IsFaultless (contents a)) (named : Uni
     made-marked = made-by marked refl (marked-all (labels blocks)) (marked-all (own ++ inner))
 
     all-values : made.values ≡ length (own ++ inner)
-    all-values = made-reads.values ∙ ap (λ n. n + length inner) (sym own-long) ∙ sym (length-append own inner)
+    all-values = made-reads.values ∙ sym (length-append own inner)
 
     all-blocks : length made.blocks ≡ length (labels blocks)
     all-blocks = long-by_text names [] made.blocks blocks made-reads.blocks ∙ zero_first (length blocks) ∙ sym (length-map blocks (λ (b : FlatBlockText). b.label))
@@ -170,13 +163,8 @@ module _ (a : Arena) (o : IsArena a) (f : IsFaultless (contents a)) (named : Uni
     args-read [] w = refl
     args-read (x ∷ xs) w = cc (by x.value w.0, args-read xs w.1)
       where
-        at : (vs : List (List ℕ)) (n : ℕ) → n < length vs → get_or (map (λ m. [] ++ m) vs) n [] ≡ get_or vs n []
-        at [] n h = absurd (omega arith)
-        at (v ∷ vs) zero h = refl
-        at (v ∷ vs) (suc n) h = at vs n (omega arith)
-
         by : (v : ValueId) → v.0 < value_count a top → get_or (own ++ inner) v.0 [] ≡ value_name_at a top v.0
-        by v h = get_or_append_left own inner [] v.0 (omega (arith, own-long, h)) ∙ at (table_at a top).values v.0 h
+        by v h = get_or_append_left own inner [] v.0 h
 
     pub reads : (t : Flat) → t.args ≡ args_at a top → t.blocks ≡ made.blocks → t.values ≡ made.values → ReadsAs a t (record { args = text.args; blocks = blocks })
     reads t ea eb ev = record {
@@ -184,7 +172,7 @@ module _ (a : Arena) (o : IsArena a) (f : IsFaultless (contents a)) (named : Uni
       units = refl;
       says = texts (map (arg_text names) t.args) text.args (read names t.blocks) blocks (ap (map (arg_text names)) ea ∙ args-read (args_at a top) (o.tables top l).args_within)
           (ap (read names) eb ∙ made-reads.blocks);
-      values = λ v w h j e. apart-at (own ++ inner) v w (unit-values a o fs named (units-right a o f) (copy_names depth a) (copies-values a o fs named (units-right a o f) depth) top l k []).0
+      values = λ v w h j e. apart-at (own ++ inner) v w (process-values a o fs named (units-right a o f) (copy_names depth a) (copies-values a o fs named (units-right a o f) depth) top l k).0
           (subst (λ n. v < n) (ev ∙ all-values) h) (subst (λ n. w < n) (ev ∙ all-values) j) e;
       labels = λ i j h q e. apart-at (labels blocks) i j (unit-labels a o fs named (units-right a o f) depth (copies-labels a o fs named (units-right a o f) depth) top l k (top_copy text) refl).0
           (subst (λ n. i < n) (ap length eb ∙ all-blocks) h) (subst (λ n. j < n) (ap length eb ∙ all-blocks) q) e;
@@ -227,3 +215,12 @@ module _ (a : Arena) (g h : List CallNode) (top : ℕ) (o : IsArena a) (f : IsFa
   flat-below n m w d b u t eb eu t-made =
       made_below a o f n top l (process-blocks (kind_at a top) p) p (not-deep a g top o f graph l p m w (le-ltb 65 m.depth d)) t
       (subst (λ x. IsMade a x t) eu (subst (λ x. IsMade x u.0 t) eb t-made))
+
+  -- where the process itself has no more values than this, ids are left for all that is copied
+  pub flat-room : IsSpelled (contents a) → (m : CallMeasure) → Measures measuring g top (Ok m) → m.depth ≤ 65 → m.insts ≤ 65536 → (b : Arena) (u : UnitId) (n : ℕ) → b ≡ a → u.0 ≡ top
+      → n ≡ value_count b u.0 → n ≤ 4294901759 → TopHasRoom b u.0
+  flat-room s m w d i b u n eb eu en h =
+      subst (λ x. TopHasRoom x u.0) (sym eb) (subst (TopHasRoom a) (sym eu)
+      (top-room a o (functions (contents a)) (units-right a o f) (units-end a o (s, f)) 65 top l (process-blocks (kind_at a top) p)
+      (subst (λ x. x ≤ 4294901759) (en ∙ ap (λ x. value_count x u.0) eb ∙ ap (value_count a) eu) h) refl
+      (length-few a g top o f graph l p m w (le-ltb 65 m.depth d) 65 refl i)))

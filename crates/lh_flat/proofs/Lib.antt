@@ -5,7 +5,9 @@ pub mod CallGraph
 pub mod Lengths
 pub mod Names
 pub mod NumberNames
+pub mod CopiedIds
 pub mod BuilderRoom
+pub mod Rooms
 pub mod BlockCopies
 pub mod CopyIds
 pub mod CopyValues
@@ -17,7 +19,10 @@ pub mod RefusalLaws
 pub mod Formed
 pub mod Marks
 pub mod Apart
+pub mod ResultNames
 pub mod Distinct
-pub mod FlatTexts
 pub mod Bounds
 pub mod Loops
+pub mod Endings
+pub mod Enough
+pub mod FlatTexts

@@ -273,6 +273,13 @@ module _ (a : Arena) (g : List CallNode) (top : ℕ) (o : IsArena a) (f : IsFaul
       blocks-at k e = blocks-named fs (unit_name_at a) (unit_text_at a) top g stands k top top-within
           ∙ counts.blocks k (small k max_counted e refl) (subst (λ n. m.depth ≤ n) (sym e) (le_from 65 m.depth d))
 
+      -- and so many instructions
+      pub length-few : (k : ℕ) → k ≡ 65 → m.insts ≤ 65536 → copy_length k fs text ≤ 65536
+      length-few k e h = uncapped (copy_length k fs text) m.insts max_counted refl (insts-at k e) h
+        where
+          uncapped : (x y e : ℕ) → e ≡ 4294967295 → min x e ≡ y → y ≤ 65536 → x ≤ 65536
+          uncapped x y e q p h = omega arith
+
       pub insts-measured : min (inst_count (text_of fs text).blocks) max_counted ≡ m.insts
       insts-measured = ap (λ n. min n max_counted) (lengths_add 65 fs (top_copy text)) ∙ insts-at 65 refl
 

@@ -1,9 +1,9 @@
 -- A flat text while it is built, by ids: how much room copies take, their new ids, and what is added to the text.
-use Rattle.std.specs.Prelude.{ℕ, zero, suc, ◌+◌, List, [], ◌∷◌, ◌++◌, length, map, Option, Some, None, slice_set, replicate}
+use Rattle.std.specs.Prelude.{ℕ, zero, suc, ◌+◌, nat_eq, if◌then◌else◌, List, [], ◌∷◌, ◌++◌, length, map, Option, Some, None, unwrap_or, slice_set, replicate}
 use Rattle.std.specs.List.{range_with_len}
 use Rattle.std.specs.Option.{option_map}
-use Rattle.lh_unit.specs.Table.{line_at, insts_at}
-use Rattle.lh_unit.specs.Arena.{Arena, table_at, blocks_at, args_at, value_count, label_count}
+use Rattle.lh_unit.specs.Table.{Table, line_at, insts_at, is_result}
+use Rattle.lh_unit.specs.Arena.{Arena, table_at, blocks_at, inst_count, label_count}
 use Rattle.lh_unit.specs.declared.inst.UnitId.{UnitId}
 use Rattle.lh_unit.specs.declared.inst.BlockId.{BlockId}
 use Rattle.lh_unit.specs.declared.inst.InstId.{InstId}
@@ -64,19 +64,31 @@ spans_with room a u at (b ∷ more) spans =
 abbrev pub spans_of : (room : Option UnitId → ℕ) → Arena → (u at : ℕ) → List Span
 spans_of room a u at = spans_with room a u at (blocks_at a u) (replicate (label_count a u) no_span)
 
--- as many new ids
-abbrev pub new_ids : (from count : ℕ) → List ValueId
-new_ids from count = map (λ k. record { 0 = k }) (range_with_len from count)
+-- the ids of a process are its own
+abbrev pub own_ids : (count : ℕ) → List ValueId
+own_ids count = map (λ k. record { 0 = k }) (range_with_len 0 count)
 
--- the values of parameters are those of arguments
-abbrev pub bound : List Arg → (args values : List ValueId) → List ValueId
-bound [] args values = values
-bound (p ∷ more) [] values = values
-bound (p ∷ more) (x ∷ args) values = slice_set (bound more args values) p.value.0 x
+-- the argument of the parameter that is the value k, if there is one
+abbrev pub argument_of : List Arg → (args : List ValueId) → (k : ℕ) → Option ValueId
+argument_of [] args k = None
+argument_of (p ∷ more) [] k = None
+argument_of (p ∷ more) (x ∷ args) k = if nat_eq p.value.0 k then Some x else argument_of more args k
 
--- the new ids of a copy of the unit u, whose first block stands at place `at`
-abbrev pub ids_for : (room : Option UnitId → ℕ) → Arena → (u : ℕ) → (args : List ValueId) → (at from back : ℕ) → Renaming
-ids_for room a u args at from back = record { values = bound (args_at a u) args (new_ids from (value_count a u)); spans = spans_of room a u at; back = record { 0 = back } }
+-- the number of the instruction that gives the value k, where the first of these has the number `from`
+abbrev pub result_id : (from : ℕ) → List TableLine → (k : ℕ) → ℕ
+result_id from [] k = 0
+result_id from (l ∷ more) k = if is_result l.result k then from else result_id (from + 1) more k
+
+-- the id of the value k in a copy of a function: that of its argument, or a new one for each instruction
+abbrev pub new_id : Table → (args : List ValueId) → (from k : ℕ) → ValueId
+new_id t args from k = unwrap_or (argument_of t.args args k) (record { 0 = result_id from t.lines k })
+
+abbrev pub new_ids : Table → (args : List ValueId) → (from : ℕ) → List ValueId
+new_ids t args from = map (new_id t args from) (range_with_len 0 (length t.values))
+
+-- the ids of a copy of the unit u, whose first block stands at place `at`
+abbrev pub ids_for : (room : Option UnitId → ℕ) → Arena → (u : ℕ) → (values : List ValueId) → (at back : ℕ) → Renaming
+ids_for room a u values at back = record { values = values; spans = spans_of room a u at; back = record { 0 = back } }
 
 -- the arguments of a call
 abbrev pub call_args : Renaming → Inst → List ValueId
@@ -153,11 +165,11 @@ blocks_added called a u r (b ∷ more) t = blocks_added called a u r more (block
 
 -- the new ids of the copy for a call: its entry stands behind the open block, and it goes back to the block behind its own
 abbrev pub call_ids : (room : Option UnitId → ℕ) → Arena → UnitId → Renaming → TableLine → FlatBuilder → Renaming
-call_ids room a f r l t = ids_for room a f.0 (call_args r l.inst) (length t.blocks + 1) t.values (length t.blocks + 1 + unit_room room a f.0)
+call_ids room a f r l t = ids_for room a f.0 (new_ids (table_at a f.0) (call_args r l.inst) t.values) (length t.blocks + 1) (length t.blocks + 1 + unit_room room a f.0)
 
--- the open block leads into the copy, and the values of that have ids
+-- the open block leads into the copy, and its results have ids
 abbrev pub entering : Arena → UnitId → FlatBuilder → FlatBuilder
-entering a f t = with_values (value_count a f.0) (put (taken (branch_to (length t.blocks + 1)) t))
+entering a f t = with_values (inst_count a f.0) (put (taken (branch_to (length t.blocks + 1)) t))
 
 -- A call is replaced by a copy, in which at most `depth` calls nest less one: the open block ends, the copy's blocks follow, and a block is open that begins with what they give back.
 unfoldable pub call_added : (depth : ℕ) → Arena → UnitId → Renaming → TableLine → FlatBuilder → FlatBuilder

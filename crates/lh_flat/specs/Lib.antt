@@ -9,6 +9,7 @@ pub mod Renames
 pub mod Agrees
 pub mod Building
 pub mod CopyOf
+pub mod Room
 pub mod Fits
 pub mod CopyNames
 pub mod Marks

@@ -1,14 +1,15 @@
 //! A flat text while it is built: a unit's blocks are copied in order, and a call's copy stands before what follows the call.
-ghost use Rattle.std.specs.Prelude.{◌≡◌, ◌+◌, ◌<◌, length, IfOk, OnOk};
-ghost use Rattle.lh_unit.specs.Arena.{unit_count, inst_count, blocks_at};
+ghost use Rattle.std.specs.Prelude.{◌≡◌, ◌+◌, ◌^◌, ◌<◌, length, Some, IfOk, OnOk};
+ghost use Rattle.lh_unit.specs.Arena.{unit_count, inst_count, blocks_at, block_insts_at};
 ghost use Rattle.lh_flat.specs.Graph.{BlockPlaced, callee_of};
-ghost use Rattle.lh_flat.specs.Building.{line_of, call_room, call_ids, put, taken, with_values, no_text, merging, entering, blocks_give, merge_in, line_added, block_added, call_added, unit_added};
+ghost use Rattle.lh_flat.specs.Building.{line_of, insts_room, block_room, unit_room, call_room, call_ids, put, taken, with_values, no_text, merging, entering, blocks_give, merge_in, line_added, block_added, call_added, unit_added};
 ghost use Rattle.lh_flat.specs.CopyOf.{IsCopy};
+ghost use Rattle.lh_flat.specs.Room.{inner_values, call_values, HasRoom};
 
 use crate::calls::callee;
-use crate::copy::{CopyPlace, UnitCopy};
+use crate::copy::{CopyPlace, UnitCopy, new_ids};
 use crate::flat::{FlatBlock, FlatBlockList, FlatInst, Merge};
-use crate::layout::{plus, unit_room};
+use crate::layout::unit_room;
 use lh_types::memory::NoMemory;
 use lh_unit::inst::{BlockId, Inst, InstId, UnitId};
 use std::alloc::Global;
@@ -61,28 +62,25 @@ impl FlatBuilder {
     }
 
     /// As many more ids of values.
-    fn take_values(&mut self, count: u32) -> Result<(), NoMemory>
-        ensures { OnOk result (self.new ≡ with_values count self.old) }
+    fn take_values(&mut self, count: u32)
+        requires { self.old.values + count < 2 ^ 32 }
+        ensures { self.new ≡ with_values count self.old }
     {
-        self.values = plus(self.values, count)?;
-        Ok(())
+        self.values += count;
     }
 
     /// The place behind the open block.
-    fn next(&self) -> Result<u32, NoMemory>
-        ensures { IfOk result (λ n. n ≡ length self.now.blocks + 1) }
+    fn next(&self) -> u32
+        requires { length self.now.blocks + 1 < 2 ^ 32 }
+        ensures { result ≡ length self.now.blocks + 1 }
     {
-        let len = self.blocks.len();
-        if len < u32::MAX as usize {
-            Ok(len as u32 + 1)
-        } else {
-            Err(NoMemory)
-        }
+        self.blocks.len() as u32 + 1
     }
 
     /// Adds the blocks of a copy, in which at most `depth` calls nest.
     #[cycle(copying)]
     pub fn add_unit(&mut self, depth: u32, copy: &UnitCopy<'_>) -> Result<(), NoMemory>
+        requires { let a = copy.now.view.module.now in let u = copy.now.view.unit.0 in HasRoom self.old (unit_room (call_room depth a) a u) (inner_values (call_values depth a) a u) }
         ensures { OnOk result (self.new ≡ unit_added depth copy.now.view.module.now copy.now.view.unit.0 copy.now.ids self.old) }
     {
         for block in copy.view.blocks() {
@@ -94,7 +92,8 @@ impl FlatBuilder {
     /// Adds the pieces of a block, with the copies between them.
     #[cycle(copying)]
     fn add_block(&mut self, depth: u32, copy: &UnitCopy<'_>, block: BlockId) -> Result<(), NoMemory>
-        requires { BlockPlaced copy.now.view.module.now copy.now.view.unit.0 block }
+        requires placed { BlockPlaced copy.now.view.module.now copy.now.view.unit.0 block }
+        requires room { let a = copy.now.view.module.now in let u = copy.now.view.unit.0 in HasRoom self.old (block_room (call_room depth a) a u block) (insts_room (call_values depth a) a u (block_insts_at a u block.0)) }
         ensures { let a = copy.now.view.module.now in OnOk result (self.new ≡ block_added (call_added depth a) a copy.now.view.unit.0 copy.now.ids block self.old) }
     {
         for id in copy.view.insts(block) {
@@ -106,7 +105,8 @@ impl FlatBuilder {
     /// Adds an instruction, or the copy of the function that it calls.
     #[cycle(copying)]
     fn add_inst(&mut self, depth: u32, copy: &UnitCopy<'_>, id: InstId) -> Result<(), NoMemory>
-        requires { id.0 < inst_count copy.now.view.module.now copy.now.view.unit.0 }
+        requires placed { id.0 < inst_count copy.now.view.module.now copy.now.view.unit.0 }
+        requires room { let a = copy.now.view.module.now in let f = callee_of a (line_of a copy.now.view.unit.0 id).inst in HasRoom self.old (call_room depth a f) (call_values depth a f) }
         ensures { let a = copy.now.view.module.now in let l = line_of a copy.now.view.unit.0 id in OnOk result (self.new ≡ line_added (call_added depth a) copy.now.ids l (callee_of a l.inst) self.old) }
     {
         match callee(copy.view, copy.view.inst(id)) {
@@ -126,6 +126,7 @@ impl FlatBuilder {
     ) -> Result<(), NoMemory>
         requires placed { id.0 < inst_count copy.now.view.module.now copy.now.view.unit.0 }
         requires function { function.0 < unit_count copy.now.view.module.now }
+        requires room { let a = copy.now.view.module.now in HasRoom self.old (call_room depth a (Some function)) (call_values depth a (Some function)) }
         ensures { let a = copy.now.view.module.now in OnOk result (self.new ≡ call_added depth a function copy.now.ids (line_of a copy.now.view.unit.0 id) self.old) }
     {
         if depth == 0 {
@@ -146,7 +147,8 @@ impl FlatBuilder {
         id: InstId,
         called: &UnitCopy<'_>,
     ) -> Result<(), NoMemory>
-        requires { id.0 < inst_count copy.now.view.module.now copy.now.view.unit.0 }
+        requires placed { id.0 < inst_count copy.now.view.module.now copy.now.view.unit.0 }
+        requires room { let d = called.now in let a = d.view.module.now in let u = d.view.unit.0 in HasRoom self.old (unit_room (call_room depth a) a u + 1) (inst_count a u + inner_values (call_values depth a) a u) }
         ensures { let d = called.now in let a = d.view.module.now in let l = line_of copy.now.view.module.now copy.now.view.unit.0 id in
             OnOk result (self.new ≡ merging (merge_in copy.now.ids (blocks_give a d.view.unit.0 d.ids (blocks_at a d.view.unit.0)) l.inst l.result) (unit_added depth a d.view.unit.0 d.ids (entering a d.view.unit self.old))) }
     {
@@ -167,30 +169,30 @@ impl FlatBuilder {
     ) -> Result<UnitCopy<'m>, NoMemory>
         requires placed { id.0 < inst_count copy.now.view.module.now copy.now.view.unit.0 }
         requires function { function.0 < unit_count copy.now.view.module.now }
+        requires room { let a = copy.now.view.module.now in HasRoom self.now (unit_room (call_room depth a) a function.0 + 1) (inst_count a function.0) }
         ensures { let a = copy.now.view.module.now in IfOk result (λ d. IsCopy a function (call_ids (call_room depth a) a function copy.now.ids (line_of a copy.now.view.unit.0 id) self.now) d) }
     {
         let view = copy.view.module().unit(function);
-        let at = self.next()?;
-        let back = plus(at, unit_room(depth, view)?)?;
+        let at = self.next();
+        let back = at + unit_room(depth, view);
         let args = copy.args(self.blocks.allocator(), id)?;
-        let place = CopyPlace {
-            at,
-            from: self.values,
-            back,
-        };
-        UnitCopy::new(self.blocks.allocator(), depth, view, args.as_slice(), place)
+        let values = new_ids(self.blocks.allocator(), view, args.as_slice(), self.values)?;
+        let place = CopyPlace { at, back };
+        UnitCopy::new(self.blocks.allocator(), depth, view, values, place)
     }
 
-    /// The open block leads into a copy, whose values have ids from then on.
+    /// The open block leads into a copy, whose results have ids from then on.
     fn enter(&mut self, called: &UnitCopy<'_>) -> Result<(), NoMemory>
+        requires { HasRoom self.old 1 (inst_count called.now.view.module.now called.now.view.unit.0) }
         ensures { OnOk result (self.new ≡ entering called.now.view.module.now called.now.view.unit self.old) }
     {
-        let entry = self.next()?;
+        let entry = self.next();
         self.take(FlatInst {
             result: None,
             inst: Inst::Br(BlockId(entry)),
         })?;
         self.put()?;
-        self.take_values(called.view.values())
+        self.take_values(called.view.module().inst_count(called.view.id()));
+        Ok(())
     }
 }

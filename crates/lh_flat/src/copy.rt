@@ -1,23 +1,21 @@
 //! A copy of a unit in a flat text.
-ghost use Rattle.std.specs.Prelude.{◌≡◌, ◌<◌, ◌++◌, [], vec_len, IfOk, OnOk};
-ghost use Rattle.lh_unit.specs.Table.{ArgsWithin};
-ghost use Rattle.lh_unit.specs.Arena.{inst_count, blocks_at, block_insts_at};
+ghost use Rattle.std.specs.Prelude.{◌≡◌, ◌+◌, ◌^◌, ◌<◌, ◌++◌, [], length, IfOk, OnOk};
+ghost use Rattle.lh_unit.specs.Arena.{table_at, value_count, inst_count, blocks_at, block_insts_at};
 ghost use Rattle.lh_unit.specs.Within.{InstWithin};
 ghost use Rattle.lh_flat.specs.Graph.{BlockPlaced};
 ghost use Rattle.lh_flat.specs.Renames.{sizes_in, max_units};
 ghost use Rattle.lh_flat.specs.Fits.{IdsFit};
-ghost use Rattle.lh_flat.specs.Building.{line_of, call_room, new_ids, bound, ids_for, call_args, edge_given, insts_give, blocks_give, merge_in, line_in};
+ghost use Rattle.lh_flat.specs.Building.{line_of, unit_room, call_room, own_ids, new_id, new_ids, ids_for, call_args, edge_given, insts_give, blocks_give, merge_in, line_in};
 
 use crate::flat::{FlatInst, Merge, MergeEdge, MergeList};
-use crate::layout::{layout, plus};
+use crate::layout::layout;
 use crate::rename::Renaming;
-use lh_types::list::ListOf;
 use lh_types::memory::NoMemory;
-use lh_unit::inst::{Arg, BlockId, Inst, InstId, ValueId, ValueIdList};
+use lh_unit::inst::{BlockId, Inst, InstId, ValueDef, ValueId, ValueIdList};
 use lh_unit::view::UnitView;
 use std::alloc::Global;
 
-/// A copy of a unit: each of its values and labels has a new id.
+/// A copy of a unit: each of its values and labels has an id in the flat text.
 #[derive(Drop)]
 pub struct UnitCopy<'m> {
     pub view: UnitView<'m>,
@@ -30,32 +28,52 @@ pub struct UnitCopy<'m> {
 pub struct CopyPlace {
     /// The place of its first block.
     pub at: u32,
-    /// The first new id of its values.
-    pub from: u32,
     /// The block to which a `ret` leads.
     pub back: u32,
 }
 
-/// As many new ids.
-fn new_ids(alloc: Global, from: u32, count: u32) -> Result<Vec<ValueId>, NoMemory>
-    ensures { IfOk result (λ ids. ids.items ≡ new_ids from count) }
+/// The ids of the values of a process: its own.
+pub fn own_ids(alloc: Global, view: UnitView<'_>) -> Result<ValueIdList, NoMemory>
+    ensures { IfOk result (λ ids. ids ≡ own_ids (value_count view.entry.module.now view.entry.unit.0)) }
 {
     let mut ids = ValueIdList::new(alloc);
-    for id in from..plus(from, count)? {
-        ids.push(ValueId(id))?;
+    for value in 0..view.values() {
+        ids.push(ValueId(value))?;
     }
-    Ok(ids.into_vec())
+    Ok(ids)
 }
 
-/// Gives parameters the values of arguments.
-fn bind(params: &[Arg], args: &[ValueId], values: &mut Vec<ValueId>)
-    requires { ArgsWithin (vec_len values.old) params.now }
-    ensures { values.new.items ≡ bound params.now args.now values.old.items }
+/// The ids of the values of a copy of a function: a parameter has that of its argument, and the results have new ones, from this
+/// number on.
+pub fn new_ids(
+    alloc: Global,
+    view: UnitView<'_>,
+    args: &[ValueId],
+    from: u32,
+) -> Result<ValueIdList, NoMemory>
+    requires { from + inst_count view.module.now view.unit.0 < 2 ^ 32 }
+    ensures { IfOk result (λ ids. ids ≡ new_ids (table_at view.entry.module.now view.entry.unit.0) args.now from) }
 {
-    let mut k = params.len().min(args.len());
-    while k > 0 {
-        k -= 1;
-        values[params[k].value.0 as usize] = args[k];
+    let mut ids = ValueIdList::new(alloc);
+    for value in 0..view.values() {
+        ids.push(new_id(view, args, from, ValueId(value)))?;
+    }
+    Ok(ids)
+}
+
+/// The id of a value of a copy. A value that nothing defines is used nowhere.
+fn new_id(view: UnitView<'_>, args: &[ValueId], from: u32, value: ValueId) -> ValueId
+    requires value { value.0 < value_count view.module.now view.unit.0 }
+    requires few { from + inst_count view.module.now view.unit.0 < 2 ^ 32 }
+    ensures { result ≡ new_id (table_at view.entry.module.now view.entry.unit.0) args.now from value.0 }
+{
+    match view.value_def(value) {
+        ValueDef::Arg(place) => match args.get(place as usize) {
+            Some(id) => *id,
+            None => ValueId(0),
+        },
+        ValueDef::Inst(inst) => ValueId(from + inst.0),
+        ValueDef::Missing => ValueId(0),
     }
 }
 
@@ -76,23 +94,23 @@ fn give(ids: &Renaming, block: BlockId, inst: &Inst, edges: &mut MergeList) -> R
 impl<'m> UnitCopy<'m> {
     ghost use Rattle.lh_flat.specs.CopyOf.{IsCopy};
 
-    /// A copy of a unit on these arguments, in which at most `depth` calls nest.
+    /// A copy of a unit whose values have these ids, in which at most `depth` calls nest.
     pub fn new(
         alloc: Global,
         depth: u32,
         view: UnitView<'m>,
-        args: &[ValueId],
+        values: ValueIdList,
         place: CopyPlace,
     ) -> Result<UnitCopy<'m>, NoMemory>
-        ensures { let a = view.entry.module.now in IfOk result (λ c. IsCopy a view.entry.unit (ids_for (call_room depth a) a view.entry.unit.0 args.now place.at place.from place.back) c) }
+        requires values { length values ≡ value_count view.module.now view.unit.0 }
+        requires few { place.at + unit_room (call_room depth view.module.now) view.module.now view.unit.0 < 2 ^ 32 }
+        ensures { let a = view.entry.module.now in IfOk result (λ c. IsCopy a view.entry.unit (ids_for (call_room depth a) a view.entry.unit.0 values place.at place.back) c) }
     {
         let spans = layout(alloc, depth, view, place.at)?;
-        let mut values = new_ids(alloc, place.from, view.values())?;
-        bind(view.args(), args, &mut values);
         Ok(UnitCopy {
             view,
             ids: Renaming {
-                values: ListOf::from_vec(values),
+                values,
                 spans,
                 back: BlockId(place.back),
             },

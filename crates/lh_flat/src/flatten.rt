@@ -7,13 +7,13 @@ ghost use Rattle.lh_flat.specs.Graph.{IsGraph};
 ghost use Rattle.lh_flat.specs.Marks.{UnitsAreNamed};
 ghost use Rattle.lh_unit_graph.specs.Searches.{IsSettled};
 ghost use Rattle.lh_flat.specs.Measures.{measuring};
-ghost use Rattle.lh_flat.specs.Made.{IsMade, top_text};
+ghost use Rattle.lh_flat.specs.Made.{IsMade, TopHasRoom, top_text};
 ghost use Rattle.lh_flat.specs.Below.{IdsBelow};
 ghost use Rattle.lh_flat.specs.Reads.{Flattens};
 
 use crate::build::FlatBuilder;
 use crate::calls::{CallNode, graph};
-use crate::copy::{CopyPlace, UnitCopy};
+use crate::copy::{CopyPlace, UnitCopy, own_ids};
 use crate::fault::FlatFault;
 use crate::flat::{ArgList, Flat};
 use crate::measure::CallMeasure;
@@ -94,12 +94,17 @@ impl<'m> Flattener<'m> {
         if measure.insts > MAX_INSTS {
             return Err(FlatFault::FlatTooLarge);
         }
-        Ok(made(self.alloc, self.m.unit(unit))?)
+        let view = self.m.unit(unit);
+        if view.values() > u32::MAX - MAX_INSTS {
+            return Err(FlatFault::OutOfMemory);
+        }
+        Ok(made(self.alloc, view)?)
     }
 }
 
 /// All that is built for a process, in which at most 64 calls nest.
 fn made(alloc: Global, view: UnitView<'_>) -> Result<Flat, NoMemory>
+    requires { TopHasRoom view.module.now view.unit.0 }
     ensures { IfOk result (IsMade view.entry.module.now view.entry.unit.0) }
 {
     let args = copied(alloc, view.args())?;
@@ -114,14 +119,11 @@ fn made(alloc: Global, view: UnitView<'_>) -> Result<Flat, NoMemory>
 
 /// The text of a process with its calls replaced.
 fn text_of(alloc: Global, view: UnitView<'_>) -> Result<FlatBuilder, NoMemory>
+    requires { TopHasRoom view.module.now view.unit.0 }
     ensures { IfOk result (λ text. text ≡ top_text view.entry.module.now view.entry.unit.0) }
 {
-    let place = CopyPlace {
-        at: 0,
-        from: 0,
-        back: 0,
-    };
-    let copy = UnitCopy::new(alloc, MAX_NESTED, view, &[], place)?;
+    let place = CopyPlace { at: 0, back: 0 };
+    let copy = UnitCopy::new(alloc, MAX_NESTED, view, own_ids(alloc, view)?, place)?;
     let mut text = FlatBuilder::new(alloc, view.values());
     let added = text.add_unit(MAX_NESTED, &copy);
     drop(copy);

@@ -6,9 +6,10 @@ use Rattle.lh_unit.specs.Places.{is_terminator}
 use Rattle.lh_verify_laws.specs.Shape.{EndsOnce}
 use Rattle.lh_flat.specs.Copies.{Copy, copied, copied_line}
 use Rattle.lh_flat.specs.Flat.{MergeText, branch_into, with_merge, flat_copy, as_block}
-use Rattle.lh_flat_laws.proofs.Cuts.{Among, Cut, ending, behind, lines-cut, piece-lines}
+use Rattle.lh_flat_laws.proofs.Cuts.{Cut, ending, behind, lines-cut, piece-lines}
 use Rattle.lh_flat_laws.proofs.CopyPieces.{CopyPiece, next_cut, next_lines, after_copy_piece, CopyPieceOf, begins, goes_on, flat_copy_piece}
 use Rattle.lh_flat_laws.proofs.Paths.{copy_piece-block, nested-right}
+use Rattle.lh_flat_laws.specs.Members.{Among}
 
 -- a copied instruction is a terminator where the original is one
 pub terminator-copied : (fs : List UnitText) (c : Copy) (i : InstText) → is_terminator (copied fs c i) ≡ is_terminator i
@@ -76,8 +77,8 @@ pub data Filled (fs : List UnitText) (c : Copy) (s : CopyPiece) : Type 0 where
   has_line : (l : LineText) (ls : List LineText) → s.rest ≡ l ∷ ls → Filled fs c s
 
 module _ (fs : List UnitText) (c : Copy)
-    (ends : (b : BlockText) → Among c.unit.blocks b → EndsOnce b.lines)
-    (has : (b : BlockText) → Among c.unit.blocks b → (l : LineText) × (ls : List LineText) × (b.lines ≡ l ∷ ls))
+    (ends : (b : BlockText) → Among b c.unit.blocks → EndsOnce b.lines)
+    (has : (b : BlockText) → Among b c.unit.blocks → (l : LineText) × (ls : List LineText) × (b.lines ≡ l ∷ ls))
     (call : (s : CopyPiece) → CopyPieceOf fs c s → (z : Cut) → next_cut fs c s ≡ Some z → is_terminator z.line.inst ≡ false) where
   -- a piece has lines
   pub filled : (s : CopyPiece) → CopyPieceOf fs c s → Filled fs c s

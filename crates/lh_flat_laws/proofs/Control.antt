@@ -11,22 +11,24 @@ use Rattle.lh_verify_laws.specs.Defined.{IsThere, IsGiven, IsThereOnEdge, Operan
 use Rattle.lh_verify_laws.proofs.AtPlaces.{place-at}
 use Rattle.lh_flat.specs.Copies.{Copy, top_copy, last_piece}
 use Rattle.lh_flat.specs.Flat.{flat_copy, max_nested, as_block}
-use Rattle.lh_flat_laws.proofs.Cuts.{Among, Cut, all-among}
+use Rattle.lh_flat_laws.proofs.Cuts.{Cut}
 use Rattle.lh_flat_laws.proofs.CopyPieces.{CopyPiece, next_cut, CopyPieceOf, Nested, flat_copy_piece}
 use Rattle.lh_flat_laws.proofs.SoundCopies.{IsCode}
 use Rattle.lh_flat_laws.proofs.Paths.{IsGood, CallIsGood, There, Located, goes-on, located}
 use Rattle.lh_flat_laws.proofs.There.{operand-there}
 use Rattle.lh_flat_laws.proofs.Phis.{PhisAreGood, phi-there}
 use Rattle.lh_flat_laws.proofs.Facts.{label-found}
+use Rattle.lh_flat_laws.specs.Members.{Among}
+use Rattle.lh_flat_laws.proofs.Members.{each-among}
 
 module _ (fs : List UnitText) (u x : UnitText) (args : x.args ≡ u.args)
     (good : (k : ℕ) (c : Copy) → Nested fs u k c → IsGood fs c.unit) (calls : (k : ℕ) (c : Copy) → Nested fs u k c → (s : CopyPiece) → CopyPieceOf fs c s → (z : Cut) → next_cut fs c s ≡ Some z
     → CallIsGood fs c z)
     (deep : (c : Copy) → Nested fs u zero c → (s : CopyPiece) → CopyPieceOf fs c s → (z : Cut) → next_cut fs c s ≡ Some z → ⊥)
-    (no_ret : (b : BlockText) (before after : List LineText) (l : LineText) → Among u.blocks b → b.lines ≡ before ++ l ∷ after → (o : Option OperandText) → l.inst ≡ ret_text o → ⊥)
-    (code : (k : ℕ) (c : Copy) → Nested fs u k c → (b : BlockText) (before after : List LineText) (l : LineText) → Among c.unit.blocks b → b.lines ≡ before ++ l ∷ after → IsCode l.inst)
+    (no_ret : (b : BlockText) (before after : List LineText) (l : LineText) → Among b u.blocks → b.lines ≡ before ++ l ∷ after → (o : Option OperandText) → l.inst ≡ ret_text o → ⊥)
+    (code : (k : ℕ) (c : Copy) → Nested fs u k c → (b : BlockText) (before after : List LineText) (l : LineText) → Among b c.unit.blocks → b.lines ≡ before ++ l ∷ after → IsCode l.inst)
     (phis : (k : ℕ) (c : Copy) → Nested fs u k c → PhisAreGood c.unit)
-    (apart : (k : ℕ) (c : Copy) → Nested fs u k c → (b d : BlockText) → Among c.unit.blocks b → Among c.unit.blocks d → last_piece fs c b ≡ last_piece fs c d → b ≡ d)
+    (apart : (k : ℕ) (c : Copy) → Nested fs u k c → (b d : BlockText) → Among b c.unit.blocks → Among d c.unit.blocks → last_piece fs c b ≡ last_piece fs c d → b ≡ d)
     (blocks : x.blocks ≡ map as_block (flat_copy (suc max_nested) fs (top_copy u)))
     (once : (k : ℕ) (c : Copy) → Nested fs u k c → (s : CopyPiece) → CopyPieceOf fs c s → block_of s.label x.blocks ≡ Some (as_block (flat_copy_piece fs k c s)))
     (begin : (b : BlockText) × (more : List BlockText) × (u.blocks ≡ b ∷ more)) where
@@ -40,7 +42,7 @@ module _ (fs : List UnitText) (u x : UnitText) (args : x.args ≡ u.args)
   -- what a `phi` takes on an edge is there at the end of the block that the edge leaves
   edge-there : (y : BlockText) → block_of (label_or y.label) x.blocks ≡ Some y → (before after : List LineText) (l : LineText) (ty : TypeTree) (es : List EdgeText) → y.lines ≡ before ++ l ∷ after
       → l.inst ≡ phi_text ty es
-      → (e : EdgeText) → Among es e → IsThereOnEdge x (label_or y.label) e
+      → (e : EdgeText) → Among e es → IsThereOnEdge x (label_or y.label) e
   edge-there y self before after l ty es q i e a last named edge =
       decided (args_define e.value x.args) (IsGiven x last last.lines e.value) (λ f earlier path. by f earlier (located fs u x args good calls deep no_ret blocks once begin last earlier path))
     where
@@ -67,11 +69,11 @@ module _ (fs : List UnitText) (u x : UnitText) (args : x.args ≡ u.args)
   line-there y self before after l q j d = by l.inst refl
     where
       named : (i : InstText) → l.inst ≡ i → is_phi i ≡ false → Each (IsThere x y before) (values_named i)
-      named i e p = all-among (IsThere x y before) (values_named i)
-          (λ n a. operand-there fs u x args good calls deep no_ret code blocks once begin y before after l q (ap is_phi e ∙ p) n (subst (λ i. Among (values_named i) n) (sym e) a))
+      named i e p = each-among (IsThere x y before) (values_named i)
+          (λ n a. operand-there fs u x args good calls deep no_ret code blocks once begin y before after l q (ap is_phi e ∙ p) n (subst (λ i. Among n (values_named i)) (sym e) a))
 
       by : (i : InstText) → l.inst ≡ i → OperandsThere kind.Proc x (place-at j d y before l after) i
-      by (phi_text ty es) e = all-among (IsThereOnEdge x (label_or y.label)) es (λ m a. edge-there y self before after l ty es q e m a)
+      by (phi_text ty es) e = each-among (IsThereOnEdge x (label_or y.label)) es (λ m a. edge-there y self before after l ty es q e m a)
       by (const_text a) e = named (const_text a) e refl
       by (pure_text a b) e = named (pure_text a b) e refl
       by (var_text a) e = named (var_text a) e refl

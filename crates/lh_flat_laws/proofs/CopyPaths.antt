@@ -35,15 +35,17 @@ use Rattle.lh_eval_laws.proofs.SoundLines.{RowsIn, lines-printed, unit-sound}
 use Rattle.lh_flat.specs.Calls.{callees, callees_of, nest_deeper}
 use Rattle.lh_flat.specs.Copies.{Copy, call_path}
 use Rattle.lh_flat.specs.Flat.{MergeText, given_by, merge_of, with_merge, max_nested}
-use Rattle.lh_flat_laws.proofs.Cuts.{Among, Cut, behind, lines-cut}
+use Rattle.lh_flat_laws.proofs.Cuts.{Cut, behind, lines-cut}
 use Rattle.lh_flat_laws.proofs.CopyPieces.{CopyPiece, next_cut, next_lines, CopyPieceOf, Nested, outermost, called}
 use Rattle.lh_flat_laws.proofs.SoundCopies.{IsCode}
 use Rattle.lh_flat_laws.proofs.Paths.{IsGood, CallIsGood, copy_piece-block, nested-right}
 use Rattle.lh_flat_laws.proofs.Phis.{PhisAreGood, given-by}
-use Rattle.lh_flat_laws.proofs.Facts.{FactsIn, UnitFacts, each-among, fact-at, is-good, phis-good, is-code, no-ret}
-use Rattle.lh_flat_laws.proofs.FlatTypes.{argument-typed, among-lines, among-middle}
+use Rattle.lh_flat_laws.proofs.Facts.{FactsIn, UnitFacts, fact-at, is-good, phis-good, is-code, no-ret}
+use Rattle.lh_flat_laws.proofs.FlatTypes.{argument-typed, among-lines}
 use Rattle.lh_flat_laws.proofs.OpenedCalls.{cut-opens, argument-named, function-is, any-among, callee-among}
 use Rattle.lh_flat_laws.proofs.BlocksFound.{opens-is, Opens}
+use Rattle.lh_flat_laws.specs.Members.{Among}
+use Rattle.lh_flat_laws.proofs.Members.{in-each, among-middle}
 
 labelled-by : (k : UnitKind) (u : UnitText) → in_entity k ≡ false → Labelled k u.blocks → AllLabelled u.blocks
 labelled-by kind.Entity u e h = absurd cc
@@ -80,7 +82,7 @@ function-facts all (unit_text u ∷ items) m n f e = by (is_function u.kind) ref
         at false r = go r
 
 -- of a process in it
-pub process-facts : (all items : List ItemText) → ModuleFacts all items → (u : UnitText) → Among items (unit_text u) → u.kind ≡ kind.Proc → UnitFacts all u
+pub process-facts : (all items : List ItemText) → ModuleFacts all items → (u : UnitText) → Among (unit_text u) items → u.kind ≡ kind.Proc → UnitFacts all u
 process-facts all [] m u a k = elim a [ ]
 process-facts all (unit_text v ∷ items) m u (inl e) k = let q : v ≡ u = same v u e in subst (UnitFacts all) q (first-unit all v items m (ap (λ (x : UnitText). in_entity x.kind) q ∙ ap in_entity k))
   where
@@ -89,7 +91,7 @@ process-facts all (unit_text v ∷ items) m u (inl e) k = let q : v ≡ u = same
 process-facts all (declare_text d ∷ items) m u (inl e) k = absurd cc
 process-facts all (i ∷ items) m u (inr a) k = process-facts all items (rest-of all i items m) u a k
 
-module _ (items : List ItemText) (m : ModuleFacts items items) (u : UnitText) (among : Among items (unit_text u)) (process : u.kind ≡ kind.Proc)
+module _ (items : List ItemText) (m : ModuleFacts items items) (u : UnitText) (among : Among (unit_text u) items) (process : u.kind ≡ kind.Proc)
     (shallow : nest_deeper max_nested (functions items) (callees u) ≡ false) where
   abbrev fs : List UnitText
   fs = functions items
@@ -106,10 +108,10 @@ module _ (items : List ItemText) (m : ModuleFacts items items) (u : UnitText) (a
   pub copies-phis : (k : ℕ) (c : Copy) → Nested fs u k c → PhisAreGood c.unit
   copies-phis k c n = phis-good items c.unit (copy-facts k c n)
 
-  pub copies-code : (k : ℕ) (c : Copy) → Nested fs u k c → (b : BlockText) (before after : List LineText) (l : LineText) → Among c.unit.blocks b → b.lines ≡ before ++ l ∷ after → IsCode l.inst
+  pub copies-code : (k : ℕ) (c : Copy) → Nested fs u k c → (b : BlockText) (before after : List LineText) (l : LineText) → Among b c.unit.blocks → b.lines ≡ before ++ l ∷ after → IsCode l.inst
   copies-code k c n b before after l a e = let f = copy-facts k c n in let p = fact-at items c.unit f b before after l a e in is-code c.unit.kind l.inst f.runs p.2.allowed
 
-  pub process-no-ret : (b : BlockText) (before after : List LineText) (l : LineText) → Among u.blocks b → b.lines ≡ before ++ l ∷ after → (o : Option OperandText) → l.inst ≡ ret_text o → ⊥
+  pub process-no-ret : (b : BlockText) (before after : List LineText) (l : LineText) → Among b u.blocks → b.lines ≡ before ++ l ∷ after → (o : Option OperandText) → l.inst ≡ ret_text o → ⊥
   process-no-ret b before after l a e o i = let p = fact-at items u (process-facts items items m u among process) b before after l a e in no-ret u.kind l.inst o process p.2.allowed i
 
   -- the line of a call that is replaced, in its block
@@ -162,10 +164,10 @@ module _ (items : List ItemText) (m : ModuleFacts items items) (u : UnitText) (a
       opens : Opens fs c (call_path c (label_or s.block.label) z.number) z.line.inst z.copy
       opens = opens-is fs c (call_path c (label_or s.block.label) z.number) z.line.inst z.copy (cut-opens fs c (label_or s.block.label) s.number s.rest z e)
 
-      arguments : (a : List ℕ) → args_define a z.copy.unit.args ≡ true → (w : List ℕ) × Among (values_named z.line.inst) w × (z.copy.value a ≡ c.value w)
+      arguments : (a : List ℕ) → args_define a z.copy.unit.args ≡ true → (w : List ℕ) × Among w (values_named z.line.inst) × (z.copy.value a ≡ c.value w)
       arguments a d =
           let r = argument-named c.unit z.copy.unit.args opens.args c (call_path c (label_or s.block.label) z.number ++ a) a (call-args k c n s h z e) d in
-          (r.0, subst (λ i. Among (values_named i) r.0) (sym opens.inst) r.1, ap (λ (x : Copy). x.value a) (sym opens.copy) ∙ r.2)
+          (r.0, subst (λ i. Among r.0 (values_named i)) (sym opens.inst) r.1, ap (λ (x : Copy). x.value a) (sym opens.copy) ∙ r.2)
 
       result : (r : Option (List ℕ)) → z.line.result ≡ r → (a : List ℕ) → is_result_name a r ≡ true → lines_define (c.value a) (with_merge (merge_of fs c z.copy z.line.inst r) []) ≡ true
       result None q a d = absurd cc
@@ -202,9 +204,9 @@ module _ (items : List ItemText) (m : ModuleFacts items items) (u : UnitText) (a
       )
 
   -- each line of a copied unit is sound
-  pub copies-sound : (k : ℕ) (c : Copy) → Nested fs u k c → (b : BlockText) (before after : List LineText) (l : LineText) → Among c.unit.blocks b → b.lines ≡ before ++ l ∷ after → InstIsSound c.unit l
+  pub copies-sound : (k : ℕ) (c : Copy) → Nested fs u k c → (b : BlockText) (before after : List LineText) (l : LineText) → Among b c.unit.blocks → b.lines ≡ before ++ l ∷ after → InstIsSound c.unit l
   copies-sound k c n b before after l a e =
-      each-among (InstIsSound c.unit) (lines_of c.unit.blocks) l (copy-facts k c n).sound (among-lines c.unit.blocks b l a (subst (λ ls. Among ls l) (sym e) (among-middle before after l)))
+      in-each (InstIsSound c.unit) (lines_of c.unit.blocks) l (copy-facts k c n).sound (among-lines c.unit.blocks b l a (subst (λ ls. Among l ls) (sym e) (among-middle before after l)))
 
   -- a function has a result
   has-result : (k : UnitKind) (n : UnitName) (args : List ArgText) (r : Option TypeTree) (ts : List Lexeme) → is_function k ≡ true → SpellsHeader k n args r ts → (t : TypeTree) × (r ≡ Some t)
@@ -280,7 +282,7 @@ module _ (items : List ItemText) (m : ModuleFacts items items) (u : UnitText) (a
   pub copies-merges : (x : UnitText) → ((k : ℕ) (c : Copy) → Nested fs u k c → (n : List ℕ) (t : TypeTree) → value_type c.unit n ≡ Some t → value_type x (c.value n) ≡ Some t)
       → (k : ℕ) (c : Copy) → Nested fs u (suc k) c → (s : CopyPiece) → CopyPieceOf fs c s → (z : Cut) → next_cut fs c s ≡ Some z → (w : MergeText)
       → merge_of fs c z.copy z.line.inst z.line.result ≡ Some w
-      → (is_value_type w.ty ≡ true) × ((e : EdgeText) → Among w.edges e → IsOf x w.ty e.value)
+      → (is_value_type w.ty ≡ true) × ((e : EdgeText) → Among e w.edges → IsOf x w.ty e.value)
   copies-merges x typed k c nest s h z e w q = by z.line.result refl q
     where
       opens : Opens fs c (call_path c (label_or s.block.label) z.number) z.line.inst z.copy
@@ -300,7 +302,7 @@ module _ (items : List ItemText) (m : ModuleFacts items items) (u : UnitText) (a
           let v : ReturnIs z.copy.unit (Some typing.ty) (Some o) = subst (λ y. ReturnIs z.copy.unit y (Some o)) typing.result r in
           (ap is_value_type typing.same ∙ v.0, v.1.1 ∙ ap Some (sym typing.same))
 
-      edge : (e : EdgeText) → Among (given_by fs z.copy) e → (is_value_type opens.ty ≡ true) × IsOf x opens.ty e.value
+      edge : (e : EdgeText) → Among e (given_by fs z.copy) → (is_value_type opens.ty ≡ true) × IsOf x opens.ty e.value
       edge e a =
           let g = given-by fs z.copy z.copy.unit.blocks e a in
           let l : InstIsSound z.copy.unit g.given.line = copies-sound k z.copy inner g.from g.given.before g.given.after g.given.line g.is_one g.given.splits in
@@ -311,25 +313,25 @@ module _ (items : List ItemText) (m : ModuleFacts items items) (u : UnitText) (a
       value-named : (n : List ℕ) → z.line.result ≡ Some n → is_value_type opens.ty ≡ true
       value-named n p =
           let f = copy-facts (suc k) c nest in
-          let printed : HasInstLine z.line = each-among HasInstLine (lines_of c.unit.blocks) z.line (lines-printed c.unit f.printable)
+          let printed : HasInstLine z.line = in-each HasInstLine (lines_of c.unit.blocks) z.line (lines-printed c.unit f.printable)
           (among-lines c.unit.blocks s.block z.line (copy_piece-block fs c s h).0
-          (subst (λ ls. Among ls z.line) (sym (cut-lines c s h z e)) (among-middle (s.before ++ next_lines fs c s) z.rest z.line))) in
+          (subst (λ ls. Among z.line ls) (sym (cut-lines c s h z e)) (among-middle (s.before ++ next_lines fs c s) z.rest z.line))) in
           let gives : gives_value (call_text opens.callee opens.ty opens.args)
           ≡ true = subst (λ i. gives_value i ≡ true) opens.inst (line-gives z.line.result z.line.inst (lexemes_in (item_line (inst_item z.line))) printed.1 n p) in
           value-kind opens.ty gives (subst IsResultType (sym typing.same) typing.fits)
 
-      by : (r : Option (List ℕ)) → z.line.result ≡ r → merge_of fs c z.copy z.line.inst z.line.result ≡ Some w → (is_value_type w.ty ≡ true) × ((e : EdgeText) → Among w.edges e → IsOf x w.ty e.value)
+      by : (r : Option (List ℕ)) → z.line.result ≡ r → merge_of fs c z.copy z.line.inst z.line.result ≡ Some w → (is_value_type w.ty ≡ true) × ((e : EdgeText) → Among e w.edges → IsOf x w.ty e.value)
       by None p q = absurd (none-some w (sym (λ j. merge_of fs c z.copy (opens.inst j) (p j)) ∙ q))
       by (Some n) p q =
           let m : MergeText = record { value = c.value n; ty = opens.ty; edges = given_by fs z.copy } in
           let one : m ≡ w = same_Some m w (sym (λ j. merge_of fs c z.copy (opens.inst j) (p j)) ∙ q) in
-          subst (λ (w : MergeText). (is_value_type w.ty ≡ true) × ((e : EdgeText) → Among w.edges e → IsOf x w.ty e.value)) one (value-named n p, λ e a. (edge e a).1)
+          subst (λ (w : MergeText). (is_value_type w.ty ≡ true) × ((e : EdgeText) → Among e w.edges → IsOf x w.ty e.value)) one (value-named n p, λ e a. (edge e a).1)
 
   -- each `ret` of a copy behind which a merge stands gives a value
   pub copies-returned : (x : UnitText) → ((k : ℕ) (c : Copy) → Nested fs u k c → (n : List ℕ) (t : TypeTree) → value_type c.unit n ≡ Some t → value_type x (c.value n) ≡ Some t)
       → (k : ℕ) (c : Copy) → Nested fs u (suc k) c → (s : CopyPiece) → CopyPieceOf fs c s → (z : Cut) → next_cut fs c s ≡ Some z → (w : MergeText)
       → merge_of fs c z.copy z.line.inst z.line.result ≡ Some w
-      → (b : BlockText) (before after : List LineText) (l : LineText) → Among z.copy.unit.blocks b → b.lines ≡ before ++ l ∷ after → (o : Option OperandText) → l.inst ≡ ret_text o → (a : OperandText)
+      → (b : BlockText) (before after : List LineText) (l : LineText) → Among b z.copy.unit.blocks → b.lines ≡ before ++ l ∷ after → (o : Option OperandText) → l.inst ≡ ret_text o → (a : OperandText)
       × (o ≡ Some a)
   copies-returned x typed k c nest s h z e w q b before after l a r (Some o) i = (o, refl)
   copies-returned x typed k c nest s h z e w q b before after l a r None i =
@@ -349,13 +351,13 @@ module _ (items : List ItemText) (m : ModuleFacts items items) (u : UnitText) (a
           (ap (λ (m : MergeText). m.ty) (same_Some (record { value = c.value n; ty = ty; edges = given_by fs z.copy }) w (sym (ap (λ i. merge_of fs c z.copy i (Some n)) p) ∙ q)))
 
   -- a `phi` names each block of its unit that leads to its own once
-  pub copies-naming : (k : ℕ) (c : Copy) → Nested fs u k c → (d b : BlockText) (before after : List LineText) (l : LineText) (ty : TypeTree) (es : List EdgeText) → Among c.unit.blocks d
+  pub copies-naming : (k : ℕ) (c : Copy) → Nested fs u k c → (d b : BlockText) (before after : List LineText) (l : LineText) (ty : TypeTree) (es : List EdgeText) → Among d c.unit.blocks
       → d.lines ≡ before ++ l ∷ after → l.inst ≡ phi_text ty es
-      → Among c.unit.blocks b → has_edge b (label_or d.label) ≡ true → edges_naming (label_or b.label) es ≡ 1
+      → Among b c.unit.blocks → has_edge b (label_or d.label) ≡ true → edges_naming (label_or b.label) es ≡ 1
   copies-naming k c n d b before after l ty es a e i a' edge =
       let p = fact-at items c.unit (copy-facts k c n) d before after l a e in
       let r : PhiIsRight c.unit (place-at p.0 p.1 d before l after) (phi_text ty es) = subst (PhiIsRight c.unit (place-at p.0 p.1 d before l after)) i p.2.phi in
-      each-among (λ (b : BlockText). has_edge b (label_or d.label) ≡ true → edges_naming (label_or b.label) es ≡ 1) c.unit.blocks b r.2 a' edge
+      in-each (λ (b : BlockText). has_edge b (label_or d.label) ≡ true → edges_naming (label_or b.label) es ≡ 1) c.unit.blocks b r.2 a' edge
 
   nested-shallow : (k : ℕ) (c : Copy) → Nested fs u k c → nest_deeper k fs (callees c.unit) ≡ false
   nested-shallow _ _ outermost = shallow

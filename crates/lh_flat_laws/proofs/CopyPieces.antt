@@ -4,7 +4,9 @@ use Rattle.lh_unit.specs.Contents.{LineText, BlockText, UnitText}
 use Rattle.lh_unit.specs.Named.{label_or}
 use Rattle.lh_flat.specs.Copies.{Copy, top_copy, first_piece}
 use Rattle.lh_flat.specs.Flat.{MergeText, FlatBlockText, merge_of, pieces_from, flat_block, flat_copy, max_nested}
-use Rattle.lh_flat_laws.proofs.Cuts.{Among, among-left, among-right, among-flat, Cut, calm, cut, blocks-behind, piece-more}
+use Rattle.lh_flat_laws.proofs.Cuts.{Cut, calm, cut, blocks-behind, piece-more}
+use Rattle.lh_flat_laws.specs.Members.{Among}
+use Rattle.lh_flat_laws.proofs.Members.{among-left, among-right, among-flat}
 
 -- a piece of a block in a copy: the block, its lines before the piece and from there on, the number of the first of those, and the merge
 -- and the label of the piece
@@ -42,7 +44,7 @@ module _ (fs : List UnitText) where
 
   -- a piece of this copy
   pub data CopyPieceOf (c : Copy) : CopyPiece → Type 0 where
-    begins : (b : BlockText) → Among c.unit.blocks b → CopyPieceOf c (first_copy_piece c b)
+    begins : (b : BlockText) → Among b c.unit.blocks → CopyPieceOf c (first_copy_piece c b)
     goes_on : (s : CopyPiece) → CopyPieceOf c s → (x : Cut) → next_cut c s ≡ Some x → CopyPieceOf c (after_copy_piece c s x)
 
   -- a copy in the flat text of a process, below which at most so many units nest
@@ -60,8 +62,8 @@ module _ (fs : List UnitText) where
 
   -- a piece and what is behind it stand in the copy
   pub record PieceStands (k : ℕ) (c : Copy) (s : CopyPiece) : Type 0 where
-    pub block : Among (flat_copy (suc k) fs c) (flat_copy_piece k c s)
-    pub behind : (y : FlatBlockText) → Among (flat_behind k c s) y → Among (flat_copy (suc k) fs c) y
+    pub block : Among (flat_copy_piece k c s) (flat_copy (suc k) fs c)
+    pub behind : (y : FlatBlockText) → Among y (flat_behind k c s) → Among y (flat_copy (suc k) fs c)
 
   pub behind-cut : (k : ℕ) (c : Copy) (s : CopyPiece) (x : Cut) → next_cut c s ≡ Some x → flat_behind k c s ≡ blocks-behind fs c (label_or s.block.label) (flat_copy k fs) (Some x)
   behind-cut k c s x e = piece-more fs c (label_or s.block.label) (flat_copy k fs) s.number s.rest ∙ ap (blocks-behind fs c (label_or s.block.label) (flat_copy k fs)) e
@@ -73,22 +75,22 @@ module _ (fs : List UnitText) where
   }
   stands k c _ (goes_on s h x e) =
       let before = stands k c s h in
-      let in_behind : (y : FlatBlockText) → Among (blocks-behind fs c (label_or s.block.label) (flat_copy k fs) (Some x)) y → Among (flat_copy (suc k) fs c) y
-      = λ y a. before.behind y (subst (λ ys. Among ys y) (sym (behind-cut k c s x e)) a) in
+      let in_behind : (y : FlatBlockText) → Among y (blocks-behind fs c (label_or s.block.label) (flat_copy k fs) (Some x)) → Among y (flat_copy (suc k) fs c)
+      = λ y a. before.behind y (subst (λ ys. Among y ys) (sym (behind-cut k c s x e)) a) in
       record {
-        block = in_behind (flat_copy_piece k c (after_copy_piece c s x)) (among-right (flat_copy k fs x.copy) _ _ (inl refl));
-        behind = λ y a. in_behind y (among-right (flat_copy k fs x.copy) _ y (inr a));
+        block = in_behind (flat_copy_piece k c (after_copy_piece c s x)) (among-right _ (flat_copy k fs x.copy) _ (inl refl));
+        behind = λ y a. in_behind y (among-right y (flat_copy k fs x.copy) _ (inr a));
       }
 
   -- so do the blocks of a copy in it
-  pub copy-stands : (k : ℕ) (c : Copy) (s : CopyPiece) → CopyPieceOf c s → (x : Cut) → next_cut c s ≡ Some x → (y : FlatBlockText) → Among (flat_copy k fs x.copy) y → Among (flat_copy (suc k) fs c) y
-  copy-stands k c s h x e y a = (stands k c s h).behind y (subst (λ ys. Among ys y) (sym (behind-cut k c s x e)) (among-left (flat_copy k fs x.copy) _ y a))
+  pub copy-stands : (k : ℕ) (c : Copy) (s : CopyPiece) → CopyPieceOf c s → (x : Cut) → next_cut c s ≡ Some x → (y : FlatBlockText) → Among y (flat_copy k fs x.copy) → Among y (flat_copy (suc k) fs c)
+  copy-stands k c s h x e y a = (stands k c s h).behind y (subst (λ ys. Among y ys) (sym (behind-cut k c s x e)) (among-left y (flat_copy k fs x.copy) _ a))
 
   -- and in the flat text
-  pub nested-stands : (u : UnitText) (k : ℕ) (c : Copy) → Nested u k c → (y : FlatBlockText) → Among (flat_copy (suc k) fs c) y → Among (flat_copy (suc max_nested) fs (top_copy u)) y
+  pub nested-stands : (u : UnitText) (k : ℕ) (c : Copy) → Nested u k c → (y : FlatBlockText) → Among y (flat_copy (suc k) fs c) → Among y (flat_copy (suc max_nested) fs (top_copy u))
   nested-stands u _ _ outermost y a = a
   nested-stands u _ _ (called k c n s h x e) y a = nested-stands u (suc k) c n y (copy-stands (suc k) c s h x e y a)
 
   -- each piece of it is a block of the flat text
-  pub copy_piece-stands : (u : UnitText) (k : ℕ) (c : Copy) → Nested u k c → (s : CopyPiece) → CopyPieceOf c s → Among (flat_copy (suc max_nested) fs (top_copy u)) (flat_copy_piece k c s)
+  pub copy_piece-stands : (u : UnitText) (k : ℕ) (c : Copy) → Nested u k c → (s : CopyPiece) → CopyPieceOf c s → Among (flat_copy_piece k c s) (flat_copy (suc max_nested) fs (top_copy u))
   copy_piece-stands u k c n s h = nested-stands u k c n (flat_copy_piece k c s) (stands k c s h).block

@@ -1,48 +1,9 @@
 -- Where calls cut the blocks of a copy: a piece has the lines before the next call that is replaced, and the branch into its copy.
-use Rattle.std.proofs.Common.{◌≡◌, ◌⊎◌, ℕ, ◌+◌, List, [], ◌∷◌, ◌++◌, map, Option, Some, None, refl, ap, sym, inl, inr, subst}
-use Rattle.std.specs.List.{flat_map}
+use Rattle.std.proofs.Common.{◌≡◌, ℕ, ◌+◌, List, [], ◌∷◌, ◌++◌, map, Option, Some, None, refl, ap}
 use Rattle.std.specs.Option.{option_map_or}
 use Rattle.lh_unit.specs.Contents.{LineText, UnitText}
-use Rattle.lh_unit.specs.Within.{Each}
 use Rattle.lh_flat.specs.Copies.{Copy, call_path, opened, last_from, copied_line}
 use Rattle.lh_flat.specs.Flat.{FlatBlockText, merge_of, branch_into, with_line, pieces_from}
-
--- x is one of these
-abbrev pub Among : {A : Type 0} → List A → A → Type 0
-Among [] x = ⊥
-Among (y ∷ more) x = (y ≡ x) ⊎ Among more x
-
-pub among-left : {A : Type 0} (xs ys : List A) (x : A) → Among xs x → Among (xs ++ ys) x
-among-left [] ys x h = elim h [ ]
-among-left (z ∷ xs) ys x (inl e) = inl e
-among-left (z ∷ xs) ys x (inr h) = inr (among-left xs ys x h)
-
-pub among-right : {A : Type 0} (xs ys : List A) (x : A) → Among ys x → Among (xs ++ ys) x
-among-right [] ys x h = h
-among-right (z ∷ xs) ys x h = inr (among-right xs ys x h)
-
-pub among-flat : {A B : Type 0} (f : A → List B) (xs : List A) (x : A) (y : B) → Among xs x → Among (f x) y → Among (flat_map f xs) y
-among-flat f [] x y h k = elim h [ ]
-among-flat f (z ∷ xs) x y (inl e) k = among-left (f z) (flat_map f xs) y (subst (λ w. Among (f w) y) (sym e) k)
-among-flat f (z ∷ xs) x y (inr h) k = among-right (f z) (flat_map f xs) y (among-flat f xs x y h k)
-
-pub among-parts : {A : Type 0} (xs ys : List A) (x : A) → Among (xs ++ ys) x → Among xs x ⊎ Among ys x
-among-parts [] ys x a = inr a
-among-parts (z ∷ xs) ys x (inl e) = inl (inl e)
-among-parts (z ∷ xs) ys x (inr a) = on (among-parts xs ys x a)
-  where
-    on : (Among xs x ⊎ Among ys x) → Among (z ∷ xs) x ⊎ Among ys x
-    on (inl b) = inl (inr b)
-    on (inr b) = inr b
-
-pub among-map : {A B : Type 0} (f : A → B) (xs : List A) (y : B) → Among (map f xs) y → (x : A) × Among xs x × (y ≡ f x)
-among-map f [] y a = elim a [ ]
-among-map f (x ∷ xs) y (inl e) = (x, inl refl, sym e)
-among-map f (x ∷ xs) y (inr a) = let r = among-map f xs y a in (r.0, inr r.1, r.2)
-
-pub all-among : {A : Type 0} (P : A → Type 0) (xs : List A) → ((x : A) → Among xs x → P x) → Each P xs
-all-among P [] f = tt
-all-among P (x ∷ xs) f = (f x (inl refl), all-among P xs (λ y a. f y (inr a)))
 
 -- a call that is replaced: its line, the number of that, the copy, and the lines behind it
 pub record Cut : Type 0 where

@@ -28,11 +28,12 @@ use Rattle.lh_verify_laws.proofs.There.{as-process, last-leads}
 use Rattle.lh_eval.specs.Sound.{InstIsSound}
 use Rattle.lh_text_laws.specs.Printable.{IsPrintable}
 use Rattle.lh_verify_laws.proofs.EachItem.{each-contained, each-split}
-use Rattle.lh_flat_laws.proofs.Cuts.{Among}
 use Rattle.lh_flat_laws.proofs.SoundCopies.{IsCode}
 use Rattle.lh_flat_laws.proofs.Lines.{LastOf, no_last, last_is, last-of}
 use Rattle.lh_flat_laws.proofs.Paths.{IsGood}
 use Rattle.lh_flat_laws.proofs.Phis.{PhisAreGood}
+use Rattle.lh_flat_laws.specs.Members.{Among}
+use Rattle.lh_flat_laws.proofs.Members.{in-each}
 
 -- what holds at an instruction of a unit without a fault
 pub record PlaceFacts (items : List ItemText) (v : UnitText) (p : InstPlaceText) : Type 0 where
@@ -74,7 +75,7 @@ pub record UnitFacts (items : List ItemText) (v : UnitText) : Type 0 where
   pub sound : Each (InstIsSound v) (lines_of v.blocks)
 
 in-blocks : (P : InstPlaceText → Type 0) (k : ℕ) (e : Bool) (bs : List BlockText) (b : BlockText) (seen : List LineText) (l : LineText) (after : List LineText) → Each P (places_from k e bs)
-    → Among bs b → b.lines ≡ seen ++ l ∷ after
+    → Among b bs → b.lines ≡ seen ++ l ∷ after
     → (j : ℕ) × (d : Bool) × P (place-at j d b seen l after)
 in-blocks P k e [] b seen l after h a s = elim a [ ]
 in-blocks P k e (c ∷ bs) b seen l after h a s = by a (λ p. in-blocks P (k + length c.lines) false bs b seen l after r.1 p s)
@@ -82,24 +83,19 @@ in-blocks P k e (c ∷ bs) b seen l after h a s = by a (λ p. in-blocks P (k + l
     r : Each P (places_in k e c [] c.lines) × Each P (places_from (k + length c.lines) false bs)
     r = each-split P (places_in k e c [] c.lines) (places_from (k + length c.lines) false bs) h
 
-    by : ((c ≡ b) ⊎ Among bs b) → (Among bs b → (j : ℕ) × (d : Bool) × P (place-at j d b seen l after)) → (j : ℕ) × (d : Bool) × P (place-at j d b seen l after)
+    by : ((c ≡ b) ⊎ Among b bs) → (Among b bs → (j : ℕ) × (d : Bool) × P (place-at j d b seen l after)) → (j : ℕ) × (d : Bool) × P (place-at j d b seen l after)
     by (inl q) go =
         let here : Each P (places_in k e b [] b.lines) = subst (λ (x : BlockText). Each P (places_in k e x [] x.lines)) q r.0 in
         let z = in-block P k e b [] seen l after (subst (λ (ls : List LineText). Each P (places_in k e b [] ls)) s here) in
         (z.0, e, z.1)
     by (inr p) go = go p
 
-pub each-among : {A : Type 0} (P : A → Type 0) (xs : List A) (x : A) → Each P xs → Among xs x → P x
-each-among P [] x h a = elim a [ ]
-each-among P (y ∷ xs) x h (inl e) = subst P e h.0
-each-among P (y ∷ xs) x h (inr a) = each-among P xs x h.1 a
-
-pub among-in : {A : Type 0} (xs : List A) (x : A) → In x xs → Among xs x
+pub among-in : {A : Type 0} (xs : List A) (x : A) → In x xs → Among x xs
 among-in [] x h = elim h [ ]
 among-in (y ∷ xs) x (inl e) = inl (sym e)
 among-in (y ∷ xs) x (inr h) = inr (among-in xs x h)
 
-in-among : {A : Type 0} (xs : List A) (x : A) → Among xs x → In x xs
+in-among : {A : Type 0} (xs : List A) (x : A) → Among x xs → In x xs
 in-among [] x h = elim h [ ]
 in-among (y ∷ xs) x (inl e) = inl (sym e)
 in-among (y ∷ xs) x (inr h) = inr (in-among xs x h)
@@ -118,7 +114,7 @@ label-found n (c ∷ bs) b e = by (is_result_name n c.label) refl e (label-found
     by false q r go = go r
 
 -- the labels to which an instruction leads are among those that it names
-leads-named : (i : InstText) (n : List ℕ) → Among (leads_to i) n → Among (labels_named i) n
+leads-named : (i : InstText) (n : List ℕ) → Among n (leads_to i) → Among n (labels_named i)
 leads-named (phi_text ty edges) n a = elim a [ ]
 leads-named (const_text x) n a = elim a [ ]
 leads-named (pure_text x y) n a = elim a [ ]
@@ -183,7 +179,7 @@ no-ret kind.Entity i o e h q = absurd cc
 no-ret kind.Proc i o e h q = let r : is_allowed kind.Proc (ret_text o) ≡ true = ap (is_allowed kind.Proc) (sym q) ∙ h in absurd cc
 
 module _ (items : List ItemText) (v : UnitText) (f : UnitFacts items v) where
-  pub fact-at : (b : BlockText) (before after : List LineText) (l : LineText) → Among v.blocks b → b.lines ≡ before ++ l ∷ after → (j : ℕ) × (d : Bool)
+  pub fact-at : (b : BlockText) (before after : List LineText) (l : LineText) → Among b v.blocks → b.lines ≡ before ++ l ∷ after → (j : ℕ) × (d : Bool)
       × PlaceFacts items v (place-at j d b before l after)
   fact-at b before after l a e = in-blocks (PlaceFacts items v) 1 true v.blocks b before l after f.places a e
 
@@ -193,20 +189,20 @@ module _ (items : List ItemText) (v : UnitText) (f : UnitFacts items v) where
     leads = λ b a n h. by b a n h (last-of b.lines);
     self = λ b a. own_block v.blocks b f.labelled (in-among v.blocks b a);
     there = λ b before after l a e p n h. let z = fact-at b before after l a e in
-        each-among (IsThere v b before) (values_named l.inst) n (there-named v (place-at z.0 z.1 b before l after) l.inst p (z.2.there f.runs)) h;
+        in-each (IsThere v b before) (values_named l.inst) n (there-named v (place-at z.0 z.1 b before l after) l.inst p (z.2.there f.runs)) h;
   }
     where
-      found : (n : List ℕ) → ((d : BlockText) × (block_of n v.blocks ≡ Some d)) → (d : BlockText) × (block_of n v.blocks ≡ Some d) × Among v.blocks d × (label_or d.label ≡ n)
+      found : (n : List ℕ) → ((d : BlockText) × (block_of n v.blocks ≡ Some d)) → (d : BlockText) × (block_of n v.blocks ≡ Some d) × Among d v.blocks × (label_or d.label ≡ n)
       found n r = (r.0, r.1, among-in v.blocks r.0 (block_of-in n v.blocks r.0 r.1), label-found n v.blocks r.0 r.1)
 
-      at-last : (b : BlockText) → Among v.blocks b → (n : List ℕ) → (ls : List LineText) → b.lines ≡ ls → Among (last_leads_to ls) n → LastOf ls → (d : BlockText) × (block_of n v.blocks ≡ Some d)
-          × Among v.blocks d × (label_or d.label ≡ n)
+      at-last : (b : BlockText) → Among b v.blocks → (n : List ℕ) → (ls : List LineText) → b.lines ≡ ls → Among n (last_leads_to ls) → LastOf ls → (d : BlockText) × (block_of n v.blocks ≡ Some d)
+          × Among d v.blocks × (label_or d.label ≡ n)
       at-last b a n _ e h no_last = elim h [ ]
       at-last b a n _ e h (last_is xs l) =
           let z = fact-at b xs [] l a e in
-          found n (each-among (λ m. (d : BlockText) × (block_of m v.blocks ≡ Some d)) (labels_named l.inst) n z.2.leads (leads-named l.inst n (subst (λ ns. Among ns n) (last-leads xs l) h)))
+          found n (in-each (λ m. (d : BlockText) × (block_of m v.blocks ≡ Some d)) (labels_named l.inst) n z.2.leads (leads-named l.inst n (subst (λ ns. Among n ns) (last-leads xs l) h)))
 
-      by : (b : BlockText) → Among v.blocks b → (n : List ℕ) → Among (last_leads_to b.lines) n → LastOf b.lines → (d : BlockText) × (block_of n v.blocks ≡ Some d) × Among v.blocks d
+      by : (b : BlockText) → Among b v.blocks → (n : List ℕ) → Among n (last_leads_to b.lines) → LastOf b.lines → (d : BlockText) × (block_of n v.blocks ≡ Some d) × Among d v.blocks
           × (label_or d.label ≡ n)
       by b a n h o = at-last b a n b.lines refl h o
 
@@ -245,8 +241,8 @@ module _ (items : List ItemText) (v : UnitText) (f : UnitFacts items v) where
         before after l q;
   }
     where
-      firsts : (i : InstText) (p : InstPlaceText) → is_phi i ≡ true → PhiIsRight v p i → (k : LineText) → Among p.before k → is_phi k.inst ≡ true
-      firsts (phi_text ty es) p e h k a = each-among (λ (l : LineText). is_phi l.inst ≡ true) p.before k h.0 a
+      firsts : (i : InstText) (p : InstPlaceText) → is_phi i ≡ true → PhiIsRight v p i → (k : LineText) → Among k p.before → is_phi k.inst ≡ true
+      firsts (phi_text ty es) p e h k a = in-each (λ (l : LineText). is_phi l.inst ≡ true) p.before k h.0 a
       firsts (const_text x) p e h k a = absurd cc
       firsts (pure_text x y) p e h k a = absurd cc
       firsts (var_text x) p e h k a = absurd cc
@@ -264,17 +260,17 @@ module _ (items : List ItemText) (v : UnitText) (f : UnitFacts items v) where
       firsts halt_text p e h k a = absurd cc
       firsts (ret_text x) p e h k a = absurd cc
 
-      labels-of : (es : List EdgeText) (m : EdgeText) → Among es m → Each (λ n. (b : BlockText) × (block_of n v.blocks ≡ Some b)) (map (λ (e : EdgeText). e.block) es) → (b : BlockText)
+      labels-of : (es : List EdgeText) (m : EdgeText) → Among m es → Each (λ n. (b : BlockText) × (block_of n v.blocks ≡ Some b)) (map (λ (e : EdgeText). e.block) es) → (b : BlockText)
           × (block_of m.block v.blocks ≡ Some b)
       labels-of [] m a h = elim a [ ]
       labels-of (e ∷ es) m (inl q) h = subst (λ (x : EdgeText). (b : BlockText) × (block_of x.block v.blocks ≡ Some b)) q h.0
       labels-of (e ∷ es) m (inr a) h = labels-of es m a h.1
 
-      by : (d : BlockText) (before after : List LineText) (l : LineText) (ty : TypeTree) (es : List EdgeText) → Among v.blocks d → d.lines ≡ before ++ l ∷ after → l.inst ≡ phi_text ty es
-          → (m : EdgeText) → Among es m → ((b : BlockText) × (block_of m.block v.blocks ≡ Some b) × Among v.blocks b) × IsThereOnEdge v (label_or d.label) m
+      by : (d : BlockText) (before after : List LineText) (l : LineText) (ty : TypeTree) (es : List EdgeText) → Among d v.blocks → d.lines ≡ before ++ l ∷ after → l.inst ≡ phi_text ty es
+          → (m : EdgeText) → Among m es → ((b : BlockText) × (block_of m.block v.blocks ≡ Some b) × Among b v.blocks) × IsThereOnEdge v (label_or d.label) m
       by d before after l ty es a e q m h =
           let z = fact-at d before after l a e in
           let p = place-at z.0 z.1 d before l after in
           let there : OperandsThere kind.Proc v p (phi_text ty es) = subst (OperandsThere kind.Proc v p) q (z.2.there f.runs) in
           let r = labels-of es m h (subst (λ i. Each (λ n. (b : BlockText) × (block_of n v.blocks ≡ Some b)) (labels_named i)) q z.2.leads) in
-          ((r.0, r.1, among-in v.blocks r.0 (block_of-in m.block v.blocks r.0 r.1)), each-among (IsThereOnEdge v (label_or d.label)) es m there h)
+          ((r.0, r.1, among-in v.blocks r.0 (block_of-in m.block v.blocks r.0 r.1)), in-each (IsThereOnEdge v (label_or d.label)) es m there h)

@@ -36,18 +36,18 @@ use Rattle.lh_flat.specs.Copies.{Copy, top_copy, call_path, copy_at, opened, las
 use Rattle.lh_flat.specs.Flat.{MergeText, FlatBlockText, merge_of, branch_into, with_merge, flat_block, flat_copy, max_nested, as_block}
 use Rattle.lh_flat.proofs.Apart.{Apart}
 use Rattle.lh_flat.proofs.NumberNames.{labels}
-use Rattle.lh_flat_laws.specs.Formed.{IsFormed, PhiFormed, IsWithoutCalls, IsOne}
+use Rattle.lh_flat_laws.specs.Formed.{IsFormed, PhiFormed, IsWithoutCalls}
 use Rattle.lh_flat_laws.specs.Tidy.{BlockTidy, UnitTidy, FunctionsTidy}
-use Rattle.lh_flat_laws.proofs.Cuts.{Among, among-right, Cut, behind, lines-cut, piece-lines, among-map, all-among}
+use Rattle.lh_flat_laws.proofs.Cuts.{Cut, behind, lines-cut, piece-lines}
 use Rattle.lh_flat_laws.proofs.CopyPieces.{CopyPiece, next_cut, next_lines, first_copy_piece, CopyPieceOf, begins, goes_on, Nested, outermost, called, flat_copy_piece, copy_piece-stands}
 use Rattle.lh_flat_laws.proofs.SoundCopies.{IsCode}
 use Rattle.lh_flat_laws.proofs.Paths.{IsGood, CallIsGood, copy_piece-block, nested-right}
 use Rattle.lh_flat_laws.proofs.Phis.{phi-of, PhisAreGood, no-branch, nothing-is, merge-edges}
 use Rattle.lh_flat_laws.proofs.Splits.{LineOf, is_merge, is_copied, is_branch, line-of}
-use Rattle.lh_flat_laws.proofs.Facts.{PlaceFacts, UnitFacts, each-among, fact-at, label-found, among-in}
+use Rattle.lh_flat_laws.proofs.Facts.{PlaceFacts, UnitFacts, fact-at, label-found, among-in}
 use Rattle.lh_flat_laws.proofs.OpenedCalls.{cut-opens, function-is}
 use Rattle.lh_flat_laws.proofs.CopyPaths.{ModuleFacts, copy-facts, copies-good, copies-phis, copies-code, process-no-ret, begins-with, copies-calls, copies-arguments, copies-results, copies-sound, copies-merges, copies-returned, copies-naming, not-deep}
-use Rattle.lh_flat_laws.proofs.FlatTypes.{among-lines, among-middle, typed}
+use Rattle.lh_flat_laws.proofs.FlatTypes.{among-lines, typed}
 use Rattle.lh_flat_laws.proofs.Soundness.{IsCopyPiece, every-copy_piece, line-sound}
 use Rattle.lh_flat_laws.proofs.Predecessors.{CopyPieceAt, Onward, onward, names-last}
 use Rattle.lh_flat_laws.proofs.OperandKinds.{kinds-copied}
@@ -56,6 +56,8 @@ use Rattle.lh_flat_laws.proofs.BlockEnds.{copy_piece-ends}
 use Rattle.lh_flat_laws.proofs.LineTargets.{copied-leads, branch-leads, merge-leads, calm-opened, copied-calls}
 use Rattle.lh_flat_laws.proofs.Control.{line-there}
 use Rattle.lh_flat_laws.proofs.BlocksFound.{opens-is}
+use Rattle.lh_flat_laws.specs.Members.{Among}
+use Rattle.lh_flat_laws.proofs.Members.{in-each, each-among, among-right, among-map, among-middle}
 
 -- ---- places of a unit, block by block
 
@@ -69,7 +71,7 @@ each-in P k d b before (l ∷ rest) f = (f k before l rest refl, each-in P (k + 
     inner (x ∷ xs) l ys = ap (λ zs. x ∷ zs) (inner xs l ys)
 
 each-later : (P : InstPlaceText → Type 0) (k : ℕ) (bs : List BlockText)
-    → ((j : ℕ) (b : BlockText) (start : List LineText) (l : LineText) (after : List LineText) → Among bs b → b.lines ≡ start ++ l ∷ after → P (place-at j false b start l after))
+    → ((j : ℕ) (b : BlockText) (start : List LineText) (l : LineText) (after : List LineText) → Among b bs → b.lines ≡ start ++ l ∷ after → P (place-at j false b start l after))
     → Each P (places_from k false bs)
 each-later P k [] f = tt
 each-later P k (b ∷ bs) f =
@@ -83,7 +85,7 @@ IsEntry bs b = (more : List BlockText) × (bs ≡ b ∷ more)
 
 -- what holds at each line of each block, holds at each place
 each-place : (P : InstPlaceText → Type 0) (bs : List BlockText)
-    → ((j : ℕ) (d : Bool) (b : BlockText) (start : List LineText) (l : LineText) (after : List LineText) → Among bs b → (d ≡ true → IsEntry bs b) → b.lines ≡ start ++ l ∷ after
+    → ((j : ℕ) (d : Bool) (b : BlockText) (start : List LineText) (l : LineText) (after : List LineText) → Among b bs → (d ≡ true → IsEntry bs b) → b.lines ≡ start ++ l ∷ after
     → P (place-at j d b start l after))
     → Each P (places_from 1 true bs)
 each-place P [] f = tt
@@ -97,20 +99,15 @@ every-line P [] f = tt
 every-line P (l ∷ ls) f = (f [] l ls refl, every-line P ls (λ start m after e. f (l ∷ start) m after (ap (λ xs. l ∷ xs) e)))
 
 -- and at each line
-each-line : (P : LineText → Type 0) (bs : List BlockText) → ((b : BlockText) (start : List LineText) (l : LineText) (after : List LineText) → Among bs b → b.lines ≡ start ++ l ∷ after → P l)
+each-line : (P : LineText → Type 0) (bs : List BlockText) → ((b : BlockText) (start : List LineText) (l : LineText) (after : List LineText) → Among b bs → b.lines ≡ start ++ l ∷ after → P l)
     → Each P (lines_of bs)
 each-line P [] f = tt
 each-line P (b ∷ bs) f = Each-append P b.lines (lines_of bs) (every-line P b.lines (λ start l after e. f b start l after (inl refl) e))
     (each-line P bs (λ c start l after a e. f c start l after (inr a) e))
 
-one-of : (es : List EdgeText) (e : EdgeText) → Among es e → IsOne es e
-one-of [] e a = elim a [ ]
-one-of (x ∷ es) e (inl q) = inl q
-one-of (x ∷ es) e (inr a) = inr (one-of es e a)
-
 -- the blocks of a unit that is no entity have lines
-filled-blocks : (bs : List BlockText) → Each BlockIsLabelled bs → (b : BlockText) → Among bs b → (l : LineText) × (ls : List LineText) × (b.lines ≡ l ∷ ls)
-filled-blocks bs h b a = some b.lines (each-among BlockIsLabelled bs b h a).1
+filled-blocks : (bs : List BlockText) → Each BlockIsLabelled bs → (b : BlockText) → Among b bs → (l : LineText) × (ls : List LineText) × (b.lines ≡ l ∷ ls)
+filled-blocks bs h b a = some b.lines (in-each BlockIsLabelled bs b h a).1
   where
     some : (ls : List LineText) → has_lines ls ≡ true → (l : LineText) × (more : List LineText) × (ls ≡ l ∷ more)
     some [] e = absurd cc
@@ -171,7 +168,7 @@ phi-kept fs c (ret_text a) h = absurd cc
 head-is : (a b : BlockText) (xs ys : List BlockText) → a ∷ xs ≡ b ∷ ys → a ≡ b
 head-is a b xs ys e = cc
 
-module _ (items : List ItemText) (m : ModuleFacts items items) (u : UnitText) (among : Among items (unit_text u)) (process : u.kind ≡ kind.Proc)
+module _ (items : List ItemText) (m : ModuleFacts items items) (u : UnitText) (among : Among (unit_text u) items) (process : u.kind ≡ kind.Proc)
     (shallow : nest_deeper max_nested (functions items) (callees u) ≡ false) (tidy : UnitTidy (functions items) u) (tidies : FunctionsTidy (functions items))
     (kinded : (k : ℕ) (c : Copy) → Nested (functions items) u k c → ArgsHaveKinds c.unit)
     (x : UnitText) (kind_is : x.kind ≡ kind.Proc) (args : x.args ≡ u.args) (blocks : x.blocks ≡ map as_block (flat_copy (suc max_nested) (functions items) (top_copy u)))
@@ -192,10 +189,10 @@ module _ (items : List ItemText) (m : ModuleFacts items items) (u : UnitText) (a
   deep : (c : Copy) → Nested fs u zero c → (s : CopyPiece) → CopyPieceOf fs c s → (z : Cut) → next_cut fs c s ≡ Some z → ⊥
   deep = not-deep items m u among process shallow
 
-  no_ret : (b : BlockText) (before after : List LineText) (l : LineText) → Among u.blocks b → b.lines ≡ before ++ l ∷ after → (o : Option OperandText) → l.inst ≡ ret_text o → ⊥
+  no_ret : (b : BlockText) (before after : List LineText) (l : LineText) → Among b u.blocks → b.lines ≡ before ++ l ∷ after → (o : Option OperandText) → l.inst ≡ ret_text o → ⊥
   no_ret = process-no-ret items m u among process shallow
 
-  code : (k : ℕ) (c : Copy) → Nested fs u k c → (b : BlockText) (before after : List LineText) (l : LineText) → Among c.unit.blocks b → b.lines ≡ before ++ l ∷ after → IsCode l.inst
+  code : (k : ℕ) (c : Copy) → Nested fs u k c → (b : BlockText) (before after : List LineText) (l : LineText) → Among b c.unit.blocks → b.lines ≡ before ++ l ∷ after → IsCode l.inst
   code = copies-code items m u among process shallow
 
   phis : (k : ℕ) (c : Copy) → Nested fs u k c → PhisAreGood c.unit
@@ -207,7 +204,7 @@ module _ (items : List ItemText) (m : ModuleFacts items items) (u : UnitText) (a
   begin : (b : BlockText) × (more : List BlockText) × (u.blocks ≡ b ∷ more)
   begin = begins-with items m u among process shallow max_nested (top_copy u) outermost
 
-  fact : (k : ℕ) (c : Copy) → Nested fs u k c → (b : BlockText) (before after : List LineText) (l : LineText) → Among c.unit.blocks b → b.lines ≡ before ++ l ∷ after → (j : ℕ) × (d : Bool)
+  fact : (k : ℕ) (c : Copy) → Nested fs u k c → (b : BlockText) (before after : List LineText) (l : LineText) → Among b c.unit.blocks → b.lines ≡ before ++ l ∷ after → (j : ℕ) × (d : Bool)
       × PlaceFacts items c.unit (place-at j d b before l after)
   fact k c n b before after l a e = fact-at items c.unit (facts k c n) b before after l a e
 
@@ -216,16 +213,16 @@ module _ (items : List ItemText) (m : ModuleFacts items items) (u : UnitText) (a
   copy-tidy _ _ (called k c n s h z e) = let o = opens-is fs c (call_path c (label_or s.block.label) z.number) z.line.inst z.copy (cut-opens fs c (label_or s.block.label) s.number s.rest z e) in
       tidies o.callee z.copy.unit o.named
 
-  block-tidy : (k : ℕ) (c : Copy) → Nested fs u k c → (b : BlockText) → Among c.unit.blocks b → BlockTidy fs c.unit b
-  block-tidy k c n b a = each-among (BlockTidy fs c.unit) c.unit.blocks b (copy-tidy k c n).blocks a
+  block-tidy : (k : ℕ) (c : Copy) → Nested fs u k c → (b : BlockText) → Among b c.unit.blocks → BlockTidy fs c.unit b
+  block-tidy k c n b a = in-each (BlockTidy fs c.unit) c.unit.blocks b (copy-tidy k c n).blocks a
 
-  last-once : (k : ℕ) (c : Copy) → Nested fs u k c → (b d : BlockText) → Among c.unit.blocks b → Among c.unit.blocks d → last_piece fs c b ≡ last_piece fs c d → b ≡ d
+  last-once : (k : ℕ) (c : Copy) → Nested fs u k c → (b d : BlockText) → Among b c.unit.blocks → Among d c.unit.blocks → last_piece fs c b ≡ last_piece fs c d → b ≡ d
   last-once k c n b d p q e = last-apart fs c b d (block-tidy k c n b p).plain (block-tidy k c n d q).plain ((good k c n).self b p) ((good k c n).self d q) e
 
-  leads : (k : ℕ) (c : Copy) → Nested fs u k c → (b : BlockText) (before after : List LineText) (l : LineText) → Among c.unit.blocks b → b.lines ≡ before ++ l ∷ after → (n : List ℕ)
-      → Among (labels_named l.inst) n → (d : BlockText) × (block_of n c.unit.blocks ≡ Some d) × Among c.unit.blocks d × (label_or d.label ≡ n)
+  leads : (k : ℕ) (c : Copy) → Nested fs u k c → (b : BlockText) (before after : List LineText) (l : LineText) → Among b c.unit.blocks → b.lines ≡ before ++ l ∷ after → (n : List ℕ)
+      → Among n (labels_named l.inst) → (d : BlockText) × (block_of n c.unit.blocks ≡ Some d) × Among d c.unit.blocks × (label_or d.label ≡ n)
   leads k c nest b before after l a e n h =
-      let r = each-among (λ n. (d : BlockText) × (block_of n c.unit.blocks ≡ Some d)) (labels_named l.inst) n (fact k c nest b before after l a e).2.leads h in
+      let r = in-each (λ n. (d : BlockText) × (block_of n c.unit.blocks ≡ Some d)) (labels_named l.inst) n (fact k c nest b before after l a e).2.leads h in
       (r.0, r.1, among-in c.unit.blocks r.0 (block_of-in n c.unit.blocks r.0 r.1), label-found n c.unit.blocks r.0 r.1)
 
   call-continues : (c : Copy) (s : CopyPiece) → CopyPieceOf fs c s → (z : Cut) → next_cut fs c s ≡ Some z → is_terminator z.line.inst ≡ false
@@ -243,23 +240,23 @@ module _ (items : List ItemText) (m : ModuleFacts items items) (u : UnitText) (a
   once : (k : ℕ) (c : Copy) → Nested fs u k c → (s : CopyPiece) → CopyPieceOf fs c s → block_of s.label x.blocks ≡ Some (as_block (flat_copy_piece fs k c s))
   once k c n s h = ap (block_of s.label) blocks ∙ once-found (flat_copy (suc max_nested) fs (top_copy u)) (flat_copy_piece fs k c s) apart (copy_piece-stands fs u k c n s h)
 
-  gives : (l : LineText) → Among (lines_of x.blocks) l → (n : List ℕ) → l.result ≡ Some n → value_type x n ≡ result_type l.inst
-  gives l a = each-among (λ (l : LineText). (n : List ℕ) → l.result ≡ Some n → value_type x n ≡ result_type l.inst) (lines_of x.blocks) l (lines-typed x new) a
+  gives : (l : LineText) → Among l (lines_of x.blocks) → (n : List ℕ) → l.result ≡ Some n → value_type x n ≡ result_type l.inst
+  gives l a = in-each (λ (l : LineText). (n : List ℕ) → l.result ≡ Some n → value_type x n ≡ result_type l.inst) (lines_of x.blocks) l (lines-typed x new) a
 
   types : (k : ℕ) (c : Copy) → Nested fs u k c → (n : List ℕ) (t : TypeTree) → value_type c.unit n ≡ Some t → value_type x (c.value n) ≡ Some t
   types = typed fs u x args blocks gives code (copies-arguments items m u among process shallow) (copies-results items m u among process shallow)
 
-  naming : (k : ℕ) (c : Copy) → Nested fs u k c → (d b : BlockText) (before after : List LineText) (l : LineText) (ty : TypeTree) (es : List EdgeText) → Among c.unit.blocks d
+  naming : (k : ℕ) (c : Copy) → Nested fs u k c → (d b : BlockText) (before after : List LineText) (l : LineText) (ty : TypeTree) (es : List EdgeText) → Among d c.unit.blocks
       → d.lines ≡ before ++ l ∷ after → l.inst ≡ phi_text ty es
-      → Among c.unit.blocks b → has_edge b (label_or d.label) ≡ true → edges_naming (label_or b.label) es ≡ 1
+      → Among b c.unit.blocks → has_edge b (label_or d.label) ≡ true → edges_naming (label_or b.label) es ≡ 1
   naming = copies-naming items m u among process shallow
 
-  self : (k : ℕ) (c : Copy) → Nested fs u k c → (b : BlockText) → Among c.unit.blocks b → block_of (label_or b.label) c.unit.blocks ≡ Some b
+  self : (k : ℕ) (c : Copy) → Nested fs u k c → (b : BlockText) → Among b c.unit.blocks → block_of (label_or b.label) c.unit.blocks ≡ Some b
   self k c n = (good k c n).self
 
   returned : (k : ℕ) (c : Copy) → Nested fs u (suc k) c → (s : CopyPiece) → CopyPieceOf fs c s → (z : Cut) → next_cut fs c s ≡ Some z → (w : MergeText)
       → merge_of fs c z.copy z.line.inst z.line.result ≡ Some w
-      → (b : BlockText) (before after : List LineText) (l : LineText) → Among z.copy.unit.blocks b → b.lines ≡ before ++ l ∷ after → (o : Option OperandText) → l.inst ≡ ret_text o → (a : OperandText)
+      → (b : BlockText) (before after : List LineText) (l : LineText) → Among b z.copy.unit.blocks → b.lines ≡ before ++ l ∷ after → (o : Option OperandText) → l.inst ≡ ret_text o → (a : OperandText)
       × (o ≡ Some a)
   returned = copies-returned items m u among process shallow x types
 
@@ -274,18 +271,18 @@ module _ (items : List ItemText) (m : ModuleFacts items items) (u : UnitText) (a
     pub is : b ≡ as_block (flat_copy_piece fs depth copy piece)
     pub stands : (as_block (flat_copy_piece fs depth copy piece)).lines ≡ before ++ l ∷ after
     pub line : LineOf fs copy piece before l
-    pub listed : Among (lines_of x.blocks) l
+    pub listed : Among l (lines_of x.blocks)
 
-  among-lines-of : (bs : List BlockText) (b : BlockText) (before after : List LineText) (l : LineText) → Among bs b → b.lines ≡ before ++ l ∷ after → Among (lines_of bs) l
-  among-lines-of bs b before after l a e = among-lines bs b l a (subst (λ ls. Among ls l) (sym e) (among-middle before after l))
+  among-lines-of : (bs : List BlockText) (b : BlockText) (before after : List LineText) (l : LineText) → Among b bs → b.lines ≡ before ++ l ∷ after → Among l (lines_of bs)
+  among-lines-of bs b before after l a e = among-lines bs b l a (subst (λ ls. Among l ls) (sym e) (among-middle before after l))
 
-  copy_piece-of : (b : BlockText) → Among x.blocks b → (y : FlatBlockText) × (b ≡ as_block y) × IsCopyPiece fs u y
-  copy_piece-of b a = let r = among-map as_block (flat_copy (suc max_nested) fs (top_copy u)) b (subst (λ bs. Among bs b) blocks a) in (r.0, r.2, every-copy_piece fs u r.0 r.1)
+  copy_piece-of : (b : BlockText) → Among b x.blocks → (y : FlatBlockText) × (b ≡ as_block y) × IsCopyPiece fs u y
+  copy_piece-of b a = let r = among-map as_block (flat_copy (suc max_nested) fs (top_copy u)) b (subst (λ bs. Among b bs) blocks a) in (r.0, r.2, every-copy_piece fs u r.0 r.1)
 
   line-in : (k : ℕ) (c : Copy) (s : CopyPiece) (before after : List LineText) (l : LineText) → (as_block (flat_copy_piece fs k c s)).lines ≡ before ++ l ∷ after → LineOf fs c s before l
   line-in k c s before after l e = line-of fs c s (flat_copy k fs) before after l (ap (with_merge s.merge) (sym (piece-lines fs c (label_or s.block.label) (flat_copy k fs) s.number s.rest)) ∙ e)
 
-  line-at : (b : BlockText) → Among x.blocks b → (before after : List LineText) (l : LineText) → b.lines ≡ before ++ l ∷ after → LineAt b before l after
+  line-at : (b : BlockText) → Among b x.blocks → (before after : List LineText) (l : LineText) → b.lines ≡ before ++ l ∷ after → LineAt b before l after
   line-at b a before after l e =
       let r = copy_piece-of b a in
       let is : b ≡ as_block (flat_copy_piece fs r.2.depth r.2.copy r.2.piece) = r.1 ∙ ap as_block r.2.is in
@@ -383,29 +380,29 @@ module _ (items : List ItemText) (m : ModuleFacts items items) (u : UnitText) (a
 
     -- ---- a `phi`
 
-    merge-first : (o : Option MergeText) (ls : List LineText) (k : LineText) → Among (with_merge o ls) k → (is_phi k.inst ≡ true) ⊎ Among ls k
+    merge-first : (o : Option MergeText) (ls : List LineText) (k : LineText) → Among k (with_merge o ls) → (is_phi k.inst ≡ true) ⊎ Among k ls
     merge-first None ls k a = inr a
     merge-first (Some w) ls k (inl e) = inl (ap (λ (j : LineText). is_phi j.inst) (sym e))
     merge-first (Some w) ls k (inr a) = inr a
 
-    firsts : (ty : TypeTree) (es : List EdgeText) → l.inst ≡ phi_text ty es → (k : LineText) → Among before k → is_phi k.inst ≡ true
+    firsts : (ty : TypeTree) (es : List EdgeText) → l.inst ≡ phi_text ty es → (k : LineText) → Among k before → is_phi k.inst ≡ true
     firsts ty es i k a = by at.line
       where
         copied-first : (start : List LineText) (j : LineText) (rest : List LineText) → next_lines fs at.copy at.piece ≡ start ++ j ∷ rest → is_phi j.inst ≡ true
-            → ((is_phi k.inst ≡ true) ⊎ Among (map (copied_line fs at.copy) start) k) → is_phi k.inst ≡ true
+            → ((is_phi k.inst ≡ true) ⊎ Among k (map (copied_line fs at.copy) start)) → is_phi k.inst ≡ true
         copied-first start j rest q p (inl h) = h
         copied-first start j rest q p (inr h) =
             let o = among-map (copied_line fs at.copy) start k h in
             ap (λ (j : LineText). is_phi j.inst) o.2
             ∙ phi-kept fs at.copy o.0.inst ((phis at.depth at.copy at.nested).first at.piece.block (at.piece.before ++ start) _ j (copy_piece-block fs at.copy at.piece at.of).0
-            (lines-there at.copy at.piece at.of start j rest q) p o.0 (among-right at.piece.before start o.0 o.1))
+            (lines-there at.copy at.piece at.of start j rest q) p o.0 (among-right o.0 at.piece.before start o.1))
 
         by : LineOf fs at.copy at.piece before l → is_phi k.inst ≡ true
-        by (is_merge w q r e) = elim (subst (λ ls. Among ls k) e a) [ ]
+        by (is_merge w q r e) = elim (subst (λ ls. Among k ls) e a) [ ]
         by (is_branch z q r) = elim (no-branch z.copy l ty es r i) [ ]
         by (is_copied start j rest q r e) =
             let f = phi-of fs at.copy j.inst ty es (ap (λ (j : LineText). j.inst) (sym r) ∙ i) in
-            copied-first start j rest q (ap is_phi f.is) (merge-first at.piece.merge (map (copied_line fs at.copy) start) k (subst (λ ls. Among ls k) e a))
+            copied-first start j rest q (ap is_phi f.is) (merge-first at.piece.merge (map (copied_line fs at.copy) start) k (subst (λ ls. Among k ls) e a))
 
     -- none stands in the entry block
     entry-calm : (ty : TypeTree) (es : List EdgeText) → l.inst ≡ phi_text ty es → IsEntry x.blocks b → ⊥
@@ -423,12 +420,12 @@ module _ (items : List ItemText) (m : ModuleFacts items items) (u : UnitText) (a
         by (is_copied start j rest q r e) =
             let f = phi-of fs (top_copy u) j.inst ty es (ap (λ (j : LineText). j.inst) (sym r) ∙ i) in
             both_ways (is_phi j.inst) ((phis max_nested (top_copy u) outermost).entry begin.0 begin.1 begin.2 start _ j
-            (lines-there (top_copy u) first (begins begin.0 (subst (λ bs. Among bs begin.0) (sym begin.2) (inl refl))) start j rest q)) (ap is_phi f.is)
+            (lines-there (top_copy u) first (begins begin.0 (subst (λ bs. Among begin.0 bs) (sym begin.2) (inl refl))) start j rest q)) (ap is_phi f.is)
 
     self-is : block_of (label_or b.label) x.blocks ≡ Some b
     self-is = subst (λ (d : BlockText). block_of (label_or d.label) x.blocks ≡ Some d) (sym at.is) (once at.depth at.copy at.nested at.piece at.of)
 
-    phi-named : (ty : TypeTree) (es : List EdgeText) → l.inst ≡ phi_text ty es → (last : BlockText) → Among x.blocks last → has_edge last (label_or b.label) ≡ true → (e : EdgeText) × IsOne es e
+    phi-named : (ty : TypeTree) (es : List EdgeText) → l.inst ≡ phi_text ty es → (last : BlockText) → Among last x.blocks → has_edge last (label_or b.label) ≡ true → (e : EdgeText) × Among e es
         × (e.block ≡ label_or last.label)
     phi-named ty es i last a edge =
         let r = copy_piece-of last a in
@@ -437,11 +434,10 @@ module _ (items : List ItemText) (m : ModuleFacts items items) (u : UnitText) (a
         by here (onward fs u x args good calls deep no_ret phis naming self returned last here (label_or b.label) edge)
       where
         by : (here : CopyPieceAt fs u x args good calls deep no_ret phis naming self returned last)
-            → Onward fs u x args good calls deep no_ret phis naming self returned (label_or b.label) here.copy here.piece → (e : EdgeText) × IsOne es e × (e.block ≡ label_or last.label)
+            → Onward fs u x args good calls deep no_ret phis naming self returned (label_or b.label) here.copy here.piece → (e : EdgeText) × Among e es × (e.block ≡ label_or last.label)
         by here g =
-            let q = names-last fs u x args good calls deep no_ret phis naming self returned last here b before after l ty es (ap (λ (d : BlockText). d.lines) at.is ∙ at.stands) i g.depth g.copy
-            g.nested g.piece g.of (target g.depth g.copy g.nested g.piece g.of g.is) g.step in
-            (q.0, one-of es q.0 q.1, q.2)
+            names-last fs u x args good calls deep no_ret phis naming self returned last here b before after l ty es (ap (λ (d : BlockText). d.lines) at.is ∙ at.stands) i g.depth g.copy
+            g.nested g.piece g.of (target g.depth g.copy g.nested g.piece g.of g.is) g.step
           where
             target : (k : ℕ) (c : Copy) (n : Nested fs u k c) (s : CopyPiece) → CopyPieceOf fs c s → s.label ≡ label_or b.label → b ≡ as_block (flat_copy_piece fs k c s)
             target k c n s h e = same_Some b (as_block (flat_copy_piece fs k c s)) (sym self-is ∙ ap (λ n. block_of n x.blocks) (sym e) ∙ once k c n s h)
@@ -455,9 +451,9 @@ module _ (items : List ItemText) (m : ModuleFacts items items) (u : UnitText) (a
 
         by : (i : InstText) → l.inst ≡ i → PhiFormed x (place-at j d b before l after) i
         by (phi_text ty es) i = record {
-          first = all-among (λ (k : LineText). is_phi k.inst ≡ true) before (firsts ty es i);
+          first = each-among (λ (k : LineText). is_phi k.inst ≡ true) before (firsts ty es i);
           no_entry = not-entry d (λ t. entry-calm ty es i (entry t));
-          named = all-among (λ (last : BlockText). has_edge last (label_or b.label) ≡ true → (e : EdgeText) × IsOne es e × (e.block ≡ label_or last.label)) x.blocks (phi-named ty es i);
+          named = each-among (λ (last : BlockText). has_edge last (label_or b.label) ≡ true → (e : EdgeText) × Among e es × (e.block ≡ label_or last.label)) x.blocks (phi-named ty es i);
         }
         by _ i = tt
 
@@ -466,7 +462,7 @@ module _ (items : List ItemText) (m : ModuleFacts items items) (u : UnitText) (a
 
   -- ---- all of it
 
-  block-ends : (b : BlockText) → Among x.blocks b → EndsOnce b.lines × ((l : LineText) × (ls : List LineText) × (b.lines ≡ l ∷ ls))
+  block-ends : (b : BlockText) → Among b x.blocks → EndsOnce b.lines × ((l : LineText) × (ls : List LineText) × (b.lines ≡ l ∷ ls))
   block-ends b a =
       let r = copy_piece-of b a in
       subst (λ (b : BlockText). EndsOnce b.lines × ((l : LineText) × (ls : List LineText) × (b.lines ≡ l ∷ ls))) (sym (r.1 ∙ ap as_block r.2.is)) (ends r.2.depth r.2.copy r.2.nested r.2.piece r.2.of)
@@ -485,9 +481,9 @@ module _ (items : List ItemText) (m : ModuleFacts items items) (u : UnitText) (a
   formed = record {
     process = kind_is;
     blocks = first-block;
-    filled = all-among (λ (b : BlockText). (l : LineText) × (more : List LineText) × (b.lines ≡ l ∷ more)) x.blocks (λ b a. (block-ends b a).1);
-    labelled = all-among (λ (b : BlockText). (n : List ℕ) × (b.label ≡ Some n)) x.blocks (λ b a. let r = copy_piece-of b a in (r.0.label, ap (λ (b : BlockText). b.label) r.1));
-    ends = all-among (λ (b : BlockText). EndsOnce b.lines) x.blocks (λ b a. (block-ends b a).0);
+    filled = each-among (λ (b : BlockText). (l : LineText) × (more : List LineText) × (b.lines ≡ l ∷ more)) x.blocks (λ b a. (block-ends b a).1);
+    labelled = each-among (λ (b : BlockText). (n : List ℕ) × (b.label ≡ Some n)) x.blocks (λ b a. let r = copy_piece-of b a in (r.0.label, ap (λ (b : BlockText). b.label) r.1));
+    ends = each-among (λ (b : BlockText). EndsOnce b.lines) x.blocks (λ b a. (block-ends b a).0);
     lines = each-line (InstIsSound x) x.blocks (λ b before l after a e. sound-at b before l after (line-at b a before after l e));
     given = given;
     kinds = each-line (λ (l : LineText). Each (HasTypeOfKind x) (uses l.inst)) x.blocks (λ b before l after a e. kinds-at b before l after (line-at b a before after l e));

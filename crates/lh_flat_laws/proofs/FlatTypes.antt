@@ -11,10 +11,12 @@ use Rattle.lh_unit_names.proofs.NameLists.{same_name-is}
 use Rattle.lh_flat.specs.Copies.{Copy, top_copy, argument_or, copied_line}
 use Rattle.lh_flat.specs.Flat.{MergeText, merge_of, with_merge, flat_copy, max_nested, as_block}
 use Rattle.lh_verify_laws.specs.Calls.{ArgumentsAre}
-use Rattle.lh_flat_laws.proofs.Cuts.{Among, among-left, among-right, Cut, behind, lines-cut, piece-lines}
+use Rattle.lh_flat_laws.proofs.Cuts.{Cut, behind, lines-cut, piece-lines}
 use Rattle.lh_flat_laws.proofs.CopyPieces.{CopyPiece, next_cut, next_lines, first_copy_piece, after_copy_piece, CopyPieceOf, begins, goes_on, Nested, outermost, called, flat_copy_piece, copy_piece-stands}
 use Rattle.lh_flat_laws.proofs.SoundCopies.{IsCode, result-copied}
 use Rattle.lh_flat_laws.proofs.Splits.{InParts, in_first, in_second, in-parts, merge_line}
+use Rattle.lh_flat_laws.specs.Members.{Among}
+use Rattle.lh_flat_laws.proofs.Members.{among-left, among-right, among-image, among-middle}
 
 -- ---- where the lines of a block stand in a copy
 
@@ -56,25 +58,17 @@ module _ (fs : List UnitText) (c : Copy) where
       by (in_first rest f g) go = in_copy_piece s h pre rest f
       by (in_second start f g) go = at-cut (next_cut fs c s) refl start f g go
 
-  pub found-in : (b : BlockText) → Among c.unit.blocks b → (pre : List LineText) (l : LineText) (post : List LineText) → b.lines ≡ pre ++ l ∷ post → Found l
+  pub found-in : (b : BlockText) → Among b c.unit.blocks → (pre : List LineText) (l : LineText) (post : List LineText) → b.lines ≡ pre ++ l ∷ post → Found l
   found-in b a pre l post e = found-from (suc (length pre)) (first_copy_piece fs c b) (begins b a) pre l post e (omega arith)
 
 -- ---- lines of the flat text
 
-pub among-lines : (bs : List BlockText) (b : BlockText) (l : LineText) → Among bs b → Among b.lines l → Among (lines_of bs) l
+pub among-lines : (bs : List BlockText) (b : BlockText) (l : LineText) → Among b bs → Among l b.lines → Among l (lines_of bs)
 among-lines [] b l a h = elim a [ ]
-among-lines (c ∷ bs) b l (inl e) h = among-left c.lines (lines_of bs) l (subst (λ (x : BlockText). Among x.lines l) (sym e) h)
-among-lines (c ∷ bs) b l (inr a) h = among-right c.lines (lines_of bs) l (among-lines bs b l a h)
+among-lines (c ∷ bs) b l (inl e) h = among-left l c.lines (lines_of bs) (subst (λ (x : BlockText). Among l x.lines) (sym e) h)
+among-lines (c ∷ bs) b l (inr a) h = among-right l c.lines (lines_of bs) (among-lines bs b l a h)
 
-pub among-image : {A B : Type 0} (f : A → B) (xs : List A) (x : A) → Among xs x → Among (map f xs) (f x)
-among-image f [] x a = elim a [ ]
-among-image f (y ∷ xs) x (inl e) = inl (ap f e)
-among-image f (y ∷ xs) x (inr a) = inr (among-image f xs x a)
-
-pub among-middle : {A : Type 0} (xs ys : List A) (x : A) → Among (xs ++ x ∷ ys) x
-among-middle xs ys x = among-right xs (x ∷ ys) x (inl refl)
-
-pub merge-among : (m : Option MergeText) (ls : List LineText) (l : LineText) → Among ls l → Among (with_merge m ls) l
+pub merge-among : (m : Option MergeText) (ls : List LineText) (l : LineText) → Among l ls → Among l (with_merge m ls)
 merge-among None ls l a = a
 merge-among (Some m) ls l a = inr a
 
@@ -82,7 +76,7 @@ merge-among (Some m) ls l a = inr a
 
 pub record GivenAt (bs : List BlockText) (n : List ℕ) (i : InstText) : Type 0 where
   pub block : BlockText
-  pub is_one : Among bs block
+  pub is_one : Among block bs
   pub before : List LineText
   pub line : LineText
   pub after : List LineText
@@ -131,17 +125,17 @@ argument-typed v (p ∷ ps) (o ∷ os) c other n a h e = by (same_name p.name n)
 -- ---- the types
 
 module _ (fs : List UnitText) (u x : UnitText) (args : x.args ≡ u.args) (blocks : x.blocks ≡ map as_block (flat_copy (suc max_nested) fs (top_copy u)))
-    (gives : (l : LineText) → Among (lines_of x.blocks) l → (n : List ℕ) → l.result ≡ Some n → value_type x n ≡ result_type l.inst)
-    (code : (k : ℕ) (c : Copy) → Nested fs u k c → (b : BlockText) (before after : List LineText) (l : LineText) → Among c.unit.blocks b → b.lines ≡ before ++ l ∷ after → IsCode l.inst)
+    (gives : (l : LineText) → Among l (lines_of x.blocks) → (n : List ℕ) → l.result ≡ Some n → value_type x n ≡ result_type l.inst)
+    (code : (k : ℕ) (c : Copy) → Nested fs u k c → (b : BlockText) (before after : List LineText) (l : LineText) → Among b c.unit.blocks → b.lines ≡ before ++ l ∷ after → IsCode l.inst)
     (arguments : (k : ℕ) (c : Copy) → Nested fs u (suc k) c → (s : CopyPiece) → CopyPieceOf fs c s → (z : Cut) → next_cut fs c s ≡ Some z → (n : List ℕ) (a : ArgText)
     → arg_named n z.copy.unit.args ≡ Some a
     → (m : List ℕ) × (value_type c.unit m ≡ Some a.ty) × (z.copy.value n ≡ c.value m))
     (results : (k : ℕ) (c : Copy) → Nested fs u k c → (s : CopyPiece) → CopyPieceOf fs c s → (z : Cut) → next_cut fs c s ≡ Some z → (n : List ℕ) → is_result_name n z.line.result ≡ true
     → (m : MergeText) × (merge_of fs c z.copy z.line.inst z.line.result ≡ Some m) × (m.value ≡ c.value n) × (result_type z.line.inst ≡ Some m.ty)) where
   -- a line of a piece is one of the flat text
-  pub copy_piece-line : (k : ℕ) (c : Copy) → Nested fs u k c → (s : CopyPiece) → CopyPieceOf fs c s → (l : LineText) → Among (as_block (flat_copy_piece fs k c s)).lines l → Among (lines_of x.blocks) l
+  pub copy_piece-line : (k : ℕ) (c : Copy) → Nested fs u k c → (s : CopyPiece) → CopyPieceOf fs c s → (l : LineText) → Among l (as_block (flat_copy_piece fs k c s)).lines → Among l (lines_of x.blocks)
   copy_piece-line k c n s h l a =
-      subst (λ bs. Among (lines_of bs) l) (sym blocks)
+      subst (λ bs. Among l (lines_of bs)) (sym blocks)
       (among-lines (map as_block (flat_copy (suc max_nested) fs (top_copy u))) (as_block (flat_copy_piece fs k c s)) l
       (among-image as_block (flat_copy (suc max_nested) fs (top_copy u)) (flat_copy_piece fs k c s) (copy_piece-stands fs u k c n s h)) a)
 
@@ -155,16 +149,16 @@ module _ (fs : List UnitText) (u x : UnitText) (args : x.args ≡ u.args) (block
       by : Found fs c g.line → value_type x (c.value n) ≡ Some t
       by (in_copy_piece s h a r q) =
           let l : LineText = copied_line fs c g.line in
-          let among : Among (as_block (flat_copy_piece fs k c s)).lines (copied_line fs c g.line) =
-          merge-among s.merge _ l (subst (λ ls. Among ls l) (sym (piece-lines fs c (label_or s.block.label) (flat_copy k fs) s.number s.rest))
-          (among-left _ _ l (subst (λ ls. Among (map (copied_line fs c) ls) l) (sym q) (among-image (copied_line fs c) (a ++ g.line ∷ r) g.line (among-middle a r g.line))))) in
+          let among : Among (copied_line fs c g.line) (as_block (flat_copy_piece fs k c s)).lines =
+          merge-among s.merge _ l (subst (λ ls. Among l ls) (sym (piece-lines fs c (label_or s.block.label) (flat_copy k fs) s.number s.rest))
+          (among-left l _ _ (subst (λ ls. Among l (map (copied_line fs c) ls)) (sym q) (among-image (copied_line fs c) (a ++ g.line ∷ r) g.line (among-middle a r g.line))))) in
           gives l (copy_piece-line k c nest s h l among) (c.value n) (result-of c n g.line.result g.result)
           ∙ result-copied c fs g.line.inst (code k c nest g.block g.before g.after g.line g.is_one g.splits) ∙ ap result_type g.inst ∙ e
       by (is_cut s h z q w) =
           let r = results k c nest s h z q n (ap (λ (l : LineText). is_result_name n l.result) w ∙ g.result) in
           let l : LineText = merge_line r.0 in
-          let among : Among (as_block (flat_copy_piece fs k c (after_copy_piece fs c s z))).lines (merge_line r.0) = subst
-          (λ o. Among (with_merge o (flat_copy_piece fs k c (after_copy_piece fs c s z)).lines) (merge_line r.0)) (sym r.1) (inl refl) in
+          let among : Among (merge_line r.0) (as_block (flat_copy_piece fs k c (after_copy_piece fs c s z))).lines = subst
+          (λ o. Among (merge_line r.0) (with_merge o (flat_copy_piece fs k c (after_copy_piece fs c s z)).lines)) (sym r.1) (inl refl) in
           gives l (copy_piece-line k c nest (after_copy_piece fs c s z) (goes_on s h z q) l among) (c.value n) (ap Some r.2)
           ∙ sym r.3 ∙ ap (λ (l : LineText). result_type l.inst) w ∙ ap result_type g.inst ∙ e
 

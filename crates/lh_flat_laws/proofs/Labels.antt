@@ -10,17 +10,18 @@ use Rattle.lh_flat.specs.Marks.{IsPlain}
 use Rattle.lh_flat.proofs.Marks.{path-apart, not_same}
 use Rattle.lh_flat.proofs.Apart.{Differs, Apart}
 use Rattle.lh_flat.proofs.NumberNames.{labels}
-use Rattle.lh_flat_laws.proofs.Cuts.{Among, among-parts}
 use Rattle.lh_flat_laws.proofs.BlocksFound.{Piece}
 use Rattle.lh_flat_laws.proofs.LastPieces.{last_piece-is}
+use Rattle.lh_flat_laws.specs.Members.{Among}
+use Rattle.lh_flat_laws.proofs.Members.{among-split}
 
-other-label : (x : List ℕ) (bs : List FlatBlockText) (y : FlatBlockText) → Differs x (labels bs) → Among bs y → x ≡ y.label → ⊥
+other-label : (x : List ℕ) (bs : List FlatBlockText) (y : FlatBlockText) → Differs x (labels bs) → Among y bs → x ≡ y.label → ⊥
 other-label x [] y d a e = elim a [ ]
 other-label x (b ∷ bs) y d (inl q) e = d.0 (e ∙ ap (λ (z : FlatBlockText). z.label) (sym q))
 other-label x (b ∷ bs) y d (inr a) e = other-label x bs y d.1 a e
 
 -- the block of a label is found
-pub once-found : (bs : List FlatBlockText) (y : FlatBlockText) → Apart (labels bs) → Among bs y → block_of y.label (map as_block bs) ≡ Some (as_block y)
+pub once-found : (bs : List FlatBlockText) (y : FlatBlockText) → Apart (labels bs) → Among y bs → block_of y.label (map as_block bs) ≡ Some (as_block y)
 once-found [] y p a = elim a [ ]
 once-found (b ∷ bs) y p (inl e) =
     ap (λ (z : FlatBlockText). block_of z.label (map as_block (b ∷ bs))) (sym e)
@@ -31,7 +32,7 @@ once-found (b ∷ bs) y p (inr a) =
     ∙ once-found bs y p.1 a
 
 -- a label that none of these blocks has
-none-defines : (n : List ℕ) (bs : List FlatBlockText) → ((y : FlatBlockText) → Among bs y → y.label ≡ n → ⊥) → defines_label_in n (map as_block bs) ≡ false
+none-defines : (n : List ℕ) (bs : List FlatBlockText) → ((y : FlatBlockText) → Among y bs → y.label ≡ n → ⊥) → defines_label_in n (map as_block bs) ≡ false
 none-defines n [] h = refl
 none-defines n (b ∷ bs) h = ap (λ t. t || defines_label_in n (map as_block bs)) (not_same b.label n (h b (inl refl))) ∙ none-defines n bs (λ y a. h y (inr a))
 
@@ -39,15 +40,15 @@ map-ends : (seen : List FlatBlockText) (b : FlatBlockText) → map as_block seen
 map-ends [] b = refl
 map-ends (x ∷ seen) b = ap (λ bs. as_block x ∷ bs) (map-ends seen b)
 
-labels-new-from : (seen bs : List FlatBlockText) → Apart (labels bs) → ((s y : FlatBlockText) → Among seen s → Among bs y → s.label ≡ y.label → ⊥)
+labels-new-from : (seen bs : List FlatBlockText) → Apart (labels bs) → ((s y : FlatBlockText) → Among s seen → Among y bs → s.label ≡ y.label → ⊥)
     → labels_repeat (map as_block seen) (map as_block bs) ≡ false
 labels-new-from seen [] p h = refl
 labels-new-from seen (b ∷ bs) p h =
     ap (λ t. t || labels_repeat (map as_block seen ++ as_block b ∷ []) (map as_block bs)) (none-defines b.label seen (λ s a. h s b a (inl refl)))
     ∙ ap (λ ss. labels_repeat ss (map as_block bs)) (map-ends seen b)
-    ∙ labels-new-from (seen ++ b ∷ []) bs p.1 (λ s y a c e. by s y c e (among-parts seen (b ∷ []) s a))
+    ∙ labels-new-from (seen ++ b ∷ []) bs p.1 (λ s y a c e. by s y c e (among-split s seen (b ∷ []) a))
   where
-    by : (s y : FlatBlockText) → Among bs y → s.label ≡ y.label → (Among seen s ⊎ Among (b ∷ []) s) → ⊥
+    by : (s y : FlatBlockText) → Among y bs → s.label ≡ y.label → (Among s seen ⊎ Among s (b ∷ [])) → ⊥
     by s y c e (inl a) = h s y a (inr c) e
     by s y c e (inr (inl q)) = other-label b.label bs y p.0 c (ap (λ (z : FlatBlockText). z.label) q ∙ e)
     by s y c e (inr (inr a)) = elim a [ ]

@@ -1,3 +1,4 @@
+pub mod Members
 mod SoundCopies
 pub mod Cuts
 mod CopyPieces
@@ -34,3 +35,4 @@ mod ReturnSteps
 pub mod FlatActivations
 pub mod TidyUnits
 mod ActivationRows
+mod CallSearch

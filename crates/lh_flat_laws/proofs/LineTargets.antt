@@ -13,10 +13,11 @@ use Rattle.lh_verify_laws.specs.Calls.{ArgumentsAre, AssertIsRight}
 use Rattle.lh_flat.specs.Copies.{Copy, call_path, first_piece, last_piece, opened, copied_operand, copied_edge, copied}
 use Rattle.lh_flat.specs.Flat.{first_label, branch_into, given_by, as_block}
 use Rattle.lh_flat_laws.specs.Formed.{IsWithoutCalls}
-use Rattle.lh_flat_laws.proofs.Cuts.{Among, Cut, behind, lines-cut, calm, calm_by}
+use Rattle.lh_flat_laws.proofs.Cuts.{Cut, behind, lines-cut, calm, calm_by}
 use Rattle.lh_flat_laws.proofs.CopyPieces.{CopyPiece, next_cut, next_lines, first_copy_piece, after_copy_piece, CopyPieceOf, begins, goes_on, Nested, outermost, called, flat_copy_piece}
 use Rattle.lh_flat_laws.proofs.SoundCopies.{IsCode}
 use Rattle.lh_flat_laws.proofs.Phis.{own-last, given-by}
+use Rattle.lh_flat_laws.specs.Members.{Among}
 
 -- the last piece of a block
 pub record LastCopyPiece (fs : List UnitText) (c : Copy) (b : BlockText) : Type 0 where
@@ -44,14 +45,14 @@ last-from fs c (suc k) s h l = by (next_cut fs c s) refl (λ z e. last-from fs c
     by None e go = record { piece = s; of = h; same = refl; none = e }
     by (Some z) e go = go z e
 
-pub last-copy_piece : (fs : List UnitText) (c : Copy) (b : BlockText) → Among c.unit.blocks b → LastCopyPiece fs c b
+pub last-copy_piece : (fs : List UnitText) (c : Copy) (b : BlockText) → Among b c.unit.blocks → LastCopyPiece fs c b
 last-copy_piece fs c b a = last-from fs c (suc (length b.lines)) (first_copy_piece fs c b) (begins b a) (omega arith)
 
 module _ (fs : List UnitText) (u x : UnitText)
     (once : (k : ℕ) (c : Copy) → Nested fs u k c → (s : CopyPiece) → CopyPieceOf fs c s → block_of s.label x.blocks ≡ Some (as_block (flat_copy_piece fs k c s)))
-    (leads : (k : ℕ) (c : Copy) → Nested fs u k c → (b : BlockText) (before after : List LineText) (l : LineText) → Among c.unit.blocks b → b.lines ≡ before ++ l ∷ after → (n : List ℕ)
-    → Among (labels_named l.inst) n → (d : BlockText) × (block_of n c.unit.blocks ≡ Some d) × Among c.unit.blocks d × (label_or d.label ≡ n))
-    (no_ret : (b : BlockText) (before after : List LineText) (l : LineText) → Among u.blocks b → b.lines ≡ before ++ l ∷ after → (o : Option OperandText) → l.inst ≡ ret_text o → ⊥) where
+    (leads : (k : ℕ) (c : Copy) → Nested fs u k c → (b : BlockText) (before after : List LineText) (l : LineText) → Among b c.unit.blocks → b.lines ≡ before ++ l ∷ after → (n : List ℕ)
+    → Among n (labels_named l.inst) → (d : BlockText) × (block_of n c.unit.blocks ≡ Some d) × Among d c.unit.blocks × (label_or d.label ≡ n))
+    (no_ret : (b : BlockText) (before after : List LineText) (l : LineText) → Among b u.blocks → b.lines ≡ before ++ l ∷ after → (o : Option OperandText) → l.inst ≡ ret_text o → ⊥) where
   -- a block of the flat text has the label
   abbrev pub IsBlock : List ℕ → Type 0
   IsBlock n = (b : BlockText) × (block_of n x.blocks ≡ Some b)
@@ -59,20 +60,20 @@ module _ (fs : List UnitText) (u x : UnitText)
   copy_piece-is : (k : ℕ) (c : Copy) → Nested fs u k c → (s : CopyPiece) → CopyPieceOf fs c s → (n : List ℕ) → s.label ≡ n → IsBlock n
   copy_piece-is k c nest s h n e = (as_block (flat_copy_piece fs k c s), ap (λ m. block_of m x.blocks) (sym e) ∙ once k c nest s h)
 
-  first-is : (k : ℕ) (c : Copy) → Nested fs u k c → (d : BlockText) → Among c.unit.blocks d → (n : List ℕ) → label_or d.label ≡ n → IsBlock (first_piece c n)
+  first-is : (k : ℕ) (c : Copy) → Nested fs u k c → (d : BlockText) → Among d c.unit.blocks → (n : List ℕ) → label_or d.label ≡ n → IsBlock (first_piece c n)
   first-is k c nest d a n e = copy_piece-is k c nest (first_copy_piece fs c d) (begins d a) (first_piece c n) (ap (first_piece c) e)
 
-  last-is : (k : ℕ) (c : Copy) → Nested fs u k c → (d : BlockText) → Among c.unit.blocks d → IsBlock (last_piece fs c d)
+  last-is : (k : ℕ) (c : Copy) → Nested fs u k c → (d : BlockText) → Among d c.unit.blocks → IsBlock (last_piece fs c d)
   last-is k c nest d a = let r = last-copy_piece fs c d a in copy_piece-is k c nest r.piece r.of (last_piece fs c d) (own-last fs c r.piece r.of r.none ∙ ap (last_piece fs c) r.same)
 
   -- behind the call of a copy
-  back-is : (k : ℕ) (c : Copy) → Nested fs u k c → (b : BlockText) (before after : List LineText) (l : LineText) → Among c.unit.blocks b → b.lines ≡ before ++ l ∷ after → (o : Option OperandText)
+  back-is : (k : ℕ) (c : Copy) → Nested fs u k c → (b : BlockText) (before after : List LineText) (l : LineText) → Among b c.unit.blocks → b.lines ≡ before ++ l ∷ after → (o : Option OperandText)
       → l.inst ≡ ret_text o → IsBlock c.path
   back-is _ _ outermost b before after l a e o i = elim (no_ret b before after l a e o i) [ ]
   back-is _ _ (called k c nest s h z q) b before after l a e o i = copy_piece-is (suc k) c nest (after_copy_piece fs c s z) (goes_on s h z q) z.copy.path refl
 
   edges-in : (k : ℕ) (c : Copy) → Nested fs u k c → (es : List EdgeText)
-      → ((n : List ℕ) → Among (map (λ (e : EdgeText). e.block) es) n → (d : BlockText) × (block_of n c.unit.blocks ≡ Some d) × Among c.unit.blocks d × (label_or d.label ≡ n))
+      → ((n : List ℕ) → Among n (map (λ (e : EdgeText). e.block) es) → (d : BlockText) × (block_of n c.unit.blocks ≡ Some d) × Among d c.unit.blocks × (label_or d.label ≡ n))
       → Each IsBlock (map (λ (e : EdgeText). e.block) (map (copied_edge fs c) es))
   edges-in k c nest [] f = tt
   edges-in k c nest (e ∷ es) f =
@@ -80,20 +81,20 @@ module _ (fs : List UnitText) (u x : UnitText)
       (subst IsBlock (sym (ap (λ o. option_map_or (last_piece fs c) o (first_piece c e.block)) d.1)) (last-is k c nest d.0 d.2), edges-in k c nest es (λ n a. f n (inr a)))
 
   -- a copied line
-  pub copied-leads : (k : ℕ) (c : Copy) → Nested fs u k c → (b : BlockText) (before after : List LineText) (l : LineText) → Among c.unit.blocks b → b.lines ≡ before ++ l ∷ after → IsCode l.inst
+  pub copied-leads : (k : ℕ) (c : Copy) → Nested fs u k c → (b : BlockText) (before after : List LineText) (l : LineText) → Among b c.unit.blocks → b.lines ≡ before ++ l ∷ after → IsCode l.inst
       → Each IsBlock (labels_named (copied fs c l.inst))
   copied-leads k c nest b before after l a e code = by l.inst refl (leads k c nest b before after l a e)
     where
-      one : (n : List ℕ) → ((d : BlockText) × (block_of n c.unit.blocks ≡ Some d) × Among c.unit.blocks d × (label_or d.label ≡ n)) → IsBlock (first_piece c n)
+      one : (n : List ℕ) → ((d : BlockText) × (block_of n c.unit.blocks ≡ Some d) × Among d c.unit.blocks × (label_or d.label ≡ n)) → IsBlock (first_piece c n)
       one n d = first-is k c nest d.0 d.2 n d.3
 
-      by : (i : InstText) → l.inst ≡ i → ((n : List ℕ) → Among (labels_named l.inst) n → (d : BlockText) × (block_of n c.unit.blocks ≡ Some d) × Among c.unit.blocks d × (label_or d.label ≡ n))
+      by : (i : InstText) → l.inst ≡ i → ((n : List ℕ) → Among n (labels_named l.inst) → (d : BlockText) × (block_of n c.unit.blocks ≡ Some d) × Among d c.unit.blocks × (label_or d.label ≡ n))
           → Each IsBlock (labels_named (copied fs c i))
-      by (br_text to) q f = (one to (f to (subst (λ i. Among (labels_named i) to) (sym q) (inl refl))), tt)
-      by (branch_text cond y z) q f = (one y (f y (subst (λ i. Among (labels_named i) y) (sym q) (inl refl))), (one z (f z (subst (λ i. Among (labels_named i) z) (sym q) (inr (inl refl)))), tt))
-      by (wait_text to after signals) q f = (one to (f to (subst (λ i. Among (labels_named i) to) (sym q) (inl refl))), tt)
+      by (br_text to) q f = (one to (f to (subst (λ i. Among to (labels_named i)) (sym q) (inl refl))), tt)
+      by (branch_text cond y z) q f = (one y (f y (subst (λ i. Among y (labels_named i)) (sym q) (inl refl))), (one z (f z (subst (λ i. Among z (labels_named i)) (sym q) (inr (inl refl)))), tt))
+      by (wait_text to after signals) q f = (one to (f to (subst (λ i. Among to (labels_named i)) (sym q) (inl refl))), tt)
       by (ret_text o) q f = (back-is k c nest b before after l a e o q, tt)
-      by (phi_text ty es) q f = edges-in k c nest es (λ n m. f n (subst (λ i. Among (labels_named i) n) (sym q) m))
+      by (phi_text ty es) q f = edges-in k c nest es (λ n m. f n (subst (λ i. Among n (labels_named i)) (sym q) m))
       by (const_text y) q f = tt
       by (pure_text y z) q f = tt
       by (var_text y) q f = tt
@@ -109,13 +110,13 @@ module _ (fs : List UnitText) (u x : UnitText)
 
   -- a branch into a copy
   pub branch-leads : (k : ℕ) (d : Copy) → Nested fs u k d → (b : BlockText) × (more : List BlockText) × (d.unit.blocks ≡ b ∷ more) → Each IsBlock (labels_named (branch_into d).inst)
-  branch-leads k d nest r = (subst (λ bs. IsBlock (first_piece d (first_label bs))) (sym r.2) (first-is k d nest r.0 (subst (λ bs. Among bs r.0) (sym r.2) (inl refl)) (label_or r.0.label) refl), tt)
+  branch-leads k d nest r = (subst (λ bs. IsBlock (first_piece d (first_label bs))) (sym r.2) (first-is k d nest r.0 (subst (λ bs. Among r.0 bs) (sym r.2) (inl refl)) (label_or r.0.label) refl), tt)
 
   -- a merge
   pub merge-leads : (k : ℕ) (d : Copy) → Nested fs u k d → Each IsBlock (map (λ (e : EdgeText). e.block) (given_by fs d))
   merge-leads k d nest = blocks-of (given_by fs d) (λ e a. let g = given-by fs d d.unit.blocks e a in subst IsBlock (sym g.given.block) (last-is k d nest g.from g.is_one))
     where
-      blocks-of : (es : List EdgeText) → ((e : EdgeText) → Among es e → IsBlock e.block) → Each IsBlock (map (λ (e : EdgeText). e.block) es)
+      blocks-of : (es : List EdgeText) → ((e : EdgeText) → Among e es → IsBlock e.block) → Each IsBlock (map (λ (e : EdgeText). e.block) es)
       blocks-of [] f = tt
       blocks-of (e ∷ es) f = (f e (inl refl), blocks-of es (λ m a. f m (inr a)))
 

@@ -9,7 +9,7 @@ use Rattle.lh_unit_names.proofs.NameLists.{same_name-is, same_name-refl}
 use Rattle.lh_verify_laws.proofs.There.{last-leads}
 use Rattle.lh_flat.specs.Copies.{Copy, first_piece, copied, copied_line}
 use Rattle.lh_flat.specs.Flat.{MergeText, with_merge}
-use Rattle.lh_flat_laws.proofs.Cuts.{Among}
+use Rattle.lh_flat_laws.specs.Members.{Among}
 
 -- ---- what lines define
 
@@ -82,7 +82,7 @@ last-of (l ∷ more) = behind (last-of more)
 
 -- an instruction of a copy leads to the first piece of a block to which the original leads, or goes back behind the call
 pub data Leads (c : Copy) (i : InstText) (m : List ℕ) : Type 0 where
-  within : (to : List ℕ) → Among (leads_to i) to → m ≡ first_piece c to → Leads c i m
+  within : (to : List ℕ) → Among to (leads_to i) → m ≡ first_piece c to → Leads c i m
   back : (o : Option OperandText) → i ≡ ret_text o → m ≡ c.path → Leads c i m
 
 pub leads-copied : (fs : List UnitText) (c : Copy) (i : InstText) (m : List ℕ) → list_any (λ x. same_name x m) (leads_to (copied fs c i)) ≡ true → Leads c i m

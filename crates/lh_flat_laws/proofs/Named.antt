@@ -5,9 +5,10 @@ use Rattle.lh_unit.specs.Contents.{OperandText, InstText, const_text, pure_text,
 use Rattle.lh_unit.specs.Kinds.{Need, Use, used, all_used, maybe_used, operation_uses, time_needed, signal_needed, data_needed}
 use Rattle.lh_unit.specs.WellFormed.{values_named, is_phi}
 use Rattle.lh_flat.specs.Copies.{Copy, copied_operand, copied}
-use Rattle.lh_flat_laws.proofs.Cuts.{Among, among-left, among-right, among-parts}
 use Rattle.lh_flat_laws.proofs.SoundCopies.{IsCode}
 use Rattle.std.specs.Prelude.{false}
+use Rattle.lh_flat_laws.specs.Members.{Among}
+use Rattle.lh_flat_laws.proofs.Members.{among-left, among-right, among-split}
 
 values : List Use → List (List ℕ)
 values us = map (λ (x : Use). x.value) us
@@ -22,31 +23,31 @@ operation-values o args = used-values _ args
 module _ (c : Copy) where
   -- it is the new name of one of these
   abbrev pub IsNew : List (List ℕ) → List ℕ → Type 0
-  IsNew ns n = (m : List ℕ) × Among ns m × (n ≡ c.value m)
+  IsNew ns n = (m : List ℕ) × Among m ns × (n ≡ c.value m)
 
-  new-map : (ns : List (List ℕ)) (n : List ℕ) → Among (map c.value ns) n → IsNew ns n
+  new-map : (ns : List (List ℕ)) (n : List ℕ) → Among n (map c.value ns) → IsNew ns n
   new-map [] n a = elim a [ ]
   new-map (m ∷ ns) n (inl e) = (m, inl refl, sym e)
   new-map (m ∷ ns) n (inr a) = let r = new-map ns n a in (r.0, inr r.1, r.2)
 
   new-left : (ns ms : List (List ℕ)) (n : List ℕ) → IsNew ns n → IsNew (ns ++ ms) n
-  new-left ns ms n h = (h.0, among-left ns ms h.0 h.1, h.2)
+  new-left ns ms n h = (h.0, among-left h.0 ns ms h.1, h.2)
 
   new-right : (ns ms : List (List ℕ)) (n : List ℕ) → IsNew ms n → IsNew (ns ++ ms) n
-  new-right ns ms n h = (h.0, among-right ns ms h.0 h.1, h.2)
+  new-right ns ms n h = (h.0, among-right h.0 ns ms h.1, h.2)
 
   operands-map : (args : List OperandText) → map (λ (o : OperandText). o.value) (map (copied_operand c) args) ≡ map c.value (map (λ (o : OperandText). o.value) args)
   operands-map [] = refl
   operands-map (o ∷ more) = ap (λ ns. c.value o.value ∷ ns) (operands-map more)
 
   new-operands : (us vs : List (List ℕ)) (args : List OperandText) (n : List ℕ) → us ≡ map (λ (o : OperandText). o.value) args → vs ≡ map (λ (o : OperandText). o.value) (map (copied_operand c) args)
-      → Among vs n → IsNew us n
-  new-operands us vs args n e f a = subst (λ ns. IsNew ns n) (sym e) (new-map (map (λ (o : OperandText). o.value) args) n (subst (λ ns. Among ns n) (f ∙ operands-map args) a))
+      → Among n vs → IsNew us n
+  new-operands us vs args n e f a = subst (λ ns. IsNew ns n) (sym e) (new-map (map (λ (o : OperandText). o.value) args) n (subst (λ ns. Among n ns) (f ∙ operands-map args) a))
 
-  new-one : (m n : List ℕ) → Among (c.value m ∷ []) n → IsNew (m ∷ []) n
+  new-one : (m n : List ℕ) → Among n (c.value m ∷ []) → IsNew (m ∷ []) n
   new-one m n a = new-map (m ∷ []) n a
 
-  new-maybe : (need : Need) (o : Option (List ℕ)) (n : List ℕ) → Among (map (λ (x : Use). x.value) (maybe_used need (option_map c.value o))) n
+  new-maybe : (need : Need) (o : Option (List ℕ)) (n : List ℕ) → Among n (map (λ (x : Use). x.value) (maybe_used need (option_map c.value o)))
       → IsNew (map (λ (x : Use). x.value) (maybe_used need o)) n
   new-maybe need None n a = elim a [ ]
   new-maybe need (Some m) n a = new-one m n a
@@ -59,7 +60,7 @@ module _ (c : Copy) where
   values-parts [] vs = refl
   values-parts (u ∷ us) vs = ap (λ ns. u.value ∷ ns) (values-parts us vs)
 
-  pub named-copied : (fs : List UnitText) (i : InstText) → IsCode i → is_phi i ≡ false → (n : List ℕ) → Among (values_named (copied fs c i)) n → IsNew (values_named i) n
+  pub named-copied : (fs : List UnitText) (i : InstText) → IsCode i → is_phi i ≡ false → (n : List ℕ) → Among n (values_named (copied fs c i)) → IsNew (values_named i) n
   named-copied fs (const_text d) k p n a = elim a [ ]
   named-copied fs (pure_text o args) k p n a = new-operands _ _ args n (operation-values o args) (operation-values o (map (copied_operand c) args)) a
   named-copied fs (var_text o) k p n a = new-one o.value n a
@@ -68,9 +69,9 @@ module _ (c : Copy) where
   named-copied fs (sig_text o) k p n a = elim k [ ]
   named-copied fs (prb_text o) k p n a = new-one o.value n a
   named-copied fs (drv_text to v after cond) k p n a = by
-      (among-parts (c.value to.value ∷ c.value v ∷ c.value after ∷ []) (map (λ (x : Use). x.value) (maybe_used data_needed (option_map c.value cond))) n a)
+      (among-split n (c.value to.value ∷ c.value v ∷ c.value after ∷ []) (map (λ (x : Use). x.value) (maybe_used data_needed (option_map c.value cond))) a)
     where
-      by : (Among (c.value to.value ∷ c.value v ∷ c.value after ∷ []) n ⊎ Among (map (λ (x : Use). x.value) (maybe_used data_needed (option_map c.value cond))) n)
+      by : (Among n (c.value to.value ∷ c.value v ∷ c.value after ∷ []) ⊎ Among n (map (λ (x : Use). x.value) (maybe_used data_needed (option_map c.value cond))))
           → IsNew (to.value ∷ v ∷ after ∷ map (λ (x : Use). x.value) (maybe_used data_needed cond)) n
       by (inl b) = new-left (to.value ∷ v ∷ after ∷ []) (map (λ (x : Use). x.value) (maybe_used data_needed cond)) n (new-map (to.value ∷ v ∷ after ∷ []) n b)
       by (inr b) = new-right (to.value ∷ v ∷ after ∷ []) (map (λ (x : Use). x.value) (maybe_used data_needed cond)) n (new-maybe data_needed cond n b)
@@ -81,13 +82,13 @@ module _ (c : Copy) where
   named-copied fs (br_text to) k p n a = elim a [ ]
   named-copied fs (branch_text cond x y) k p n a = new-one cond n a
   named-copied fs (wait_text to after signals) k p n a =
-      by (among-parts _ _ n (subst (λ ns. Among ns n) (values-parts (maybe_used time_needed (option_map c.value after)) (map (used signal_needed) (map c.value signals))) a))
+      by (among-split n _ _ (subst (λ ns. Among n ns) (values-parts (maybe_used time_needed (option_map c.value after)) (map (used signal_needed) (map c.value signals))) a))
     where
-      by : (Among (map (λ (x : Use). x.value) (maybe_used time_needed (option_map c.value after))) n ⊎ Among (map (λ (x : Use). x.value) (map (used signal_needed) (map c.value signals))) n)
+      by : (Among n (map (λ (x : Use). x.value) (maybe_used time_needed (option_map c.value after))) ⊎ Among n (map (λ (x : Use). x.value) (map (used signal_needed) (map c.value signals))))
           → IsNew (map (λ (x : Use). x.value) (maybe_used time_needed after ++ map (used signal_needed) signals)) n
       by (inl b) = subst (λ ns. IsNew ns n) (sym (values-parts (maybe_used time_needed after) (map (used signal_needed) signals))) (new-left _ _ n (new-maybe time_needed after n b))
       by (inr b) = subst (λ ns. IsNew ns n) (sym (values-parts (maybe_used time_needed after) (map (used signal_needed) signals)))
           (new-right (map (λ (x : Use). x.value) (maybe_used time_needed after)) _ n
-          (subst (λ ns. IsNew ns n) (sym (signals-map signals)) (new-map signals n (subst (λ ns. Among ns n) (signals-map (map c.value signals)) b))))
+          (subst (λ ns. IsNew ns n) (sym (signals-map signals)) (new-map signals n (subst (λ ns. Among n ns) (signals-map (map c.value signals)) b))))
   named-copied fs halt_text k p n a = elim a [ ]
   named-copied fs (ret_text o) k p n a = elim a [ ]

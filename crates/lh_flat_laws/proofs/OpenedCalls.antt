@@ -14,7 +14,8 @@ use Rattle.lh_unit.specs.Kinds.{Use, all_used, data_or_time_needed}
 use Rattle.lh_verify_laws.specs.Calls.{ArgumentsAre}
 use Rattle.lh_flat.specs.Calls.{callee_if, callees_in, callees}
 use Rattle.lh_flat.specs.Copies.{Copy, call_path, argument_or, opened}
-use Rattle.lh_flat_laws.proofs.Cuts.{Among, Cut, cut, cut_by}
+use Rattle.lh_flat_laws.proofs.Cuts.{Cut, cut, cut_by}
+use Rattle.lh_flat_laws.specs.Members.{Among}
 
 -- the call at which lines are cut is replaced by the copy, and its path is that of its line
 pub cut-opens : (fs : List UnitText) (c : Copy) (label : List ℕ) (k : ℕ) (ls : List LineText) (z : Cut) → cut fs c label k ls ≡ Some z
@@ -32,16 +33,16 @@ cut-opens fs c label k (l ∷ more) z e = by (opened fs c (call_path c label k) 
 
 -- an argument of a copy is one of the values that the call names
 pub argument-named : (v : UnitText) (ps : List ArgText) (os : List OperandText) (c : Copy) (other n : List ℕ) → ArgumentsAre v os ps → args_define n ps ≡ true
-    → (m : List ℕ) × Among (map (λ (x : Use). x.value) (all_used data_or_time_needed os)) m × (argument_or ps (map (λ (o : OperandText). c.value o.value) os) other n ≡ c.value m)
+    → (m : List ℕ) × Among m (map (λ (x : Use). x.value) (all_used data_or_time_needed os)) × (argument_or ps (map (λ (o : OperandText). c.value o.value) os) other n ≡ c.value m)
 argument-named v [] [] c other n h d = absurd cc
 argument-named v [] (o ∷ os) c other n h d = elim h [ ]
 argument-named v (p ∷ ps) [] c other n h d = elim h [ ]
 argument-named v (p ∷ ps) (o ∷ os) c other n h d = by (same_name p.name n) refl d (argument-named v ps os c other n h.1)
   where
     by : (b : Bool) → same_name p.name n ≡ b → b || args_define n ps ≡ true
-        → (args_define n ps ≡ true → (m : List ℕ) × Among (map (λ (x : Use). x.value) (all_used data_or_time_needed os)) m
+        → (args_define n ps ≡ true → (m : List ℕ) × Among m (map (λ (x : Use). x.value) (all_used data_or_time_needed os))
         × (argument_or ps (map (λ (o : OperandText). c.value o.value) os) other n ≡ c.value m))
-        → (m : List ℕ) × Among (o.value ∷ map (λ (x : Use). x.value) (all_used data_or_time_needed os)) m
+        → (m : List ℕ) × Among m (o.value ∷ map (λ (x : Use). x.value) (all_used data_or_time_needed os))
         × ((if b then c.value o.value else argument_or ps (map (λ (o : OperandText). c.value o.value) os) other n) ≡ c.value m)
     by true e q go = (o.value, inl refl, refl)
     by false e q go = let r = go q in (r.0, inr r.1, r.2)
@@ -67,7 +68,7 @@ function-is (unit_text w ∷ more) n v e h = by (same_unit_name w.name n) refl e
 
 -- ---- how deep copies nest
 
-pub any-among : {A : Type 0} (p : A → Bool) (xs : List A) (x : A) → list_any p xs ≡ false → Among xs x → p x ≡ false
+pub any-among : {A : Type 0} (p : A → Bool) (xs : List A) (x : A) → list_any p xs ≡ false → Among x xs → p x ≡ false
 any-among p [] x h a = elim a [ ]
 any-among p (y ∷ xs) x h (inl e) = by (p y) refl h
   where
@@ -82,14 +83,14 @@ any-among p (y ∷ xs) x h (inr a) = by (p y) h (λ r. any-among p xs x r a)
 
 -- a call that a line makes is one of the unit's
 callees-line : (before after : List LineText) (l : LineText) (f : UnitName) (ty : TypeTree) (args : List OperandText) → l.inst ≡ call_text f ty args → is_assert f ≡ false
-    → Among (callees_in (before ++ l ∷ after)) f
-callees-line [] after l f ty args i n = subst (λ i. Among (callee_if i (callees_in after)) f) (sym i) (subst (λ b. Among (if b then callees_in after else f ∷ callees_in after) f) (sym n) (inl refl))
+    → Among f (callees_in (before ++ l ∷ after))
+callees-line [] after l f ty args i n = subst (λ i. Among f (callee_if i (callees_in after))) (sym i) (subst (λ b. Among f (if b then callees_in after else f ∷ callees_in after)) (sym n) (inl refl))
 callees-line (x ∷ before) after l f ty args i n = more x.inst (callees-line before after l f ty args i n)
   where
-    more : (i : InstText) → Among (callees_in (before ++ l ∷ after)) f → Among (callee_if i (callees_in (before ++ l ∷ after))) f
+    more : (i : InstText) → Among f (callees_in (before ++ l ∷ after)) → Among f (callee_if i (callees_in (before ++ l ∷ after)))
     more (call_text g ty args) a = by (is_assert g)
       where
-        by : (b : Bool) → Among (if b then callees_in (before ++ l ∷ after) else g ∷ callees_in (before ++ l ∷ after)) f
+        by : (b : Bool) → Among f (if b then callees_in (before ++ l ∷ after) else g ∷ callees_in (before ++ l ∷ after))
         by true = a
         by false = inr a
     more (const_text x) a = a
@@ -109,7 +110,7 @@ callees-line (x ∷ before) after l f ty args i n = more x.inst (callees-line be
     more halt_text a = a
     more (ret_text x) a = a
 
-lines-around : (bs : List BlockText) (b : BlockText) → Among bs b → (start : List LineText) × (end : List LineText) × (lines_of bs ≡ start ++ (b.lines ++ end))
+lines-around : (bs : List BlockText) (b : BlockText) → Among b bs → (start : List LineText) × (end : List LineText) × (lines_of bs ≡ start ++ (b.lines ++ end))
 lines-around [] b a = elim a [ ]
 lines-around (c ∷ bs) b (inl e) = ([], lines_of bs, ap (λ (x : BlockText). x.lines ++ lines_of bs) e)
 lines-around (c ∷ bs) b (inr a) = let r = lines-around bs b a in (c.lines ++ r.0, r.1, ap (λ ls. c.lines ++ ls) r.2 ∙ sym (in-three c.lines r.0 (b.lines ++ r.1)))
@@ -118,13 +119,13 @@ lines-around (c ∷ bs) b (inr a) = let r = lines-around bs b a in (c.lines ++ r
     in-three [] y z = refl
     in-three (l ∷ x) y z = ap (λ ls. l ∷ ls) (in-three x y z)
 
-pub callee-among : (v : UnitText) (b : BlockText) (before after : List LineText) (l : LineText) (f : UnitName) (ty : TypeTree) (args : List OperandText) → Among v.blocks b
-    → b.lines ≡ before ++ l ∷ after → l.inst ≡ call_text f ty args → is_assert f ≡ false → Among (callees v) f
+pub callee-among : (v : UnitText) (b : BlockText) (before after : List LineText) (l : LineText) (f : UnitName) (ty : TypeTree) (args : List OperandText) → Among b v.blocks
+    → b.lines ≡ before ++ l ∷ after → l.inst ≡ call_text f ty args → is_assert f ≡ false → Among f (callees v)
 callee-among v b before after l f ty args a e i n =
     let r = lines-around v.blocks b a in
     let whole : lines_of v.blocks ≡ (r.0 ++ before) ++ l ∷ (after ++ r.1) =
     r.2 ∙ ap (λ ls. r.0 ++ (ls ++ r.1)) e ∙ ap (λ ls. r.0 ++ ls) (in-three before (l ∷ after) r.1) ∙ sym (in-three r.0 before (l ∷ (after ++ r.1))) in
-    subst (λ ls. Among (callees_in ls) f) (sym whole) (callees-line (r.0 ++ before) (after ++ r.1) l f ty args i n)
+    subst (λ ls. Among f (callees_in ls)) (sym whole) (callees-line (r.0 ++ before) (after ++ r.1) l f ty args i n)
   where
     in-three : (x y z : List LineText) → (x ++ y) ++ z ≡ x ++ (y ++ z)
     in-three [] y z = refl

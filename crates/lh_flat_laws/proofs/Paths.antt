@@ -13,9 +13,10 @@ use Rattle.lh_verify_laws.specs.Defined.{IsThere}
 use Rattle.lh_verify_laws.proofs.There.{last-leads}
 use Rattle.lh_flat.specs.Copies.{Copy, top_copy, first_piece, copied, copied_line}
 use Rattle.lh_flat.specs.Flat.{merge_of, first_label, branch_into, flat_block, flat_copy, max_nested, with_merge, as_block}
-use Rattle.lh_flat_laws.proofs.Cuts.{Among, Cut, ending, behind, lines-cut, piece-lines}
+use Rattle.lh_flat_laws.proofs.Cuts.{Cut, ending, behind, lines-cut, piece-lines}
 use Rattle.lh_flat_laws.proofs.CopyPieces.{CopyPiece, next_cut, next_lines, first_copy_piece, after_copy_piece, CopyPieceOf, begins, goes_on, Nested, outermost, called, flat_copy_piece}
 use Rattle.lh_flat_laws.proofs.Lines.{define-parts, define-copied, merge-defines, lines-define, merge-leads, merge-ends, LastOf, no_last, last_is, last-of, Leads, within, back, leads-copied}
+use Rattle.lh_flat_laws.specs.Members.{Among}
 
 inner : (b : List LineText) (l : LineText) (r : List LineText) → b ++ l ∷ r ≡ (b ++ l ∷ []) ++ r
 inner [] l r = refl
@@ -29,7 +30,7 @@ pub nested-right : (a b c : List LineText) → (a ++ b) ++ c ≡ a ++ (b ++ c)
 nested-right [] b c = refl
 nested-right (x ∷ a) b c = ap (λ ls. x ∷ ls) (nested-right a b c)
 
-among-named : (ns : List (List ℕ)) (n m : List ℕ) → Among ns n → n ≡ m → list_any (λ x. same_name x m) ns ≡ true
+among-named : (ns : List (List ℕ)) (n m : List ℕ) → Among n ns → n ≡ m → list_any (λ x. same_name x m) ns ≡ true
 among-named [] n m a e = elim a [ ]
 among-named (x ∷ ns) n m (inl q) e = or_left (same_name x m) (list_any (λ y. same_name y m) ns) (ap (λ y. same_name y m) (q ∙ e) ∙ same_name-refl m)
 among-named (x ∷ ns) n m (inr a) e = or_right (same_name x m) (list_any (λ y. same_name y m) ns) (among-named ns n m a e)
@@ -37,21 +38,21 @@ among-named (x ∷ ns) n m (inr a) e = or_right (same_name x m) (list_any (λ y.
 module _ (fs : List UnitText) where
   -- what is asked of a unit that is copied
   pub record IsGood (v : UnitText) : Type 0 where
-    pub leads : (b : BlockText) → Among v.blocks b → (n : List ℕ) → Among (last_leads_to b.lines) n → (d : BlockText) × (block_of n v.blocks ≡ Some d) × Among v.blocks d × (label_or d.label ≡ n)
-    pub self : (b : BlockText) → Among v.blocks b → block_of (label_or b.label) v.blocks ≡ Some b
-    pub there : (b : BlockText) (before after : List LineText) (l : LineText) → Among v.blocks b → b.lines ≡ before ++ l ∷ after → is_phi l.inst ≡ false → (n : List ℕ) → Among (values_named l.inst) n
+    pub leads : (b : BlockText) → Among b v.blocks → (n : List ℕ) → Among n (last_leads_to b.lines) → (d : BlockText) × (block_of n v.blocks ≡ Some d) × Among d v.blocks × (label_or d.label ≡ n)
+    pub self : (b : BlockText) → Among b v.blocks → block_of (label_or b.label) v.blocks ≡ Some b
+    pub there : (b : BlockText) (before after : List LineText) (l : LineText) → Among b v.blocks → b.lines ≡ before ++ l ∷ after → is_phi l.inst ≡ false → (n : List ℕ) → Among n (values_named l.inst)
         → IsThere v b before n
 
   -- what is asked of a call that is replaced: an argument of the copy is a value that the call names; the copy has an entry; and a result
   -- of the call is that of the merge behind it
   pub record CallIsGood (c : Copy) (x : Cut) : Type 0 where
-    pub arguments : (n : List ℕ) → args_define n x.copy.unit.args ≡ true → (m : List ℕ) × Among (values_named x.line.inst) m × (x.copy.value n ≡ c.value m)
+    pub arguments : (n : List ℕ) → args_define n x.copy.unit.args ≡ true → (m : List ℕ) × Among m (values_named x.line.inst) × (x.copy.value n ≡ c.value m)
     pub entry : (b : BlockText) × (more : List BlockText) × (x.copy.unit.blocks ≡ b ∷ more)
     pub no_phi : is_phi x.line.inst ≡ false
     pub result : (n : List ℕ) → is_result_name n x.line.result ≡ true → lines_define (c.value n) (with_merge (merge_of fs c x.copy x.line.inst x.line.result) []) ≡ true
 
   -- the block of a piece is one of the unit, and its lines are those before the piece and those from it on
-  pub copy_piece-block : (c : Copy) (s : CopyPiece) → CopyPieceOf fs c s → Among c.unit.blocks s.block × (s.block.lines ≡ s.before ++ s.rest)
+  pub copy_piece-block : (c : Copy) (s : CopyPiece) → CopyPieceOf fs c s → Among s.block c.unit.blocks × (s.block.lines ≡ s.before ++ s.rest)
   copy_piece-block c _ (begins b h) = (h, refl)
   copy_piece-block c _ (goes_on s h z e) =
       let p = copy_piece-block c s h in
@@ -100,7 +101,7 @@ module _ (fs : List UnitText) where
     -- it ends with the branch into the copy of the call at which it is cut, or with the copy of the last line of its block
     pub data LeadsOn (m : List ℕ) : Type 0 where
       into : (z : Cut) → next_cut fs c s ≡ Some z → m ≡ first_piece z.copy (first_label z.copy.unit.blocks) → LeadsOn m
-      within_unit : next_cut fs c s ≡ None → (d : BlockText) → Among c.unit.blocks d → has_edge s.block (label_or d.label) ≡ true → first_piece c (label_or d.label) ≡ m → LeadsOn m
+      within_unit : next_cut fs c s ≡ None → (d : BlockText) → Among d c.unit.blocks → has_edge s.block (label_or d.label) ≡ true → first_piece c (label_or d.label) ≡ m → LeadsOn m
       back_from : next_cut fs c s ≡ None → (before : List LineText) (l : LineText) (o : Option OperandText) → s.block.lines ≡ before ++ l ∷ [] → l.inst ≡ ret_text o → m ≡ c.path → LeadsOn m
 
     pub leads-on : IsGood c.unit → (m : List ℕ) → has_edge y m ≡ true → LeadsOn m
@@ -114,7 +115,7 @@ module _ (fs : List UnitText) where
             on : s.block.lines ≡ (s.before ++ xs) ++ l ∷ [] → Leads c l.inst m → LeadsOn m
             on lines (within to a r) =
                 let ends : last_leads_to s.block.lines ≡ leads_to l.inst = ap last_leads_to lines ∙ last-leads (s.before ++ xs) l in
-                let d = g.leads s.block (copy_piece-block c s of).0 to (subst (λ ns. Among ns to) (sym ends) a) in
+                let d = g.leads s.block (copy_piece-block c s of).0 to (subst (λ ns. Among to ns) (sym ends) a) in
                 within_unit e d.0 d.2 (ap (λ ns. list_any (λ x. same_name x (label_or d.0.label)) ns) ends ∙ among-named (leads_to l.inst) to (label_or d.0.label) a (sym d.3))
                 (ap (first_piece c) d.3 ∙ sym r)
             on lines (back o i r) = back_from e (s.before ++ xs) l o lines i r
@@ -195,7 +196,7 @@ module _ (fs : List UnitText) where
 
     -- from a piece of a copy to the next: to a block of the same copy, behind the call that made the copy, or into the copy of a call
     pub data Step (c0 : Copy) (s0 : CopyPiece) : Copy → CopyPiece → Type 0 where
-      jumps : (d : BlockText) → Among c0.unit.blocks d → next_cut fs c0 s0 ≡ None → has_edge s0.block (label_or d.label) ≡ true → Step c0 s0 c0 (first_copy_piece fs c0 d)
+      jumps : (d : BlockText) → Among d c0.unit.blocks → next_cut fs c0 s0 ≡ None → has_edge s0.block (label_or d.label) ≡ true → Step c0 s0 c0 (first_copy_piece fs c0 d)
       returns : (k : ℕ) (c : Copy) → Nested fs u k c → (s : CopyPiece) → CopyPieceOf fs c s → (z : Cut) → next_cut fs c s ≡ Some z → z.copy ≡ c0 → next_cut fs c0 s0 ≡ None → EndsInRet s0
           → Step c0 s0 c (after_copy_piece fs c s z)
       enters : (z : Cut) → next_cut fs c0 s0 ≡ Some z → (b : BlockText) (more : List BlockText) → z.copy.unit.blocks ≡ b ∷ more → Step c0 s0 z.copy (first_copy_piece fs z.copy b)
@@ -217,7 +218,7 @@ module _ (fs : List UnitText) where
     module _ (good : (k : ℕ) (c : Copy) → Nested fs u k c → IsGood c.unit) (calls : (k : ℕ) (c : Copy) → Nested fs u k c → (s : CopyPiece) → CopyPieceOf fs c s → (z : Cut) → next_cut fs c s ≡ Some z
         → CallIsGood c z)
         (deep : (c : Copy) → Nested fs u zero c → (s : CopyPiece) → CopyPieceOf fs c s → (z : Cut) → next_cut fs c s ≡ Some z → ⊥)
-        (no_ret : (b : BlockText) (before after : List LineText) (l : LineText) → Among u.blocks b → b.lines ≡ before ++ l ∷ after → (o : Option OperandText) → l.inst ≡ ret_text o → ⊥) where
+        (no_ret : (b : BlockText) (before after : List LineText) (l : LineText) → Among b u.blocks → b.lines ≡ before ++ l ∷ after → (o : Option OperandText) → l.inst ≡ ret_text o → ⊥) where
       -- the lines of a piece that are no merge
       pub copy_piece-lines : (k : ℕ) (c : Copy) (s : CopyPiece) → (flat_copy_piece fs k c s).lines ≡ map (copied_line fs c) (next_lines fs c s)
           ++ ending fs c (label_or s.block.label) (flat_copy k fs) (next_cut fs c s)
@@ -279,7 +280,7 @@ module _ (fs : List UnitText) where
 
       -- behind a `ret` the path goes on in the copy that called
       abbrev HasRet : Copy → Type 0
-      HasRet c = (b : BlockText) × (before : List LineText) × (after : List LineText) × (l : LineText) × (o : Option OperandText) × Among c.unit.blocks b × (b.lines ≡ before ++ l ∷ after)
+      HasRet c = (b : BlockText) × (before : List LineText) × (after : List LineText) × (l : LineText) × (o : Option OperandText) × Among b c.unit.blocks × (b.lines ≡ before ++ l ∷ after)
           × (l.inst ≡ ret_text o)
 
       popped : (path : List BlockText) (m : List ℕ) (s0 : CopyPiece) (k : ℕ) (c : Copy) (n : Nested fs u k c) → Waits path k c n → next_cut fs c s0 ≡ None → EndsInRet s0 → HasRet c → m ≡ c.path
@@ -320,7 +321,7 @@ module _ (fs : List UnitText) where
         copy = z.copy;
         nested = called k c n s h z e;
         piece = first_copy_piece fs z.copy b.0;
-        of = begins b.0 (subst (λ bs. Among bs b.0) (sym b.2) (inl refl));
+        of = begins b.0 (subst (λ bs. Among b.0 bs) (sym b.2) (inl refl));
         is = sym (r ∙ ap (λ bs. first_piece z.copy (first_label bs)) b.2);
         step = enters z e b.0 b.1 b.2;
         waits = waits_at k c n s h z e q came lines w;
@@ -337,7 +338,7 @@ module _ (fs : List UnitText) where
             ∙ ap (λ o. next_lines fs at.copy at.piece ++ behind fs at.copy (label_or at.piece.block.label) o) e)
             ∙ sym (nested-right at.piece.before (next_lines fs at.copy at.piece) (z.line ∷ z.rest))
 
-        jumped : (m : List ℕ) → next_cut fs at.copy at.piece ≡ None → (d : BlockText) → Among at.copy.unit.blocks d → has_edge at.piece.block (label_or d.label) ≡ true
+        jumped : (m : List ℕ) → next_cut fs at.copy at.piece ≡ None → (d : BlockText) → Among d at.copy.unit.blocks → has_edge at.piece.block (label_or d.label) ≡ true
             → first_piece at.copy (label_or d.label) ≡ m → GoesOn m (y ∷ earlier) at.copy at.piece
         jumped m e d a edge r = record {
           depth = at.depth;
@@ -394,7 +395,7 @@ module _ (fs : List UnitText) where
           copy = top_copy u;
           nested = outermost;
           piece = first_copy_piece fs (top_copy u) begin.0;
-          of = begins begin.0 (subst (λ bs. Among bs begin.0) (sym begin.2) (inl refl));
+          of = begins begin.0 (subst (λ bs. Among begin.0 bs) (sym begin.2) (inl refl));
           is = same-one y _ (sym e ∙ first-is);
           waits = none_waits;
           taken = [];

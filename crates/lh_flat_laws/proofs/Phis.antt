@@ -12,10 +12,12 @@ use Rattle.lh_unit.proofs.ById.{lines_define-append}
 use Rattle.lh_verify_laws.specs.Defined.{IsThere, IsThereOnEdge}
 use Rattle.lh_flat.specs.Copies.{Copy, top_copy, first_piece, last_from, last_piece, copied_edge, copied}
 use Rattle.lh_flat.specs.Flat.{MergeText, edge_if_given, given_in, given_by, merge_of, first_label, branch_into, flat_copy, max_nested, with_merge, as_block}
-use Rattle.lh_flat_laws.proofs.Cuts.{Among, among-left, among-right, Cut, cut, behind, lines-cut, last_by, last-cut, among-parts, among-map}
+use Rattle.lh_flat_laws.proofs.Cuts.{Cut, cut, behind, lines-cut, last_by, last-cut}
 use Rattle.lh_flat_laws.proofs.CopyPieces.{CopyPiece, next_cut, next_lines, after_copy_piece, CopyPieceOf, begins, goes_on, Nested, flat_copy_piece}
 use Rattle.lh_flat_laws.proofs.Splits.{LineOf, is_merge, is_copied, is_branch, line-of}
 use Rattle.lh_flat_laws.proofs.Paths.{IsGood, CallIsGood, There, Located, Step, jumps, returns, enters, copy_piece-block, copy_piece-lines, whole-block, value-there, nested-right}
+use Rattle.lh_flat_laws.specs.Members.{Among}
+use Rattle.lh_flat_laws.proofs.Members.{among-left, among-right, among-split, among-map}
 
 -- the label of the piece in which a block ends, by any piece of it
 pub copy_piece-last : (fs : List UnitText) (c : Copy) (s : CopyPiece) → CopyPieceOf fs c s → last_from fs c (label_or s.block.label) s.label s.number s.rest ≡ last_piece fs c s.block
@@ -39,14 +41,14 @@ pub record GivenBy (d : Copy) (label : List ℕ) (ls : List LineText) (e : EdgeT
   pub value : e.value ≡ d.value operand.value
   pub block : e.block ≡ label
 
-pub given-in : (d : Copy) (label : List ℕ) (ls : List LineText) (e : EdgeText) → Among (given_in d label ls) e → GivenBy d label ls e
+pub given-in : (d : Copy) (label : List ℕ) (ls : List LineText) (e : EdgeText) → Among e (given_in d label ls) → GivenBy d label ls e
 given-in d label [] e a = elim a [ ]
 given-in d label (l ∷ ls) e a = by (λ b. later (given-in d label ls e b)) l.inst refl a
   where
     later : GivenBy d label ls e → GivenBy d label (l ∷ ls) e
     later r = record { before = l ∷ r.before; line = r.line; after = r.after; splits = ap (λ ms. l ∷ ms) r.splits; operand = r.operand; ret = r.ret; value = r.value; block = r.block }
 
-    by : (Among (given_in d label ls) e → GivenBy d label (l ∷ ls) e) → (i : InstText) → l.inst ≡ i → Among (edge_if_given d label i (given_in d label ls)) e → GivenBy d label (l ∷ ls) e
+    by : (Among e (given_in d label ls) → GivenBy d label (l ∷ ls) e) → (i : InstText) → l.inst ≡ i → Among e (edge_if_given d label i (given_in d label ls)) → GivenBy d label (l ∷ ls) e
     by go (ret_text (Some o)) q (inl h) = record {
       before = [];
       line = l;
@@ -78,15 +80,15 @@ given-in d label (l ∷ ls) e a = by (λ b. later (given-in d label ls e b)) l.i
 
 pub record GivenIn (fs : List UnitText) (d : Copy) (bs : List BlockText) (e : EdgeText) : Type 0 where
   pub from : BlockText
-  pub is_one : Among bs from
+  pub is_one : Among from bs
   pub given : GivenBy d (last_piece fs d from) from.lines e
 
-pub given-by : (fs : List UnitText) (d : Copy) (bs : List BlockText) (e : EdgeText) → Among (flat_map (λ (b : BlockText). given_in d (last_piece fs d b) b.lines) bs) e → GivenIn fs d bs e
+pub given-by : (fs : List UnitText) (d : Copy) (bs : List BlockText) (e : EdgeText) → Among e (flat_map (λ (b : BlockText). given_in d (last_piece fs d b) b.lines) bs) → GivenIn fs d bs e
 given-by fs d [] e a = elim a [ ]
-given-by fs d (b ∷ bs) e a = by (among-parts (given_in d (last_piece fs d b) b.lines) _ e a) (given-by fs d bs e)
+given-by fs d (b ∷ bs) e a = by (among-split e (given_in d (last_piece fs d b) b.lines) _ a) (given-by fs d bs e)
   where
-    by : (Among (given_in d (last_piece fs d b) b.lines) e ⊎ Among (flat_map (λ (b : BlockText). given_in d (last_piece fs d b) b.lines) bs) e)
-        → (Among (flat_map (λ (b : BlockText). given_in d (last_piece fs d b) b.lines) bs) e → GivenIn fs d bs e) → GivenIn fs d (b ∷ bs) e
+    by : (Among e (given_in d (last_piece fs d b) b.lines) ⊎ Among e (flat_map (λ (b : BlockText). given_in d (last_piece fs d b) b.lines) bs))
+        → (Among e (flat_map (λ (b : BlockText). given_in d (last_piece fs d b) b.lines) bs) → GivenIn fs d bs e) → GivenIn fs d (b ∷ bs) e
     by (inl h) more = record { from = b; is_one = inl refl; given = given-in d (last_piece fs d b) b.lines e h }
     by (inr h) more = let r = more h in record { from = r.from; is_one = inr r.is_one; given = r.given }
 
@@ -147,9 +149,9 @@ nothing-is m e = cc
 
 -- what is asked of the `phi` of a unit
 pub record PhisAreGood (v : UnitText) : Type 0 where
-  pub edges : (d : BlockText) (before after : List LineText) (l : LineText) (ty : TypeTree) (es : List EdgeText) → Among v.blocks d → d.lines ≡ before ++ l ∷ after → l.inst ≡ phi_text ty es
-      → (e : EdgeText) → Among es e → ((b : BlockText) × (block_of e.block v.blocks ≡ Some b) × Among v.blocks b) × IsThereOnEdge v (label_or d.label) e
-  pub first : (d : BlockText) (before after : List LineText) (l : LineText) → Among v.blocks d → d.lines ≡ before ++ l ∷ after → is_phi l.inst ≡ true → (k : LineText) → Among before k
+  pub edges : (d : BlockText) (before after : List LineText) (l : LineText) (ty : TypeTree) (es : List EdgeText) → Among d v.blocks → d.lines ≡ before ++ l ∷ after → l.inst ≡ phi_text ty es
+      → (e : EdgeText) → Among e es → ((b : BlockText) × (block_of e.block v.blocks ≡ Some b) × Among b v.blocks) × IsThereOnEdge v (label_or d.label) e
+  pub first : (d : BlockText) (before after : List LineText) (l : LineText) → Among d v.blocks → d.lines ≡ before ++ l ∷ after → is_phi l.inst ≡ true → (k : LineText) → Among k before
       → is_phi k.inst ≡ true
   pub entry : (b : BlockText) (more : List BlockText) → v.blocks ≡ b ∷ more → (before after : List LineText) (l : LineText) → b.lines ≡ before ++ l ∷ after → is_phi l.inst ≡ false
 
@@ -157,14 +159,14 @@ module _ (fs : List UnitText) (u x : UnitText) (args : x.args ≡ u.args)
     (good : (k : ℕ) (c : Copy) → Nested fs u k c → IsGood fs c.unit) (calls : (k : ℕ) (c : Copy) → Nested fs u k c → (s : CopyPiece) → CopyPieceOf fs c s → (z : Cut) → next_cut fs c s ≡ Some z
     → CallIsGood fs c z)
     (deep : (c : Copy) → Nested fs u zero c → (s : CopyPiece) → CopyPieceOf fs c s → (z : Cut) → next_cut fs c s ≡ Some z → ⊥)
-    (no_ret : (b : BlockText) (before after : List LineText) (l : LineText) → Among u.blocks b → b.lines ≡ before ++ l ∷ after → (o : Option OperandText) → l.inst ≡ ret_text o → ⊥)
+    (no_ret : (b : BlockText) (before after : List LineText) (l : LineText) → Among b u.blocks → b.lines ≡ before ++ l ∷ after → (o : Option OperandText) → l.inst ≡ ret_text o → ⊥)
     (phis : (k : ℕ) (c : Copy) → Nested fs u k c → PhisAreGood c.unit)
-    (apart : (k : ℕ) (c : Copy) → Nested fs u k c → (b d : BlockText) → Among c.unit.blocks b → Among c.unit.blocks d → last_piece fs c b ≡ last_piece fs c d → b ≡ d)
+    (apart : (k : ℕ) (c : Copy) → Nested fs u k c → (b d : BlockText) → Among b c.unit.blocks → Among d c.unit.blocks → last_piece fs c b ≡ last_piece fs c d → b ≡ d)
     (blocks : x.blocks ≡ map as_block (flat_copy (suc max_nested) fs (top_copy u)))
     (once : (k : ℕ) (c : Copy) → Nested fs u k c → (s : CopyPiece) → CopyPieceOf fs c s → block_of s.label x.blocks ≡ Some (as_block (flat_copy_piece fs k c s)))
     (begin : (b : BlockText) × (more : List BlockText) × (u.blocks ≡ b ∷ more)) where
   module _ (last : BlockText) (earlier : List BlockText) (at : Located fs u x args last earlier) (e : EdgeText) (named : label_or last.label ≡ e.block) where
-    block-is : Among at.copy.unit.blocks at.piece.block
+    block-is : Among at.piece.block at.copy.unit.blocks
     block-is = (copy_piece-block fs at.copy at.piece at.of).0
 
     -- the edge names the piece in which the piece's block ends
@@ -177,12 +179,12 @@ module _ (fs : List UnitText) (u x : UnitText) (args : x.args ≡ u.args)
         (subst (λ ls. IsThere at.copy.unit at.piece.block ls n) (whole-block fs last at.depth at.copy at.piece at.of at.is none) h)
 
     -- a copied `phi`, within the copy
-    within-copy : next_cut fs at.copy at.piece ≡ None → (d : BlockText) → Among at.copy.unit.blocks d → has_edge at.piece.block (label_or d.label) ≡ true
+    within-copy : next_cut fs at.copy at.piece ≡ None → (d : BlockText) → Among d at.copy.unit.blocks → has_edge at.piece.block (label_or d.label) ≡ true
         → (before after : List LineText) (k : LineText) → d.lines ≡ before ++ k ∷ after
-        → (ty : TypeTree) (es : List EdgeText) → copied fs at.copy k.inst ≡ phi_text ty es → Among es e → There fs u x args (last ∷ earlier) e.value
+        → (ty : TypeTree) (es : List EdgeText) → copied fs at.copy k.inst ≡ phi_text ty es → Among e es → There fs u x args (last ∷ earlier) e.value
     within-copy none d b edge before after k q ty es i a =
         let f = phi-of fs at.copy k.inst ty es i in
-        let m = among-map (copied_edge fs at.copy) f.edges e (subst (λ xs. Among xs e) f.copies a) in
+        let m = among-map (copied_edge fs at.copy) f.edges e (subst (λ xs. Among e xs) f.copies a) in
         let g = (phis at.depth at.copy at.nested).edges d before after k f.ty f.edges b q f.is m.0 m.1 in
         let one : last_piece fs at.copy at.piece.block ≡ last_piece fs at.copy g.0.0 =
         ends-there none ∙ ap (λ (x : EdgeText). x.block) m.2 ∙ ap (λ o. option_map_or (last_piece fs at.copy) o (first_piece at.copy m.0.block)) g.0.1 in
@@ -197,7 +199,7 @@ module _ (fs : List UnitText) (u x : UnitText) (args : x.args ≡ u.args)
         let lines : at.piece.block.lines ≡ g.given.before ++ g.given.line ∷ g.given.after = ap (λ (b : BlockText). b.lines) same ∙ g.given.splits in
         let there : IsThere at.copy.unit at.piece.block g.given.before g.given.operand.value =
         (good at.depth at.copy at.nested).there at.piece.block g.given.before g.given.after g.given.line block-is lines (ap is_phi g.given.ret) g.given.operand.value
-        (subst (λ i. Among (values_named i) g.given.operand.value) (sym g.given.ret) (inl refl)) in
+        (subst (λ i. Among g.given.operand.value (values_named i)) (sym g.given.ret) (inl refl)) in
         subst (There fs u x args (last ∷ earlier)) (sym g.given.value) (there-at none g.given.operand.value (wider g.given.before g.given.line g.given.after g.given.operand.value lines there))
       where
         wider : (before : List LineText) (l : LineText) (after : List LineText) (n : List ℕ) → at.piece.block.lines ≡ before ++ l ∷ after → IsThere at.copy.unit at.piece.block before n
@@ -210,7 +212,7 @@ module _ (fs : List UnitText) (u x : UnitText) (args : x.args ≡ u.args)
             more earlier (inr h) = inr h
 
     -- the block to which the edge leads is that of the next piece
-    pub phi-there : (y : BlockText) (before after : List LineText) (l : LineText) (ty : TypeTree) (es : List EdgeText) → y.lines ≡ before ++ l ∷ after → l.inst ≡ phi_text ty es → Among es e
+    pub phi-there : (y : BlockText) (before after : List LineText) (l : LineText) (ty : TypeTree) (es : List EdgeText) → y.lines ≡ before ++ l ∷ after → l.inst ≡ phi_text ty es → Among e es
         → (k : ℕ) (c : Copy) (n : Nested fs u k c) (s : CopyPiece) → CopyPieceOf fs c s → y ≡ as_block (flat_copy_piece fs k c s) → Step fs u x args at.copy at.piece c s
         → There fs u x args (last ∷ earlier) e.value
     phi-there y before after l ty es q i a k c n s h is step =
@@ -237,7 +239,7 @@ module _ (fs : List UnitText) (u x : UnitText) (args : x.args ≡ u.args)
             merge-step (enters z r' b more bs) m r g = elim (nothing-is m r) [ ]
             merge-step (returns k' c' n' s' h' z r' zc none ret) m r g =
                 from-ret none (given-by fs at.copy at.copy.unit.blocks e
-                (subst (λ xs. Among xs e) (sym (edges-are m g) ∙ merge-edges fs c' z.copy z.line.inst z.line.result m r ∙ ap (given_by fs) zc) a))
+                (subst (λ xs. Among e xs) (sym (edges-are m g) ∙ merge-edges fs c' z.copy z.line.inst z.line.result m r ∙ ap (given_by fs) zc) a))
         by (is_copied start j rest r f b) st = copied-step st start j rest r (ap (λ (j : LineText). j.inst) (sym f) ∙ i) h n
           where
             copied-step : {c' : Copy} {s' : CopyPiece} → Step fs u x args at.copy at.piece c' s' → (start : List LineText) (j : LineText) (rest : List LineText)
@@ -259,5 +261,5 @@ module _ (fs : List UnitText) (u x : UnitText) (args : x.args ≡ u.args)
                 ∙ ap (λ ls. ls ++ behind fs c' (label_or s'.block.label) (cut fs c' (label_or s'.block.label) (z.number + 1) z.rest)) r ∙ nested-right start (j ∷ rest) _)
                 ∙ sym (nested-right ((s'.before ++ next_lines fs c' s') ++ z.line ∷ []) start _) in
                 let yes : is_phi z.line.inst ≡ true = (phis k c' n').first s'.block _ _ j (copy_piece-block fs c' s' h0).0 lines (ap is_phi f.is) z.line
-                (among-left ((s'.before ++ next_lines fs c' s') ++ z.line ∷ []) start z.line (among-right (s'.before ++ next_lines fs c' s') (z.line ∷ []) z.line (inl refl))) in
+                (among-left z.line ((s'.before ++ next_lines fs c' s') ++ z.line ∷ []) start (among-right z.line (s'.before ++ next_lines fs c' s') (z.line ∷ []) (inl refl))) in
                 elim (both_ways (is_phi z.line.inst) (calls k' c' n0 s' h0 z r').no_phi yes) [ ]

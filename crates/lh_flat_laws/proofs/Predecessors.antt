@@ -12,16 +12,17 @@ use Rattle.lh_unit.specs.WellFormed.{is_phi, edges_naming}
 use Rattle.lh_unit_names.proofs.NameLists.{same_name-is}
 use Rattle.lh_flat.specs.Copies.{Copy, top_copy, first_piece, last_piece, last_piece_of, copied_edge, copied}
 use Rattle.lh_flat.specs.Flat.{MergeText, given_in, given_by, edge_if_given, first_label, merge_of, flat_copy, with_merge, as_block}
-use Rattle.lh_flat_laws.proofs.Cuts.{Among, among-left, among-right, among-flat, Cut, cut, behind, lines-cut}
+use Rattle.lh_flat_laws.proofs.Cuts.{Cut, cut, behind, lines-cut}
 use Rattle.lh_flat_laws.proofs.CopyPieces.{CopyPiece, next_cut, next_lines, first_copy_piece, after_copy_piece, CopyPieceOf, begins, goes_on, Nested, outermost, called, flat_copy_piece}
 use Rattle.lh_flat_laws.proofs.Splits.{LineOf, is_merge, is_copied, is_branch, line-of}
-use Rattle.lh_flat_laws.proofs.FlatTypes.{among-image}
 use Rattle.lh_flat_laws.proofs.Paths.{IsGood, CallIsGood, Step, jumps, returns, enters, copy_piece-block, copy_piece-lines, nested-right, LeadsOn, into, within_unit, back_from, leads-on}
 use Rattle.lh_flat_laws.proofs.Phis.{own-last, phi-of, PhisAreGood, no-branch, nothing-is, merge-edges}
+use Rattle.lh_flat_laws.specs.Members.{Among}
+use Rattle.lh_flat_laws.proofs.Members.{among-left, among-right, among-flat, among-image}
 
 -- an edge of these names the block
 abbrev pub Names : List EdgeText → List ℕ → Type 0
-Names es n = (e : EdgeText) × Among es e × (e.block ≡ n)
+Names es n = (e : EdgeText) × Among e es × (e.block ≡ n)
 
 -- one that is counted is there
 pub counted-named : (n : List ℕ) (es : List EdgeText) → edges_naming n es ≡ 1 → Names es n
@@ -34,15 +35,15 @@ counted-named n (e ∷ es) h = by (same_name e.block n) refl (sym (sum_by-cons (
 
 -- what a `ret` with a value gives is given by the copy
 pub given-here : (d : Copy) (label : List ℕ) (before after : List LineText) (l : LineText) (o : OperandText) → l.inst ≡ ret_text (Some o) → (e : EdgeText)
-    × Among (given_in d label (before ++ l ∷ after)) e × (e.block ≡ label)
+    × Among e (given_in d label (before ++ l ∷ after)) × (e.block ≡ label)
 given-here d label [] after l o i = (
   record { value = d.value o.value; block = label },
-  subst (λ i. Among (edge_if_given d label i (given_in d label after)) (record { value = d.value o.value; block = label })) (sym i) (inl refl),
+  subst (λ i. Among (record { value = d.value o.value; block = label }) (edge_if_given d label i (given_in d label after))) (sym i) (inl refl),
   refl,
 )
 given-here d label (x ∷ before) after l o i = let r = given-here d label before after l o i in (r.0, more x.inst r.0 r.1, r.2)
   where
-    more : (i : InstText) (e : EdgeText) → Among (given_in d label (before ++ l ∷ after)) e → Among (edge_if_given d label i (given_in d label (before ++ l ∷ after))) e
+    more : (i : InstText) (e : EdgeText) → Among e (given_in d label (before ++ l ∷ after)) → Among e (edge_if_given d label i (given_in d label (before ++ l ∷ after)))
     more (ret_text (Some o)) e a = inr a
     more (ret_text None) e a = a
     more (const_text x) e a = a
@@ -66,15 +67,15 @@ module _ (fs : List UnitText) (u x : UnitText) (args : x.args ≡ u.args)
     (good : (k : ℕ) (c : Copy) → Nested fs u k c → IsGood fs c.unit) (calls : (k : ℕ) (c : Copy) → Nested fs u k c → (s : CopyPiece) → CopyPieceOf fs c s → (z : Cut) → next_cut fs c s ≡ Some z
     → CallIsGood fs c z)
     (deep : (c : Copy) → Nested fs u zero c → (s : CopyPiece) → CopyPieceOf fs c s → (z : Cut) → next_cut fs c s ≡ Some z → ⊥)
-    (no_ret : (b : BlockText) (before after : List LineText) (l : LineText) → Among u.blocks b → b.lines ≡ before ++ l ∷ after → (o : Option OperandText) → l.inst ≡ ret_text o → ⊥)
+    (no_ret : (b : BlockText) (before after : List LineText) (l : LineText) → Among b u.blocks → b.lines ≡ before ++ l ∷ after → (o : Option OperandText) → l.inst ≡ ret_text o → ⊥)
     (phis : (k : ℕ) (c : Copy) → Nested fs u k c → PhisAreGood c.unit)
-    (naming : (k : ℕ) (c : Copy) → Nested fs u k c → (d b : BlockText) (before after : List LineText) (l : LineText) (ty : TypeTree) (es : List EdgeText) → Among c.unit.blocks d
+    (naming : (k : ℕ) (c : Copy) → Nested fs u k c → (d b : BlockText) (before after : List LineText) (l : LineText) (ty : TypeTree) (es : List EdgeText) → Among d c.unit.blocks
     → d.lines ≡ before ++ l ∷ after → l.inst ≡ phi_text ty es
-    → Among c.unit.blocks b → has_edge b (label_or d.label) ≡ true → edges_naming (label_or b.label) es ≡ 1)
-    (self : (k : ℕ) (c : Copy) → Nested fs u k c → (b : BlockText) → Among c.unit.blocks b → block_of (label_or b.label) c.unit.blocks ≡ Some b)
+    → Among b c.unit.blocks → has_edge b (label_or d.label) ≡ true → edges_naming (label_or b.label) es ≡ 1)
+    (self : (k : ℕ) (c : Copy) → Nested fs u k c → (b : BlockText) → Among b c.unit.blocks → block_of (label_or b.label) c.unit.blocks ≡ Some b)
     (returned : (k : ℕ) (c : Copy) → Nested fs u (suc k) c → (s : CopyPiece) → CopyPieceOf fs c s → (z : Cut) → next_cut fs c s ≡ Some z → (m : MergeText)
     → merge_of fs c z.copy z.line.inst z.line.result ≡ Some m
-    → (b : BlockText) (before after : List LineText) (l : LineText) → Among z.copy.unit.blocks b → b.lines ≡ before ++ l ∷ after → (o : Option OperandText) → l.inst ≡ ret_text o → (a : OperandText)
+    → (b : BlockText) (before after : List LineText) (l : LineText) → Among b z.copy.unit.blocks → b.lines ≡ before ++ l ∷ after → (o : Option OperandText) → l.inst ≡ ret_text o → (a : OperandText)
     × (o ≡ Some a)) where
   -- a block of the flat text, as a piece
   pub record CopyPieceAt (y : BlockText) : Type 0 where
@@ -105,7 +106,7 @@ module _ (fs : List UnitText) (u x : UnitText) (args : x.args ≡ u.args)
         copy = z.copy;
         nested = called k c n s h z e;
         piece = first_copy_piece fs z.copy b.0;
-        of = begins b.0 (subst (λ bs. Among bs b.0) (sym b.2) (inl refl));
+        of = begins b.0 (subst (λ bs. Among b.0 bs) (sym b.2) (inl refl));
         is = sym (r ∙ ap (λ bs. first_piece z.copy (first_label bs)) b.2);
         step = enters z e b.0 b.1 b.2;
       }
@@ -132,13 +133,13 @@ module _ (fs : List UnitText) (u x : UnitText) (args : x.args ≡ u.args)
       by (back_from e before l o q i r) = out-of-copy m at.depth at.copy at.nested at.piece at.of e before l o q i r
 
   module _ (last : BlockText) (at : CopyPieceAt last) where
-    block-is : Among at.copy.unit.blocks at.piece.block
+    block-is : Among at.piece.block at.copy.unit.blocks
     block-is = (copy_piece-block fs at.copy at.piece at.of).0
 
     label-is : label_or last.label ≡ at.piece.label
     label-is = ap (λ (b : BlockText). label_or b.label) at.is
 
-    within-copy : next_cut fs at.copy at.piece ≡ None → (d : BlockText) → Among at.copy.unit.blocks d → has_edge at.piece.block (label_or d.label) ≡ true
+    within-copy : next_cut fs at.copy at.piece ≡ None → (d : BlockText) → Among d at.copy.unit.blocks → has_edge at.piece.block (label_or d.label) ≡ true
         → (before after : List LineText) (k : LineText) → d.lines ≡ before ++ k ∷ after
         → (ty : TypeTree) (es : List EdgeText) → copied fs at.copy k.inst ≡ phi_text ty es → Names es (label_or last.label)
     within-copy none d b edge before after k q ty es i =
@@ -147,7 +148,7 @@ module _ (fs : List UnitText) (u x : UnitText) (args : x.args ≡ u.args)
         let ends : last_piece_of fs at.copy m.0.block ≡ label_or last.label =
         ap (last_piece_of fs at.copy) m.2 ∙ ap (λ o. option_map_or (last_piece fs at.copy) o (first_piece at.copy (label_or at.piece.block.label))) (self at.depth at.copy at.nested at.piece.block
         block-is) ∙ sym (own-last fs at.copy at.piece at.of none) ∙ sym label-is in
-        (copied_edge fs at.copy m.0, subst (λ xs. Among xs (copied_edge fs at.copy m.0)) (sym f.copies) (among-image (copied_edge fs at.copy) f.edges m.0 m.1), ends)
+        (copied_edge fs at.copy m.0, subst (λ xs. Among (copied_edge fs at.copy m.0) xs) (sym f.copies) (among-image (copied_edge fs at.copy) f.edges m.0 m.1), ends)
 
     -- the merge behind a call names the block of a `ret`
     from-ret : next_cut fs at.copy at.piece ≡ None → (b : BlockText) (before after : List LineText) (l : LineText) (a : OperandText) → at.piece.block ≡ b → b.lines ≡ before ++ l ∷ after
@@ -155,8 +156,8 @@ module _ (fs : List UnitText) (u x : UnitText) (args : x.args ≡ u.args)
     from-ret none b before after l a one q i es e =
         let g = given-here at.copy (last_piece fs at.copy b) before after l a i in (
           g.0,
-          subst (λ xs. Among xs g.0) (sym e) (among-flat (λ (b : BlockText). given_in at.copy (last_piece fs at.copy b) b.lines) at.copy.unit.blocks b g.0
-              (subst (Among at.copy.unit.blocks) one block-is) (subst (λ ls. Among (given_in at.copy (last_piece fs at.copy b) ls) g.0) (sym q) g.1)),
+          subst (λ xs. Among g.0 xs) (sym e) (among-flat (λ (b : BlockText). given_in at.copy (last_piece fs at.copy b) b.lines) at.copy.unit.blocks b g.0
+              (subst (λ x. Among x at.copy.unit.blocks) one block-is) (subst (λ ls. Among g.0 (given_in at.copy (last_piece fs at.copy b) ls)) (sym q) g.1)),
           g.2 ∙ ap (last_piece fs at.copy) (sym one) ∙ sym (own-last fs at.copy at.piece at.of none) ∙ sym label-is,
         )
 
@@ -180,7 +181,7 @@ module _ (fs : List UnitText) (u x : UnitText) (args : x.args ≡ u.args)
             merge-step (enters z r' b more bs) m r g = elim (nothing-is m r) [ ]
             merge-step (returns zero c' n' s' h' z r' zc none ret) m r g = elim (deep c' n' s' h' z r') [ ]
             merge-step (returns (suc k') c' n' s' h' z r' zc none ret) m r g =
-                let a = returned k' c' n' s' h' z r' m r at.piece.block ret.before [] ret.line (subst (λ (d : Copy). Among d.unit.blocks at.piece.block) (sym zc) block-is) ret.splits ret.operand
+                let a = returned k' c' n' s' h' z r' m r at.piece.block ret.before [] ret.line (subst (λ (d : Copy). Among at.piece.block d.unit.blocks) (sym zc) block-is) ret.splits ret.operand
                 ret.ret in
                 from-ret none at.piece.block ret.before [] ret.line a.0 refl ret.splits (ret.ret ∙ ap ret_text a.1) es
                 (sym (edges-are m g) ∙ merge-edges fs c' z.copy z.line.inst z.line.result m r ∙ ap (given_by fs) zc)
@@ -205,5 +206,5 @@ module _ (fs : List UnitText) (u x : UnitText) (args : x.args ≡ u.args)
                 ∙ ap (λ ls. ls ++ behind fs c' (label_or s'.block.label) (cut fs c' (label_or s'.block.label) (z.number + 1) z.rest)) r ∙ nested-right start (j ∷ rest) _)
                 ∙ sym (nested-right ((s'.before ++ next_lines fs c' s') ++ z.line ∷ []) start _) in
                 let yes : is_phi z.line.inst ≡ true = (phis k c' n').first s'.block _ _ j (copy_piece-block fs c' s' h0).0 lines (ap is_phi f.is) z.line
-                (among-left ((s'.before ++ next_lines fs c' s') ++ z.line ∷ []) start z.line (among-right (s'.before ++ next_lines fs c' s') (z.line ∷ []) z.line (inl refl))) in
+                (among-left z.line ((s'.before ++ next_lines fs c' s') ++ z.line ∷ []) start (among-right z.line (s'.before ++ next_lines fs c' s') (z.line ∷ []) (inl refl))) in
                 elim (both_ways (is_phi z.line.inst) (calls k' c' n0 s' h0 z r').no_phi yes) [ ]

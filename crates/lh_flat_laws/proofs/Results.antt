@@ -17,10 +17,10 @@ use Rattle.lh_flat.specs.Flat.{FlatBlockText, Pieces, merge_of, with_line, piece
 use Rattle.lh_flat.specs.Marks.{IsPlain}
 use Rattle.lh_flat.proofs.Marks.{is_same, not_same}
 use Rattle.lh_flat.proofs.Apart.{Differs, Apart, differs-from, apart-append, Begins, UnderFrom, from-at, from-first, from-later, at-apart, begins-under, line-apart, plain-under, begins-more}
-use Rattle.lh_flat_laws.proofs.Cuts.{Among, among-left, among-right}
-use Rattle.lh_flat_laws.proofs.Facts.{each-among}
 use Rattle.lh_flat_laws.proofs.HeldValues.{other-name}
 use Rattle.lh_flat_laws.proofs.BlocksFound.{opens-is, Opens}
+use Rattle.lh_flat_laws.specs.Members.{Among}
+use Rattle.lh_flat_laws.proofs.Members.{in-each, among-left, among-right}
 
 -- ---- the names of results
 
@@ -55,8 +55,8 @@ given-append xs ys = ap results (lines-append xs ys) ∙ results-append (lines_o
 
 -- ---- names that stand once
 
-differs-among : (x y : List ℕ) (ys : List (List ℕ)) → Differs x ys → Among ys y → x ≡ y → ⊥
-differs-among x y ys d a e = each-among (λ z. x ≡ z → ⊥) ys y d a e
+differs-among : (x y : List ℕ) (ys : List (List ℕ)) → Differs x ys → Among y ys → x ≡ y → ⊥
+differs-among x y ys d a e = in-each (λ z. x ≡ z → ⊥) ys y d a e
 
 apart-left : (xs ys : List (List ℕ)) → Apart (xs ++ ys) → Apart xs
 apart-left [] ys h = tt
@@ -66,7 +66,7 @@ apart-right : (xs ys : List (List ℕ)) → Apart (xs ++ ys) → Apart ys
 apart-right [] ys h = h
 apart-right (x ∷ xs) ys h = apart-right xs ys h.1
 
-apart-across : (xs ys : List (List ℕ)) (x y : List ℕ) → Apart (xs ++ ys) → Among xs x → Among ys y → x ≡ y → ⊥
+apart-across : (xs ys : List (List ℕ)) (x y : List ℕ) → Apart (xs ++ ys) → Among x xs → Among y ys → x ≡ y → ⊥
 apart-across [] ys x y h a b e = elim a [ ]
 apart-across (z ∷ xs) ys x y h (inl q) b e = differs-among z y ys (Each-right (λ w. z ≡ w → ⊥) xs ys h.0) b (q ∙ e)
 apart-across (z ∷ xs) ys x y h (inr a) b e = apart-across xs ys x y h.1 a b e
@@ -154,7 +154,7 @@ pub record CopyIsOwn (c : Copy) : Type 0 where
 
 -- the result of one of these names, behind a path
 abbrev OwnResult : (path : List ℕ) → (ns : List (List ℕ)) → List ℕ → Type 0
-OwnResult p ns x = (n : List ℕ) × Among ns n × IsOwn n × (x ≡ p ++ n)
+OwnResult p ns x = (n : List ℕ) × Among n ns × IsOwn n × (x ≡ p ++ n)
 
 -- it, or a name behind the mark of line k or a later one
 abbrev ResultFrom : (path label : List ℕ) → (k : ℕ) → (ns : List (List ℕ)) → List ℕ → Type 0
@@ -162,7 +162,7 @@ ResultFrom p m k ns x = OwnResult p ns x ⊎ UnderFrom p m k x
 
 -- it, or a name behind the mark of a line of one of these blocks
 abbrev pub ResultIn : (path : List ℕ) → (ns ms : List (List ℕ)) → List ℕ → Type 0
-ResultIn p ns ms x = OwnResult p ns x ⊎ ((m : List ℕ) × Among ms m × IsOwn m × UnderFrom p m 0 x)
+ResultIn p ns ms x = OwnResult p ns x ⊎ ((m : List ℕ) × Among m ms × IsOwn m × UnderFrom p m 0 x)
 
 -- the names of what a copy gives back
 abbrev CopyGives : (copy_of : Copy → List FlatBlockText) → Copy → Type 0
@@ -320,16 +320,16 @@ module _ (fs : List UnitText) (c : Copy) (copy_of : Copy → List FlatBlockText)
       apart x y (inr w) (inl z) e = plain-under c.path z.0 m 0 y x z.2.plain z.3 w (sym e)
       apart x y (inr w) (inr z) e = differs-among m z.0 (labels_in bs) d.0 z.1 (at-apart c.path m z.0 x y l.0.plain z.2.plain (from-at c.path m 0 x w) (from-at c.path z.0 0 y z.3) e)
 
-      in-both : (ns : List (List ℕ)) (x : List ℕ) → ((n : List ℕ) → Among ns n → Among (results b.lines ++ results (lines_of bs)) n) → OwnResult c.path ns x
+      in-both : (ns : List (List ℕ)) (x : List ℕ) → ((n : List ℕ) → Among n ns → Among n (results b.lines ++ results (lines_of bs))) → OwnResult c.path ns x
           → OwnResult c.path (results (lines_of (b ∷ bs))) x
-      in-both ns x f w = (w.0, subst (λ ms. Among ms w.0) (sym both) (f w.0 w.1), w.2, w.3)
+      in-both ns x f w = (w.0, subst (λ ms. Among w.0 ms) (sym both) (f w.0 w.1), w.2, w.3)
 
       from-first-block : (x : List ℕ) → ResultFrom c.path m 0 (results b.lines) x → ResultIn c.path (results (lines_of (b ∷ bs))) (labels_in (b ∷ bs)) x
-      from-first-block x (inl w) = inl (in-both (results b.lines) x (λ n h. among-left (results b.lines) (results (lines_of bs)) n h) w)
+      from-first-block x (inl w) = inl (in-both (results b.lines) x (λ n h. among-left n (results b.lines) (results (lines_of bs)) h) w)
       from-first-block x (inr w) = inr (m, inl refl, l.0, w)
 
       from-later-block : (x : List ℕ) → ResultIn c.path (results (lines_of bs)) (labels_in bs) x → ResultIn c.path (results (lines_of (b ∷ bs))) (labels_in (b ∷ bs)) x
-      from-later-block x (inl w) = inl (in-both (results (lines_of bs)) x (λ n h. among-right (results b.lines) (results (lines_of bs)) n h) w)
+      from-later-block x (inl w) = inl (in-both (results (lines_of bs)) x (λ n h. among-right n (results b.lines) (results (lines_of bs)) h) w)
       from-later-block x (inr w) = inr (w.0, inr w.1, w.2, w.3)
 
   blocks-give : (bs : List BlockText) → Apart (results (lines_of bs)) → Each IsOwn (results (lines_of bs)) → Each (λ n. args_define n c.unit.args ≡ false) (results (lines_of bs))
@@ -394,5 +394,5 @@ module _ (fs : List UnitText) (functions : (n : UnitName) (f : UnitText) → fun
       (Each-more (ResultIn [] (results (lines_of u.blocks)) (labels_in u.blocks)) (IsNewIn u.args []) (given (flat_copy (suc max_nested) fs (top_copy u))) new r.1)
     where
       new : (x : List ℕ) → ResultIn [] (results (lines_of u.blocks)) (labels_in u.blocks) x → IsNewIn u.args [] x
-      new x (inl w) = (ap (λ n. args_define n u.args) w.3 ∙ each-among (λ n. args_define n u.args ≡ false) (results (lines_of u.blocks)) w.0 o.new w.1, refl)
+      new x (inl w) = (ap (λ n. args_define n u.args) w.3 ∙ in-each (λ n. args_define n u.args ≡ false) (results (lines_of u.blocks)) w.0 o.new w.1, refl)
       new x (inr w) = (no-argument u.args w.0 0 x p w.3, refl)

@@ -6,13 +6,14 @@ use Rattle.lh_unit.specs.WellFormed.{values_named, is_phi}
 use Rattle.lh_verify_laws.specs.Defined.{IsThere, IsGiven}
 use Rattle.lh_flat.specs.Copies.{Copy, top_copy, copied, copied_line}
 use Rattle.lh_flat.specs.Flat.{flat_copy, max_nested, with_merge, as_block}
-use Rattle.lh_flat_laws.proofs.Cuts.{Among, Cut, behind, lines-cut}
+use Rattle.lh_flat_laws.proofs.Cuts.{Cut, behind, lines-cut}
 use Rattle.lh_flat_laws.proofs.CopyPieces.{CopyPiece, next_cut, next_lines, CopyPieceOf, Nested, flat_copy_piece}
 use Rattle.lh_flat_laws.proofs.SoundCopies.{IsCode}
 use Rattle.lh_flat_laws.proofs.Lines.{define-parts, define-copied, merge-defines, lines-define}
 use Rattle.lh_flat_laws.proofs.Named.{IsNew, named-copied}
 use Rattle.lh_flat_laws.proofs.Splits.{LineOf, is_merge, is_copied, is_branch, line-of}
 use Rattle.lh_flat_laws.proofs.Paths.{IsGood, CallIsGood, There, Located, lines-are, copy_piece-block, nested-right, located}
+use Rattle.lh_flat_laws.specs.Members.{Among}
 
 -- a copied instruction is a `phi` where the original is one
 pub phi-copied : (fs : List UnitText) (c : Copy) (i : InstText) → is_phi (copied fs c i) ≡ false → is_phi i ≡ false
@@ -38,8 +39,8 @@ module _ (fs : List UnitText) (u x : UnitText) (args : x.args ≡ u.args)
     (good : (k : ℕ) (c : Copy) → Nested fs u k c → IsGood fs c.unit) (calls : (k : ℕ) (c : Copy) → Nested fs u k c → (s : CopyPiece) → CopyPieceOf fs c s → (z : Cut) → next_cut fs c s ≡ Some z
     → CallIsGood fs c z)
     (deep : (c : Copy) → Nested fs u zero c → (s : CopyPiece) → CopyPieceOf fs c s → (z : Cut) → next_cut fs c s ≡ Some z → ⊥)
-    (no_ret : (b : BlockText) (before after : List LineText) (l : LineText) → Among u.blocks b → b.lines ≡ before ++ l ∷ after → (o : Option OperandText) → l.inst ≡ ret_text o → ⊥)
-    (code : (k : ℕ) (c : Copy) → Nested fs u k c → (b : BlockText) (before after : List LineText) (l : LineText) → Among c.unit.blocks b → b.lines ≡ before ++ l ∷ after → IsCode l.inst) where
+    (no_ret : (b : BlockText) (before after : List LineText) (l : LineText) → Among b u.blocks → b.lines ≡ before ++ l ∷ after → (o : Option OperandText) → l.inst ≡ ret_text o → ⊥)
+    (code : (k : ℕ) (c : Copy) → Nested fs u k c → (b : BlockText) (before after : List LineText) (l : LineText) → Among b c.unit.blocks → b.lines ≡ before ++ l ∷ after → IsCode l.inst) where
   module _ (y : BlockText) (earlier : List BlockText) (at : Located fs u x args y earlier) where
     -- a line in the middle of a piece is a line of the block
     midst : (start rest : List LineText) (k : LineText) → next_lines fs at.copy at.piece ≡ start ++ k ∷ rest
@@ -82,19 +83,19 @@ module _ (fs : List UnitText) (u x : UnitText) (args : x.args ≡ u.args)
                 begun (inr m) = inl (merge-defines (at.copy.value n) at.piece.merge _ m)
 
     -- an operand of a line that is no `phi`
-    operand-given : (before after : List LineText) (l : LineText) → y.lines ≡ before ++ l ∷ after → is_phi l.inst ≡ false → (n : List ℕ) → Among (values_named l.inst) n → args_define n x.args ≡ false
+    operand-given : (before after : List LineText) (l : LineText) → y.lines ≡ before ++ l ∷ after → is_phi l.inst ≡ false → (n : List ℕ) → Among n (values_named l.inst) → args_define n x.args ≡ false
         → (lines_define n before ≡ true) ⊎ (blocks_define n earlier ≡ true)
     operand-given before after l e p n a f = by (line-of fs at.copy at.piece (flat_copy at.depth fs) before after l (sym (lines-are fs u x args good calls deep no_ret y earlier at) ∙ e))
       where
         by : LineOf fs at.copy at.piece before l → (lines_define n before ≡ true) ⊎ (blocks_define n earlier ≡ true)
         by (is_merge m q r s) = let t : true ≡ false = ap (λ (k : LineText). is_phi k.inst) (sym r) ∙ p in cc
-        by (is_branch z q r) = elim (subst (λ (k : LineText). Among (values_named k.inst) n) r a) [ ]
+        by (is_branch z q r) = elim (subst (λ (k : LineText). Among n (values_named k.inst)) r a) [ ]
         by (is_copied start k rest q r s) =
             let inst : l.inst ≡ copied fs at.copy k.inst = ap (λ (k : LineText). k.inst) r in
             let plain : is_phi k.inst ≡ false = phi-copied fs at.copy k.inst (ap is_phi (sym inst) ∙ p) in
-            let block : Among at.copy.unit.blocks at.piece.block = (copy_piece-block fs at.copy at.piece at.of).0 in
+            let block : Among at.piece.block at.copy.unit.blocks = (copy_piece-block fs at.copy at.piece at.of).0 in
             let m : IsNew at.copy (values_named k.inst) n = named-copied at.copy fs k.inst (code at.depth at.copy at.nested at.piece.block (at.piece.before ++ start) _ k block (midst start rest k q))
-            plain n (subst (λ i. Among (values_named i) n) inst a) in
+            plain n (subst (λ i. Among n (values_named i)) inst a) in
             moved m (given-before start m.0 ((good at.depth at.copy at.nested).there at.piece.block (at.piece.before ++ start) _ k block (midst start rest k q) plain m.0 m.1)
             (ap (λ k. args_define k x.args) (sym m.2) ∙ f))
           where
@@ -111,7 +112,7 @@ module _ (fs : List UnitText) (u x : UnitText) (args : x.args ≡ u.args)
     decided true P f = inl refl
     decided false P f = inr (f refl)
 
-    pub operand-there : (y : BlockText) (before after : List LineText) (l : LineText) → y.lines ≡ before ++ l ∷ after → is_phi l.inst ≡ false → (n : List ℕ) → Among (values_named l.inst) n
+    pub operand-there : (y : BlockText) (before after : List LineText) (l : LineText) → y.lines ≡ before ++ l ∷ after → is_phi l.inst ≡ false → (n : List ℕ) → Among n (values_named l.inst)
         → IsThere x y before n
     operand-there y before after l e p n a =
         decided (args_define n x.args) (IsGiven x y before n)

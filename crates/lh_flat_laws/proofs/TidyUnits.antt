@@ -43,11 +43,12 @@ use Rattle.lh_eval_laws.proofs.SoundLines.{rows-of-items, items-printable}
 use Rattle.lh_flat.specs.Marks.{IsPlain}
 use Rattle.lh_flat.proofs.Apart.{plain-name, name-there}
 use Rattle.lh_flat_laws.specs.Tidy.{ResultIsNew, EdgesArePlain, AlwaysGives, CallGives, LineTidy, Either, NoPhis, PhisFirst, BlockTidy, ArgsOnce, EntryHasNoPhi, UnitTidy, FunctionsTidy, FunctionsAreTidy, ProcessesAreTidy}
-use Rattle.lh_flat_laws.proofs.Cuts.{Among}
 use Rattle.lh_flat_laws.proofs.LastPieces.{block-each}
 use Rattle.lh_flat_laws.proofs.Facts.{UnitFacts, fact-at, phis-good, facts-of-items, label-found}
 use Rattle.lh_flat_laws.proofs.CopyPaths.{ModuleFacts, function-facts, process-facts}
 use Rattle.lh_flat_laws.proofs.OpenedCalls.{function-is}
+use Rattle.lh_flat_laws.specs.Members.{Among}
+use Rattle.lh_flat_laws.proofs.Members.{among-left, among-middle}
 
 -- ---- names that are written have no marks
 
@@ -250,7 +251,7 @@ module _ (items : List ItemText) (all : (n : UnitName) (d : UnitText) → functi
   result-new (Some r) i h n = (plain-name r (result-named r i h), n r refl)
 
   -- a block
-  module _ (b : BlockText) (a : Among v.blocks b) where
+  module _ (b : BlockText) (a : Among b v.blocks) where
     line-tidy : (before rest : List LineText) (l : LineText) → b.lines ≡ before ++ l ∷ rest → HasInstLine l → IsNoArg v.args l → LineTidy (functions items) v l
     line-tidy before rest l e h n =
         let z = fact-at items v f b before rest l a e in
@@ -261,25 +262,16 @@ module _ (items : List ItemText) (all : (n : UnitName) (d : UnitText) → functi
     lines-tidy before (l ∷ rest) e h n = (line-tidy before rest l e h.0 n.0, lines-tidy (before ++ l ∷ []) rest (e ∙ sym (append_assoc before (l ∷ []) rest)) h.1 n.1)
 
     -- where a line is no `phi`, none behind it is one
-    phi-before : (x : LineText) (before : List LineText) (l : LineText) (rest : List LineText) → b.lines ≡ before ++ l ∷ rest → Among before x → is_phi x.inst ≡ false → is_phi l.inst ≡ false
+    phi-before : (x : LineText) (before : List LineText) (l : LineText) (rest : List LineText) → b.lines ≡ before ++ l ∷ rest → Among x before → is_phi x.inst ≡ false → is_phi l.inst ≡ false
     phi-before x before l rest e m q = by (is_phi l.inst) refl
       where
         by : (t : Bool) → is_phi l.inst ≡ t → t ≡ false
         by false z = refl
         by true z = let r : is_phi x.inst ≡ true = (phis-good items v f).first b before rest l a e z x m in absurd cc
 
-    among-right : (xs ys : List LineText) (x : LineText) → Among xs x → Among (xs ++ ys) x
-    among-right [] ys x k = elim k [ ]
-    among-right (y ∷ xs) ys x (inl e) = inl e
-    among-right (y ∷ xs) ys x (inr k) = inr (among-right xs ys x k)
-
-    among-last : (xs : List LineText) (x : LineText) → Among (xs ++ x ∷ []) x
-    among-last [] x = inl refl
-    among-last (y ∷ xs) x = inr (among-last xs x)
-
-    none-behind : (x : LineText) (before rest : List LineText) → b.lines ≡ before ++ rest → Among before x → is_phi x.inst ≡ false → NoPhis rest
+    none-behind : (x : LineText) (before rest : List LineText) → b.lines ≡ before ++ rest → Among x before → is_phi x.inst ≡ false → NoPhis rest
     none-behind x before [] e m q = tt
-    none-behind x before (l ∷ rest) e m q = (phi-before x before l rest e m q, none-behind x (before ++ l ∷ []) rest (e ∙ sym (append_assoc before (l ∷ []) rest)) (among-right before (l ∷ []) x m) q)
+    none-behind x before (l ∷ rest) e m q = (phi-before x before l rest e m q, none-behind x (before ++ l ∷ []) rest (e ∙ sym (append_assoc before (l ∷ []) rest)) (among-left x before (l ∷ []) m) q)
 
     phis-first : (before rest : List LineText) → b.lines ≡ before ++ rest → PhisFirst rest
     phis-first before [] e = tt
@@ -290,7 +282,7 @@ module _ (items : List ItemText) (all : (n : UnitName) (d : UnitText) → functi
 
         by : (t : Bool) → is_phi l.inst ≡ t → PhisFirst rest → Either t (PhisFirst rest) (NoPhis rest)
         by true q go = go
-        by false q go = none-behind l (before ++ l ∷ []) rest next (among-last before l) q
+        by false q go = none-behind l (before ++ l ∷ []) rest next (among-middle before [] l) q
 
     block-tidy : LabelRight b → EndsOnce b.lines → Each HasInstLine b.lines → Each (IsNoArg v.args) b.lines → BlockTidy (functions items) v b
     block-tidy n e h k = record {
@@ -302,7 +294,7 @@ module _ (items : List ItemText) (all : (n : UnitName) (d : UnitText) → functi
           k;
     }
 
-  blocks-tidy : (bs : List BlockText) → ((b : BlockText) → Among bs b → Among v.blocks b) → Each LabelRight bs → Each (λ (b : BlockText). EndsOnce b.lines) bs
+  blocks-tidy : (bs : List BlockText) → ((b : BlockText) → Among b bs → Among b v.blocks) → Each LabelRight bs → Each (λ (b : BlockText). EndsOnce b.lines) bs
       → Each (λ (b : BlockText). Each HasInstLine b.lines) bs → Each (λ (b : BlockText). Each (IsNoArg v.args) b.lines) bs
       → Each (BlockTidy (functions items) v) bs
   blocks-tidy [] m n e h k = tt
@@ -342,7 +334,7 @@ ends-of (unit_text u ∷ items) h n d e k = by (is_function u.kind) e (λ q. end
         at true r = let m : u ≡ d = same_Some u d r in subst (λ (x : UnitText). in_entity x.kind ≡ false → Each (λ (y : BlockText). EndsOnce y.lines) x.blocks) m h.0 k
         at false r = go r
 
-ends-among : (items : List ItemText) → EachUnit (λ u. in_entity u.kind ≡ false → Each (λ (b : BlockText). EndsOnce b.lines) u.blocks) items → (u : UnitText) → Among items (unit_text u)
+ends-among : (items : List ItemText) → EachUnit (λ u. in_entity u.kind ≡ false → Each (λ (b : BlockText). EndsOnce b.lines) u.blocks) items → (u : UnitText) → Among (unit_text u) items
     → in_entity u.kind ≡ false → Each (λ (b : BlockText). EndsOnce b.lines) u.blocks
 ends-among [] h u a k = elim a [ ]
 ends-among (unit_text v ∷ items) h u (inl e) k = let m : v ≡ u = cc in subst (λ (x : UnitText). in_entity x.kind ≡ false → Each (λ (y : BlockText). EndsOnce y.lines) x.blocks) m h.0 k
@@ -359,13 +351,13 @@ module _ (items : List ItemText) (g : IsWellFormed items) where
       let f = function-facts items items facts n d e in
       unit-tidy items (function-facts items items facts) d f (ends-of items (blocks_end_once items g.1) n d e f.runs)
 
-  pub process-tidy : (u : UnitText) → Among items (unit_text u) → u.kind ≡ kind.Proc → UnitTidy (functions items) u
+  pub process-tidy : (u : UnitText) → Among (unit_text u) items → u.kind ≡ kind.Proc → UnitTidy (functions items) u
   process-tidy u a k =
       let f = process-facts items items facts u a k in
       unit-tidy items (function-facts items items facts) u f (ends-among items (blocks_end_once items g.1) u a f.runs)
 
 -- by ids
-pub among-mapped : (a : Arena) (xs : List Item) (i : ℕ) (u : UnitId) → slice_get xs i ≡ Some (item.Unit u) → Among (map (item_text_at a) xs) (unit_text (unit_text_at a u.0))
+pub among-mapped : (a : Arena) (xs : List Item) (i : ℕ) (u : UnitId) → slice_get xs i ≡ Some (item.Unit u) → Among (unit_text (unit_text_at a u.0)) (map (item_text_at a) xs)
 among-mapped a [] i u e = absurd (none-some (item.Unit u) e)
 among-mapped a (x ∷ xs) zero u e = inl (ap (item_text_at a) (same_Some x (item.Unit u) e))
 among-mapped a (x ∷ xs) (suc i) u e = inr (among-mapped a xs i u e)

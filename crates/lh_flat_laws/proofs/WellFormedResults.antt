@@ -24,12 +24,12 @@ use Rattle.lh_flat.specs.Marks.{IsPlain}
 use Rattle.lh_flat.proofs.Apart.{Differs, Apart, plain-name, name-there}
 use Rattle.lh_flat.proofs.Marks.{is_same}
 use Rattle.lh_flat_laws.specs.Tidy.{BlockTidy, ArgsOnce, UnitTidy}
-use Rattle.lh_flat_laws.proofs.Cuts.{Among}
 use Rattle.lh_flat_laws.proofs.Facts.{PlaceFacts, UnitFacts, is-code}
 use Rattle.lh_flat_laws.proofs.CopyPaths.{function-facts, process-facts}
 use Rattle.lh_flat_laws.proofs.TidyUnits.{result-named, facts, process-tidy, functions-tidy}
 use Rattle.lh_flat_laws.proofs.Results.{named, results, IsNewIn, results-apart, IsOwn, labels_in, OwnNames, once}
 use Rattle.lh_flat_laws.proofs.ResultTypes.{IsTyped, IsTypedCode, line-typed, copies-typed}
+use Rattle.lh_flat_laws.specs.Members.{Among}
 
 -- ---- the names of a unit
 
@@ -98,7 +98,7 @@ value-typed : (x : UnitText) (ls : List LineText) → Each IsTyped ls → Each (
 value-typed x [] h k = tt
 value-typed x (l ∷ ls) h k = ((λ n e. subst (λ o. IsSome o) (sym (k.0 n e)) (h.0 n e)), value-typed x ls h.1 k.1)
 
-module _ (items : List ItemText) (g : IsWellFormed items) (u : UnitText) (among : Among items (unit_text u)) (process : u.kind ≡ kind.Proc) (name : UnitName) where
+module _ (items : List ItemText) (g : IsWellFormed items) (u : UnitText) (among : Among (unit_text u) items) (process : u.kind ≡ kind.Proc) (name : UnitName) where
   abbrev flat : UnitText
   flat = flat_unit name (text_of (functions items) u)
 

@@ -1,5 +1,5 @@
 -- A process without calls that is as a process of a well-formed module is: what a flat text is, read as a process.
-use Rattle.std.specs.Prelude.{◌≡◌, ◌⊎◌, ℕ, List, [], ◌∷◌, false, true, Some, IsSome}
+use Rattle.std.specs.Prelude.{◌≡◌, ℕ, List, [], ◌∷◌, false, true, Some, IsSome}
 use Rattle.lh_unit.specs.declared.inst.UnitKind.TheVariants as kind
 use Rattle.lh_unit.specs.Contents.{EdgeText, phi_text, InstText, sig_text, reg_text, child_text, call_text, ret_text, LineText, BlockText, UnitText}
 use Rattle.lh_unit.specs.Named.{block_of, label_or}
@@ -18,6 +18,7 @@ use Rattle.lh_verify_laws.specs.KindsOf.{HasTypeOfKind}
 use Rattle.lh_verify_laws.specs.Shape.{EndsOnce}
 use Rattle.lh_eval.specs.Sound.{InstIsSound}
 use Rattle.lh_eval_laws.specs.Units.{HasItsType, IsPort}
+use Rattle.lh_flat_laws.specs.Members.{Among}
 
 -- it may stand in a process whose calls were replaced: each call is an assertion of one truth value
 abbrev pub IsWithoutCalls : UnitText → InstText → Type 0
@@ -28,16 +29,11 @@ IsWithoutCalls u (reg_text to triggers) = ⊥
 IsWithoutCalls u (child_text v inputs outputs) = ⊥
 IsWithoutCalls u _ = Unit {0}
 
--- e is one of these
-abbrev pub IsOne : List EdgeText → EdgeText → Type 0
-IsOne [] e = ⊥
-IsOne (x ∷ more) e = (x ≡ e) ⊎ IsOne more e
-
 -- A `phi` stands behind other `phi` alone and not in the entry block, and names each block that has an edge to its own.
 pub record IsPhiFormed (u : UnitText) (p : InstPlaceText) (es : List EdgeText) : Type 0 where
   pub first : Each (λ (l : LineText). is_phi l.inst ≡ true) p.before
   pub no_entry : p.in_entry ≡ false
-  pub named : Each (λ (b : BlockText). has_edge b (label_or p.block.label) ≡ true → (e : EdgeText) × IsOne es e × (e.block ≡ label_or b.label)) u.blocks
+  pub named : Each (λ (b : BlockText). has_edge b (label_or p.block.label) ≡ true → (e : EdgeText) × Among e es × (e.block ≡ label_or b.label)) u.blocks
 
 abbrev pub PhiFormed : UnitText → InstPlaceText → InstText → Type 0
 PhiFormed u p (phi_text ty es) = IsPhiFormed u p es

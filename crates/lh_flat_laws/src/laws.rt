@@ -1,6 +1,7 @@
 //! What a process does is what its flat text does. Each law is the contract of a function that does nothing, so that other crates can
 //! cite it.
 ghost use Rattle.lh_flat_laws.specs.Activates.{ActivatesAlike, BeginsAlike};
+ghost use Rattle.lh_flat_laws.specs.Recursion.{RecursionIsFound, RecursionIsRefused};
 ghost use Rattle.lh_flat_laws.specs.Tidy.{FunctionsAreTidy, ProcessesAreTidy};
 
 /// Where an activation of the flat text of a process ends, that of the process does, in no more instructions: with the same wish and the
@@ -21,4 +22,11 @@ pub fn begin_law()
 pub fn tidy_law()
     ensures functions { FunctionsAreTidy }
     ensures processes { ProcessesAreTidy }
+{}
+
+/// A unit has no flat text for a recursive call exactly where a function that it reaches by calls reaches itself; the refusal names such a
+/// function. The search that the definition makes has steps enough to tell.
+pub fn recursion_law()
+    ensures search { RecursionIsFound }
+    ensures refusal { RecursionIsRefused }
 {}

@@ -26,7 +26,6 @@ use Rattle.lh_flat.specs.Marks.{UnitsAreNamed}
 use Rattle.lh_flat.proofs.Formed.{units-right}
 use Rattle.lh_flat.proofs.Distinct.{unit-labels, copies-labels}
 use Rattle.lh_flat_laws.specs.Formed.{IsFormed}
-use Rattle.lh_flat_laws.proofs.Cuts.{Among}
 use Rattle.lh_flat_laws.proofs.Facts.{UnitFacts}
 use Rattle.lh_flat_laws.proofs.CopyPaths.{copy-facts}
 use Rattle.lh_flat_laws.proofs.FlatActivations.{flat-is}
@@ -34,6 +33,7 @@ use Rattle.lh_flat_laws.proofs.TidyUnits.{facts, among-mapped, functions_are_tid
 use Rattle.lh_flat_laws.proofs.FlatForm.{formed}
 use Rattle.lh_flat_laws.proofs.WellFormedResults.{results_once, results_typed}
 use Rattle.lh_flat_state_laws.specs.Formed.{FlatTextsAreFormed}
+use Rattle.lh_flat_laws.specs.Members.{Among}
 
 rows : (v : UnitText) (ls : List LineText) → Each (InstIsSound v) ls → Each (λ (l : LineText). RowIs v l.inst × HasPart v l.inst) ls
 rows v [] h = tt
@@ -56,7 +56,7 @@ module _ (a : Arena) (u : ℕ) (name : UnitName) (o : IsArena a) (g : IsWellForm
   abbrev flat : UnitText
   flat = flat_unit name (text_of (functions (contents a)) process)
 
-  listed : Among (contents a) (unit_text process)
+  listed : Among (unit_text process) (contents a)
   listed =
       let v : UnitId = record { 0 = u } in
       let i = o.items_defined v l (subst (λ (x : Option UnitKind). IsSome x) (sym k) refl) in

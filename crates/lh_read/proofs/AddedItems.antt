@@ -69,26 +69,26 @@ module _ (a : Arena) (p : LinePlace) (u : UnitId) (l : LineText) (w : InPlace a 
 pub record LineRequest (r : Reader) (u : UnitId) (now : Arena) (l said : LineText) : Type 0 where
   pub placed : InPlace now r.place
   pub unit : block_unit r.place ≡ Some u
-  pub grows : Grows r.module now
+  pub grows : Grows r.resolver.module now
   pub line : l ≡ said
-  pub only : EntersOnly (line_mentions l) r.module now u.0
+  pub only : EntersOnly (line_mentions l) r.resolver.module now u.0
 
 pub line-asked : (r : Reader) (u : UnitId) (mid now : Arena) (v : Option ValueId) (i : Inst) (name : Option (List ℕ)) (said : InstText) → ReaderIsInOrder r → block_unit r.place ≡ Some u
-    → MaybePlaced r.module mid u v name → InstPlacedAs mid now u i said → LineRequest r u now (line_text_at now u.0 v i) (record { result = name; inst = said })
+    → MaybePlaced r.resolver.module mid u v name → InstPlacedAs mid now u i said → LineRequest r u now (line_text_at now u.0 v i) (record { result = name; inst = said })
 line-asked r u mid now v i name said o e p q =
-    let g = Grows-trans r.module mid now p.grows q.grows in
+    let g = Grows-trans r.resolver.module mid now p.grows q.grows in
     let n : maybe_text (naming now u.0) v ≡ name = maybe_text-keeps mid now u.0 q.grows.entries v p.within ∙ p.says in
     let s : line_text_at now u.0 v i ≡ (record { result = name; inst = said }) = λ j. record { result = n j; inst = q.says j } in
     record {
-      placed = place-grows r.module now r.place g o.place;
+      placed = place-grows r.resolver.module now r.place g o.place;
       unit = e;
       grows = g;
       line = s;
-      only = subst (λ l. EntersOnly (line_mentions l) r.module now u.0) (sym s) (enters-both (maybe_value name) (inst_mentions said) r.module mid now u.0 p.only q.only q.grows.entries);
+      only = subst (λ l. EntersOnly (line_mentions l) r.resolver.module now u.0) (sym s) (enters-both (maybe_value name) (inst_mentions said) r.resolver.module mid now u.0 p.only q.only q.grows.entries);
     }
 
 asked : (r : Reader) (u : UnitId) (now : Arena) (l said : LineText) → LineRequest r u now l said → step (state_of r) (inst_item said) ≡ step (state_at now r.place) (inst_item l)
-asked r u now l said a = ap (λ s. step s (inst_item said)) (state-grows r.module now r.place a.grows) ∙ ap (λ x. step (state_at now r.place) (inst_item x)) (sym a.line)
+asked r u now l said a = ap (λ s. step s (inst_item said)) (state-grows r.resolver.module now r.place a.grows) ∙ ap (λ x. step (state_at now r.place) (inst_item x)) (sym a.line)
 
 pub inst-taken : (r : Reader) (u : UnitId) (now new : Arena) (l said : LineText) → LineRequest r u now l said → OfOpen now (HasRoom l)
     → HasContents now new u (change_last (with_line l) (contents now))
@@ -105,7 +105,7 @@ pub inst-named : (r : Reader) (u : UnitId) (now new : Arena) (l said : LineText)
 inst-named r u now new l said o a s =
     let c = inst-asks now r.place u a.placed a.unit in
     let b : 0 < length (unit_text_at now u.0).blocks = OfOpen-is now (λ t. 0 < length t.blocks) (unit_text_at now u.0) (open-text now u c.opened) c.text in
-    named-changed r.module now new u (line_mentions l) (with_line l) (with_line-extends l) o.named a.grows a.only c.opened s (λ m h. with_line-names l (unit_text_at now u.0) m b h)
+    named-changed r.resolver.module now new u (line_mentions l) (with_line l) (with_line-extends l) o.named a.grows a.only c.opened s (λ m h. with_line-names l (unit_text_at now u.0) m b h)
 
 -- a fault that is passed on
 pub steps-err : (o : Result (Unit {0}) LineFault) (f : LineFault) (x : Result ReadState BadKind) (s : ReadState) → IsErrAnd o (λ e. e ≡ f) → Steps (Err f) x s → Steps o x s
@@ -120,7 +120,7 @@ inst-refused o r u now new l said f s a h w =
     (subst (λ x. Steps (Err (fault_of f)) x s) (sym (asked r u now l said a)) (line-refused now r.place u l a.placed a.unit f new s h))
 
 pub inst-outside : (r : Reader) (l : LineText) → ReaderIsInOrder r → block_unit r.place ≡ None → step (state_of r) (inst_item l) ≡ Err syntax
-inst-outside r l o e = step-misplaced (state_of r) (inst_item l) (ap (λ q. may_stand q (inst_item l)) (place-is r.module r.place o.place) ∙ inst-misplaced r.place l e)
+inst-outside r l o e = step-misplaced (state_of r) (inst_item l) (ap (λ q. may_stand q (inst_item l)) (place-is r.resolver.module r.place o.place) ∙ inst-misplaced r.place l e)
 
 -- a label in this place, of the unit u
 module _ (a : Arena) (p : LinePlace) (u : UnitId) (n : List ℕ) (w : InPlace a p) (e : label_unit p ≡ Some u) where
@@ -141,43 +141,43 @@ module _ (a : Arena) (p : LinePlace) (u : UnitId) (n : List ℕ) (w : InPlace a 
   block-refused fault.OutOfMemory b s h = tt
 
 -- a label that was given an id
-label-same : (r : Reader) (u : UnitId) (now : Arena) (b : BlockId) (n : List ℕ) → LabelPlaced r.module now u b n
+label-same : (r : Reader) (u : UnitId) (now : Arena) (b : BlockId) (n : List ℕ) → LabelPlaced r.resolver.module now u b n
     → step (state_of r) (label_item n) ≡ step (state_at now r.place) (label_item (label_name_at now u.0 b.0))
-label-same r u now b n q = ap (λ s. step s (label_item n)) (state-grows r.module now r.place q.grows) ∙ ap (λ x. step (state_at now r.place) (label_item x)) (sym q.says)
+label-same r u now b n q = ap (λ s. step s (label_item n)) (state-grows r.resolver.module now r.place q.grows) ∙ ap (λ x. step (state_at now r.place) (label_item x)) (sym q.says)
 
-pub label-taken : (r : Reader) (u : UnitId) (now new : Arena) (b : BlockId) (n : List ℕ) → ReaderIsInOrder r → label_unit r.place ≡ Some u → LabelPlaced r.module now u b n
+pub label-taken : (r : Reader) (u : UnitId) (now new : Arena) (b : BlockId) (n : List ℕ) → ReaderIsInOrder r → label_unit r.place ≡ Some u → LabelPlaced r.resolver.module now u b n
     → AddsBlock (Ok tt) now new u (label_name_at now u.0 b.0)
     → step (state_of r) (label_item n) ≡ Ok (state_at new (InEmptyBlock u))
-label-taken r u now new b n o e q h = label-same r u now b n q ∙ block-taken now r.place u (label_name_at now u.0 b.0) (place-grows r.module now r.place q.grows o.place) e new h.0 h.1
+label-taken r u now new b n o e q h = label-same r u now b n q ∙ block-taken now r.place u (label_name_at now u.0 b.0) (place-grows r.resolver.module now r.place q.grows o.place) e new h.0 h.1
 
-pub label-placed : (r : Reader) (u : UnitId) (now new : Arena) (b : BlockId) (n : List ℕ) → ReaderIsInOrder r → label_unit r.place ≡ Some u → LabelPlaced r.module now u b n
+pub label-placed : (r : Reader) (u : UnitId) (now new : Arena) (b : BlockId) (n : List ℕ) → ReaderIsInOrder r → label_unit r.place ≡ Some u → LabelPlaced r.resolver.module now u b n
     → AddsBlock (Ok tt) now new u (label_name_at now u.0 b.0)
     → InPlace new (InEmptyBlock u)
-label-placed r u now new b n o e q h = behind-block now new r.place u (label_name_at now u.0 b.0) (place-grows r.module now r.place q.grows o.place) e h.1
+label-placed r u now new b n o e q h = behind-block now new r.place u (label_name_at now u.0 b.0) (place-grows r.resolver.module now r.place q.grows o.place) e h.1
 
 pub label-refused : (x : Result (Unit {0}) LineFault) (r : Reader) (u : UnitId) (now new : Arena) (b : BlockId) (n : List ℕ) (f : UnitFault) (s : ReadState) → ReaderIsInOrder r → label_unit r.place ≡ Some u
-    → LabelPlaced r.module now u b n
+    → LabelPlaced r.resolver.module now u b n
     → AddsBlock (Err f) now new u (label_name_at now u.0 b.0) → IsErrAnd x (λ y. y ≡ fault_of f) → Steps x (step (state_of r) (label_item n)) s
 label-refused x r u now new b n f s o e q h w =
     steps-err x (fault_of f) (step (state_of r) (label_item n)) s w
-    (subst (λ y. Steps (Err (fault_of f)) y s) (sym (label-same r u now b n q)) (block-refused now r.place u (label_name_at now u.0 b.0) (place-grows r.module now r.place q.grows o.place) e f new s h))
+    (subst (λ y. Steps (Err (fault_of f)) y s) (sym (label-same r u now b n q)) (block-refused now r.place u (label_name_at now u.0 b.0) (place-grows r.resolver.module now r.place q.grows o.place) e f new s h))
 
 pub label-outside : (r : Reader) (n : List ℕ) → ReaderIsInOrder r → label_unit r.place ≡ None → step (state_of r) (label_item n) ≡ Err syntax
-label-outside r n o e = step-misplaced (state_of r) (label_item n) (ap (λ q. may_stand q (label_item n)) (place-is r.module r.place o.place) ∙ label-misplaced r.place n e)
+label-outside r n o e = step-misplaced (state_of r) (label_item n) (ap (λ q. may_stand q (label_item n)) (place-is r.resolver.module r.place o.place) ∙ label-misplaced r.place n e)
 
 -- the label names what was entered for it
-pub label-named : (r : Reader) (u : UnitId) (now new : Arena) (b : BlockId) (n : List ℕ) → ReaderIsInOrder r → label_unit r.place ≡ Some u → LabelPlaced r.module now u b n
+pub label-named : (r : Reader) (u : UnitId) (now new : Arena) (b : BlockId) (n : List ℕ) → ReaderIsInOrder r → label_unit r.place ≡ Some u → LabelPlaced r.resolver.module now u b n
     → AddsBlock (Ok tt) now new u (label_name_at now u.0 b.0)
     → EachNamed new
 label-named r u now new b n o e q h =
-    let w = place-grows r.module now r.place q.grows o.place in
-    let only = subst (λ x. EntersOnly (one_label x) r.module now u.0) (sym q.says) q.only in
-    named-changed r.module now new u (one_label (label_name_at now u.0 b.0)) (with_block (label_name_at now u.0 b.0)) (with_block-extends (label_name_at now u.0 b.0)) o.named q.grows only
+    let w = place-grows r.resolver.module now r.place q.grows o.place in
+    let only = subst (λ x. EntersOnly (one_label x) r.resolver.module now u.0) (sym q.says) q.only in
+    named-changed r.resolver.module now new u (one_label (label_name_at now u.0 b.0)) (with_block (label_name_at now u.0 b.0)) (with_block-extends (label_name_at now u.0 b.0)) o.named q.grows only
     (label-asks now r.place u w e).opened h.1 (λ m c. with_block-names (label_name_at now u.0 b.0) (unit_text_at now u.0) m c)
 
 -- the end of a unit
 pub close-misplaced : (r : Reader) → ReaderIsInOrder r → may_close r.place ≡ false → step (state_of r) close_item ≡ Err syntax
-close-misplaced r o e = step-misplaced (state_of r) close_item (ap (λ q. may_stand q close_item) (place-is r.module r.place o.place) ∙ close-stands r.place ∙ e)
+close-misplaced r o e = step-misplaced (state_of r) close_item (ap (λ q. may_stand q close_item) (place-is r.resolver.module r.place o.place) ∙ close-stands r.place ∙ e)
 
-pub close-taken : (r : Reader) → ReaderIsInOrder r → may_close r.place ≡ true → step (state_of r) close_item ≡ Ok (state_at r.module Outside)
-close-taken r o e = step-ok (state_of r) close_item (ap (λ q. may_stand q close_item) (place-is r.module r.place o.place) ∙ close-stands r.place ∙ e) refl refl
+pub close-taken : (r : Reader) → ReaderIsInOrder r → may_close r.place ≡ true → step (state_of r) close_item ≡ Ok (state_at r.resolver.module Outside)
+close-taken r o e = step-ok (state_of r) close_item (ap (λ q. may_stand q close_item) (place-is r.resolver.module r.place o.place) ∙ close-stands r.place ∙ e) refl refl

@@ -2,7 +2,7 @@
 use Rattle.std.proofs.Common.{◌≡◌, ◌⊎◌, ℕ, ◌<◌, List, [], ◌∷◌, ◌++◌, Contains, flat_map, if◌then◌else◌, Ok, inl, inr, refl, ap, sym, ◌∙◌, subst, arith, append_assoc, append-nil}
 use Rattle.std.proofs.lemmas.List.Elements.{Contains-append_left, Contains-append_right}
 use Rattle.lh_unit_names.specs.declared.name.UnitName.{UnitName}
-use Rattle.lh_unit.specs.Arena.{Arena, KeepsEntries, one_more_in, unit_count, value_count, label_count, unit_name_at, value_name_at, label_name_at}
+use Rattle.lh_unit.specs.Arena.{Arena, KeepsEntries, one_more_in, value_count, label_count, unit_name_at, value_name_at, label_name_at}
 use Rattle.lh_unit.specs.Builders.{NoneElse, FindsUnit, FindsValue, FindsLabel}
 use Rattle.lh_unit.specs.declared.inst.UnitId.{UnitId}
 use Rattle.lh_unit.specs.declared.inst.BlockId.{BlockId}

@@ -82,9 +82,9 @@ pub nothing_left : (rest : List ℕ) → true ≡ (length rest == 0) → rest �
 nothing_left [] e = refl
 nothing_left (b ∷ rest) e = let n : length (b ∷ rest) ≡ 0 = nat_eq-is (length (b ∷ rest)) 0 (sym e) in absurd (omega (arith, n))
 
-pub At-end : (text rest : List ℕ) (number : ℕ) (r : Reader) → At text rest number r → rest ≡ [] → is_inside r.place ≡ false → Reads text (contents r.module)
+pub At-end : (text rest : List ℕ) (number : ℕ) (r : Reader) → At text rest number r → rest ≡ [] → is_inside r.place ≡ false → Reads text (contents r.resolver.module)
 At-end text rest number r a e o =
-    a.reads (contents r.module) (subst (λ t. Walk (lines_of t) (state_of r) (closed (contents r.module))) (sym e) (λ i. record { items = contents r.module; inside = o i }))
+    a.reads (contents r.resolver.module) (subst (λ t. Walk (lines_of t) (state_of r) (closed (contents r.resolver.module))) (sym e) (λ i. record { items = contents r.resolver.module; inside = o i }))
 
 pub At-open : (text rest : List ℕ) (number : ℕ) (r : Reader) → At text rest number r → rest ≡ [] → is_inside r.place ≡ true → FirstBad text number syntax
 At-open text rest number r a e o = a.bad number syntax (subst (λ t. FirstBadFrom (lines_of t) number (state_of r) number syntax) (sym e) (o, refl, refl))

@@ -1,9 +1,9 @@
 -- Worked texts: what they read as, and their first faulty line.
-use Rattle.std.proofs.Common.{ℕ, List, [], ◌∷◌, ◌++◌, Option, Some, None, true, false, refl}
+use Rattle.std.proofs.Common.{ℕ, List, [], ◌∷◌, ◌++◌, Option, Some, None, refl}
 use Rattle.std.specs.Prelude.{codes}
 use Rattle.lh_types.specs.Types.{TypeTree, int_type, signal_type}
 use Rattle.lh_types.specs.Values.{int_value}
-use Rattle.lh_unit.specs.Contents.{ArgText, BlockText, ItemText, unit_text, declare_text, LineText, InstText, const_text, sig_text, br_text, wait_text, ret_text}
+use Rattle.lh_unit.specs.Contents.{ArgText, BlockText, ItemText, unit_text, declare_text, const_text, sig_text, br_text, wait_text, ret_text}
 use Rattle.lh_unit.specs.Worded.{gives, does, input, output, block, body}
 use Rattle.lh_unit.specs.Lexemes.{first_lexeme}
 use Rattle.lh_unit.specs.Reads.{Reads, FirstBad, syntax, duplicate_name}

@@ -19,7 +19,7 @@ state_at a p = record { items = contents a; inside = is_inside p }
 
 -- how far a reader has read
 abbrev pub state_of : Reader → ReadState
-state_of r = state_at r.module r.place
+state_of r = state_at r.resolver.module r.place
 
 -- an entity has a block; a function or process has labels, and in a place behind the first of them it has a block
 abbrev pub HasOpenBlock : reads.LinePlace → UnitText → Type 0
@@ -50,5 +50,5 @@ InPlace a (InBlock u) = InUnit a u in_block
 
 -- the reader is in order: its place is that of its module, in which each entry is named by some line
 pub record ReaderIsInOrder (r : Reader) : Type 0 where
-  pub place : InPlace r.module r.place
-  pub named : EachNamed r.module
+  pub place : InPlace r.resolver.module r.place
+  pub named : EachNamed r.resolver.module

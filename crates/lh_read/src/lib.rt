@@ -94,7 +94,7 @@ fn read_exact(alloc: Global, text: &[u8]) -> Result<Module, TextFault>
     if reader.place.is_inside() {
         return Err(TextFault::Syntax(number));
     }
-    Ok(reader.module)
+    Ok(reader.resolver.module)
 }
 
 /// Every text reads as exactly one list of items, or has exactly one first faulty line, and never both.

@@ -33,5 +33,5 @@ pub fn read_line(alloc: Global, reader: &mut Reader, text: &[u8]) -> Result<(), 
 {
     let tokens = Tokens::of(text);
     let said = item(alloc, &tokens)?;
-    reader.take(alloc, said)
+    reader.take(said)
 }

@@ -9,17 +9,13 @@ ghost use Rattle.lh_read.specs.Building.{Steps};
 ghost use Rattle.lh_read.specs.InOrder.{state_of, ReaderIsInOrder};
 
 use crate::faults::LineFault;
-use crate::ids::{label_id, result_id};
-use crate::insts::instruction;
-use crate::known::Known;
+use crate::ids::Resolver;
 use crate::places::LinePlace;
-use crate::units::{begin_function, begin_with_ports};
 use lh_read_phrases::syntax::{InstSyntax, LineSyntax, Param, Ports};
 use lh_read_pieces::tokens::{NameText, UnitNameText};
 use lh_types::memory::NoMemory;
 use lh_types::ty::{Ty, TyList};
 use lh_unit::inst::{Declare, UnitKind};
-use lh_unit::module::Module;
 use std::alloc::Global;
 
 /// How many types a list may have of which the room that no type needs is given back.
@@ -74,9 +70,8 @@ fn declare_unit(
 /// A module as far as it is read, and the place in which the next line stands.
 #[derive(Drop)]
 pub struct Reader {
-    pub module: Module,
+    pub resolver: Resolver,
     pub place: LinePlace,
-    known: Known,
 }
 
 impl Reader {
@@ -86,27 +81,26 @@ impl Reader {
         ensures order { ReaderIsInOrder result }
     {
         Reader {
-            module: Module::new(alloc),
+            resolver: Resolver::new(alloc),
             place: LinePlace::Outside,
-            known: Known::new(alloc),
         }
     }
 
     /// Takes what the next line says. After a fault the reader is of no more use.
-    pub fn take(&mut self, alloc: Global, line: LineSyntax) -> Result<(), LineFault>
+    pub fn take(&mut self, line: LineSyntax) -> Result<(), LineFault>
         requires { ReaderIsInOrder self.old }
         ensures step { Steps result (step (state_of self.old) (item_of line.entry)) (state_of self.new) }
         ensures order { OnOk result (ReaderIsInOrder self.new) }
     {
         match line {
-            LineSyntax::Inst { result, inst } => self.take_inst(alloc, &result, inst),
-            line => self.take_any(alloc, line),
+            LineSyntax::Inst { result, inst } => self.take_inst(&result, inst),
+            line => self.take_any(line),
         }
     }
 
     /// Takes a line of any kind. It stands apart, since most lines are instructions, and all kinds together take a large frame.
     #[inline(never)]
-    fn take_any(&mut self, alloc: Global, line: LineSyntax) -> Result<(), LineFault>
+    fn take_any(&mut self, line: LineSyntax) -> Result<(), LineFault>
         requires { ReaderIsInOrder self.old }
         ensures step { Steps result (step (state_of self.old) (item_of line.entry)) (state_of self.new) }
         ensures order { OnOk result (ReaderIsInOrder self.new) }
@@ -117,32 +111,29 @@ impl Reader {
                 name,
                 params,
                 result,
-            } => self.take_function(alloc, &name, params.as_slice(), result),
-            LineSyntax::Proc { name, ports } => {
-                self.take_unit(alloc, UnitKind::Proc, &name, &ports)
-            }
+            } => self.take_function(&name, params.as_slice(), result),
+            LineSyntax::Proc { name, ports } => { self.take_unit(UnitKind::Proc, &name, &ports) }
             LineSyntax::Entity { name, ports } => {
-                self.take_unit(alloc, UnitKind::Entity, &name, &ports)
+                self.take_unit(UnitKind::Entity, &name, &ports)
             }
             LineSyntax::DeclareFunc {
                 name,
                 params,
                 result,
-            } => self.take_declare(declare_function(alloc, &name, params, result)?),
+            } => self.take_declare(declare_function(self.resolver.alloc, &name, params, result)?),
             LineSyntax::DeclareUnit {
                 name,
                 inputs,
                 outputs,
-            } => self.take_declare(declare_unit(alloc, &name, inputs, outputs)?),
-            LineSyntax::Label(name) => self.take_label(alloc, &name),
-            LineSyntax::Inst { result, inst } => self.take_inst(alloc, &result, inst),
+            } => self.take_declare(declare_unit(self.resolver.alloc, &name, inputs, outputs)?),
+            LineSyntax::Label(name) => self.take_label(&name),
+            LineSyntax::Inst { result, inst } => self.take_inst(&result, inst),
             LineSyntax::Close => self.take_close(),
         }
     }
 
     fn take_function(
         &mut self,
-        alloc: Global,
         name: &UnitNameText,
         params: &[Param],
         result_type: Ty,
@@ -157,21 +148,13 @@ impl Reader {
         if name.is_assert() {
             return Err(LineFault::DuplicateName);
         }
-        let unit = begin_function(
-            alloc,
-            &mut self.known,
-            &mut self.module,
-            name,
-            params,
-            result_type,
-        )?;
+        let unit = self.resolver.begin_function(name, params, result_type)?;
         self.place = LinePlace::behind_header(UnitKind::Func, unit);
         Ok(())
     }
 
     fn take_unit(
         &mut self,
-        alloc: Global,
         kind: UnitKind,
         name: &UnitNameText,
         ports: &Ports,
@@ -186,7 +169,7 @@ impl Reader {
         if name.is_assert() {
             return Err(LineFault::DuplicateName);
         }
-        let unit = begin_with_ports(alloc, &mut self.known, &mut self.module, kind, name, ports)?;
+        let unit = self.resolver.begin_with_ports(kind, name, ports)?;
         self.place = LinePlace::behind_header(kind, unit);
         Ok(())
     }
@@ -199,11 +182,11 @@ impl Reader {
         if self.place.is_inside() {
             return Err(LineFault::Syntax);
         }
-        self.module.add_declare(declare)?;
+        self.resolver.module.add_declare(declare)?;
         Ok(())
     }
 
-    fn take_label(&mut self, alloc: Global, name: &NameText) -> Result<(), LineFault>
+    fn take_label(&mut self, name: &NameText) -> Result<(), LineFault>
         requires { ReaderIsInOrder self.old }
         ensures step { Steps result (step (state_of self.old) (label_item name.now)) (state_of self.new) }
         ensures order { OnOk result (ReaderIsInOrder self.new) }
@@ -211,18 +194,13 @@ impl Reader {
         let Some(unit) = self.place.label_unit() else {
             return Err(LineFault::Syntax);
         };
-        let block = label_id(alloc, &mut self.module, unit, name)?;
-        self.module.add_block(unit, block)?;
+        let block = self.resolver.label_id(unit, name)?;
+        self.resolver.module.add_block(unit, block)?;
         self.place = LinePlace::InEmptyBlock(unit);
         Ok(())
     }
 
-    fn take_inst(
-        &mut self,
-        alloc: Global,
-        name: &Option<NameText>,
-        inst: InstSyntax,
-    ) -> Result<(), LineFault>
+    fn take_inst(&mut self, name: &Option<NameText>, inst: InstSyntax) -> Result<(), LineFault>
         requires { ReaderIsInOrder self.old }
         ensures step { Steps result (step (state_of self.old) (inst_item (record { result = name.now; inst = inst_of inst.entry }))) (state_of self.new) }
         ensures order { OnOk result (ReaderIsInOrder self.new) }
@@ -231,12 +209,12 @@ impl Reader {
             drop(inst);
             return Err(LineFault::Syntax);
         };
-        let Ok(value) = result_id(alloc, &mut self.known, &mut self.module, unit, name) else {
+        let Ok(value) = self.resolver.result_id(unit, name) else {
             drop(inst);
             return Err(LineFault::OutOfMemory);
         };
-        let inst = instruction(alloc, &mut self.known, &mut self.module, unit, inst)?;
-        self.module.add_inst(unit, value, inst)?;
+        let inst = self.resolver.instruction(unit, inst)?;
+        self.resolver.module.add_inst(unit, value, inst)?;
         self.place = self.place.behind_inst();
         Ok(())
     }
@@ -249,7 +227,7 @@ impl Reader {
         if !self.place.may_close() {
             return Err(LineFault::Syntax);
         }
-        self.module.shrink();
+        self.resolver.module.shrink();
         self.place = LinePlace::Outside;
         Ok(())
     }

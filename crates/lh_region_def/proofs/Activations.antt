@@ -35,7 +35,7 @@ use Rattle.lh_region_def.specs.Typed.{Among, IsOfType, JoinEdge}
 use Rattle.lh_region_def.specs.Means.{range_in, reads, KnownIsHeld, KnowledgeAgrees}
 use Rattle.lh_region_def.specs.Laws.{EndsAs, max_steps, WaitsForHead, FirstActivation, AgainFromHead, HeadStaysKnown, RowsAreTyped, EndTyped}
 use Rattle.lh_region_def.specs.Right.{DriveTyped, BlockAt, WayRight}
-use Rattle.lh_region_def.proofs.Among.{in-each}
+use Rattle.lh_flat_laws.proofs.Members.{in-each}
 use Rattle.lh_region_def.proofs.MergedValues.{bit-condition}
 use Rattle.lh_region_def.proofs.Labels.{block-labelled}
 use Rattle.lh_region_def.proofs.Steps.{RegionOf}

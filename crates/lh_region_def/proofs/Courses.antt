@@ -20,7 +20,7 @@ use Rattle.lh_region_def.specs.Regions.{RegionRefusal, region_too_large, too_man
 use Rattle.lh_region_def.specs.Typed.{Among, KnowsTyped, KnowsThere, IsCondition, JoinEdge}
 use Rattle.lh_region_def.specs.Right as right
 use Rattle.lh_region_def.specs.Right.{BlockAt, DriveTyped}
-use Rattle.lh_region_def.proofs.Among.{in-each, each-among, filter-among}
+use Rattle.lh_flat_laws.proofs.Members.{in-each, each-among, filter-among}
 use Rattle.lh_region_def.proofs.Sites.{LineGood, good-lines}
 use Rattle.lh_region_def.proofs.MergedValues.{EachCondition, any-condition, bit-condition}
 use Rattle.lh_region_def.proofs.Labels.{block-text}

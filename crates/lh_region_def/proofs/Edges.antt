@@ -21,16 +21,16 @@ use Rattle.lh_verify_laws.specs.Defined.{IsThere, IsThereOnEdge, OperandsThere}
 use Rattle.lh_verify_laws.specs.Operands.{IsOf, RowIs}
 use Rattle.lh_verify_laws.proofs.AtPlaces.{place-at}
 use Rattle.lh_verify_laws.proofs.There.{there-after, last-leads}
-use Rattle.lh_flat_laws.specs.Formed.{IsFormed, IsOne, PhiFormed}
+use Rattle.lh_flat_laws.specs.Formed.{IsFormed, PhiFormed}
 use Rattle.lh_region_def.specs.Known.{Knowledge, value_known}
 use Rattle.lh_region_def.specs.Joins.{RegionEdge}
-use Rattle.lh_region_def.specs.Typed.{KnowsTyped, KnowsThere, IsCondition, PhiKnown, JoinEdge}
+use Rattle.lh_region_def.specs.Typed.{Among, KnowsTyped, KnowsThere, IsCondition, PhiKnown, JoinEdge}
 use Rattle.lh_region_def.proofs.Sites.{Site, site-at, block-at, not-result}
 use Rattle.lh_region_def.proofs.KnowledgeChanges.{there-past}
 use Rattle.lh_region_def.proofs.Operations.{value-known}
 
 -- an edge that is named is found
-edge-found : (P : EdgeText → Type 0) (from : List ℕ) (es : List EdgeText) → Each P es → (e : EdgeText) → IsOne es e → e.block ≡ from → (x : EdgeText) × P x × (x.block ≡ from)
+edge-found : (P : EdgeText → Type 0) (from : List ℕ) (es : List EdgeText) → Each P es → (e : EdgeText) → Among e es → e.block ≡ from → (x : EdgeText) × P x × (x.block ≡ from)
     × (edge_from from es ≡ Some x.value)
 edge-found P from [] h e o q = elim o [ ]
 edge-found P from (x ∷ es) h e o q = at (same_name x.block from) refl o (λ m. edge-found P from es h.1 e m q)
@@ -38,7 +38,7 @@ edge-found P from (x ∷ es) h e o q = at (same_name x.block from) refl o (λ m.
     named : (y : EdgeText) → y ≡ e → same_name y.block from ≡ true
     named y p = ap (λ (z : EdgeText). same_name z.block from) p ∙ ap (λ n. same_name n from) q ∙ same_name-refl from
 
-    at : (b : Bool) → same_name x.block from ≡ b → (x ≡ e) ⊎ IsOne es e → (IsOne es e → (y : EdgeText) × P y × (y.block ≡ from) × (edge_from from es ≡ Some y.value))
+    at : (b : Bool) → same_name x.block from ≡ b → (x ≡ e) ⊎ Among e es → (Among e es → (y : EdgeText) × P y × (y.block ≡ from) × (edge_from from es ≡ Some y.value))
         → (y : EdgeText) × P y × (y.block ≡ from) × ((if b then Some x.value else edge_from from es) ≡ Some y.value)
     at true k m go = (x, h.0, same_name-is x.block from k, refl)
     at false k (inl p) go = absurd (false≢true (sym k ∙ named x p))
@@ -88,7 +88,7 @@ module _ (u : UnitText) (f : IsFormed u) (i : ℕ) (from : List ℕ) (text : Blo
         where
           by : (m : ℕ) (d : Bool) (i : InstText) → PhiFormed u (place-at m d b seen x more) i → OperandsThere kind.Proc u (place-at m d b seen x more) i → RowIs u i → PhiKnown e i
           by m d (phi_text ty es) p o row =
-              let one = block-at (λ (y : BlockText). has_edge y (label_or b.label) ≡ true → (e : EdgeText) × IsOne es e × (e.block ≡ label_or y.label)) u.blocks i text p.named at edge in
+              let one = block-at (λ (y : BlockText). has_edge y (label_or b.label) ≡ true → (e : EdgeText) × Among e es × (e.block ≡ label_or y.label)) u.blocks i text p.named at edge in
               let both = Each-zip (IsThereOnEdge u (label_or b.label)) (λ (y : EdgeText). IsOf u ty y.value) (Good ty) (λ y a c. (a, c)) es o row.1 in
               let y = edge-found (Good ty) from es both one.0 one.1 (one.2 ∙ ap label_or label) in
               let at-end : IsThere u text text.lines y.0.value = y.1.0 text (ap (λ n. block_of n u.blocks) y.2 ∙ named) edge in

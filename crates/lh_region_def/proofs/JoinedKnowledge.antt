@@ -19,7 +19,7 @@ use Rattle.lh_term.specs.declared.part.Part.{Part}
 use Rattle.lh_region_def.specs.Known.{Known, known_value, known_cell, known_part, Knowledge, as_value, as_cell, as_part, value_known, cell_known, part_known}
 use Rattle.lh_region_def.specs.Joins.{RegionEdge, selector, chosen_from, on_each, merged, merged_by, first_one, joined}
 use Rattle.lh_region_def.specs.Typed.{Among, known_type, IsTypedKnown, KnowsTyped, KnowsThere, IsOfType, JoinEdge}
-use Rattle.lh_region_def.proofs.Among.{in-each}
+use Rattle.lh_flat_laws.proofs.Members.{in-each}
 use Rattle.lh_region_def.proofs.MergedValues.{EachCondition, AllOf, EachMeans, taken, merged-typed, merged-means}
 use Rattle.lh_region_def.proofs.Operations.{value-known, cell-known, part-known}
 

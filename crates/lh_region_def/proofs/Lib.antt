@@ -1,4 +1,3 @@
-pub mod Among
 pub mod MergedValues
 pub mod Sites
 pub mod PartReads
@@ -25,3 +24,4 @@ pub mod Activations
 pub mod Second
 pub mod Adjacent
 mod SampleRows
+mod Solved

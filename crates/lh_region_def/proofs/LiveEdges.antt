@@ -10,7 +10,7 @@ use Rattle.lh_region_def.specs.Rows.{RegionEnd}
 use Rattle.lh_region_def.specs.Joins.{RegionPlace, RegionEdge}
 use Rattle.lh_region_def.specs.Typed.{Among}
 use Rattle.lh_region_def.specs.Means.{range_in, KnownIsHeld, is_one}
-use Rattle.lh_region_def.proofs.Among.{among-left, among-right, among-split}
+use Rattle.lh_flat_laws.proofs.Members.{among-left, among-right, among-split}
 
 module _ (u : UnitText) (args : List Range) (past now : Valuation) where
   abbrev pub holds : Tree → Bool

@@ -22,7 +22,7 @@ use Rattle.lh_region_def.specs.Joins.{RegionEdge, or_any, any_taken, in_each, se
 use Rattle.lh_region_def.specs.Typed.{Among, IsCondition, IsOfType}
 use Rattle.lh_region_def.specs.Means.{is_one}
 use Rattle.lh_term.proofs.Conditions.{AllBits, one_bit, bit_one, holds, holds_with, conjuncts_are_bits, filter-bits, conjuncts_hold, and_typed, from_all}
-use Rattle.lh_region_def.proofs.Among.{in-each}
+use Rattle.lh_flat_laws.proofs.Members.{in-each}
 
 as-bit : (t : Tree) → IsCondition t → IntTerm t 1
 as-bit t c = record { typed = c.typed; type = c.type }

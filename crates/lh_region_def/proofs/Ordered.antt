@@ -10,7 +10,7 @@ use Rattle.lh_region_def.specs.Joins.{RegionPlace}
 use Rattle.lh_region_def.specs.Places.{next_place}
 use Rattle.lh_region_def.specs.Regions.{numbers_below, all_places, is_place, max_turns}
 use Rattle.lh_region_def.specs.Typed.{Among}
-use Rattle.lh_region_def.proofs.Among.{in-each, among-left, among-right}
+use Rattle.lh_flat_laws.proofs.Members.{in-each, among-left, among-right}
 
 -- by turns, then by block
 abbrev pub Before : RegionPlace → RegionPlace → Type 0
@@ -25,6 +25,12 @@ not-both p q (inl h) (inl k) = omega (arith, h, k)
 not-both p q (inl h) (inr k) = let z = k.0 in omega (arith, h, z)
 not-both p q (inr h) (inl k) = let z = h.0 in omega (arith, k, z)
 not-both p q (inr h) (inr k) = let z = h.1 in let y = k.1 in omega (arith, z, y)
+
+pub before-trans : (p q r : RegionPlace) → Before p q → Before q r → Before p r
+before-trans p q r (inl h) (inl k) = inl (omega (arith, h, k))
+before-trans p q r (inl h) (inr k) = let z = k.0 in inl (omega (arith, h, z))
+before-trans p q r (inr h) (inl k) = let z = h.0 in inl (omega (arith, k, z))
+before-trans p q r (inr h) (inr k) = let z = h.1 in let y = k.1 in inr (h.0 ∙ k.0, omega (arith, z, y))
 
 abbrev pub Sorted : List RegionPlace → Type 0
 Sorted [] = Unit {0}

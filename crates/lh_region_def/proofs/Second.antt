@@ -29,7 +29,7 @@ use Rattle.lh_region_def.specs.Ending.{StandsAs}
 use Rattle.lh_region_def.specs.Laws.{Probes, CameTo, EndsAs, ThenFirst, max_steps, WaitsAfter, SecondRegion}
 use Rattle.lh_region_def.specs.Right.{BlockAt, JoinsAt, WayRight}
 use Rattle.lh_region_def.proofs.PartReads.{reads-fit}
-use Rattle.lh_region_def.proofs.Among.{in-each}
+use Rattle.lh_flat_laws.proofs.Members.{in-each}
 use Rattle.lh_region_def.proofs.MergedValues.{bit-condition}
 use Rattle.lh_region_def.proofs.Labels.{block-labelled, block-text}
 use Rattle.lh_region_def.proofs.Sites.{good-lines}

@@ -42,7 +42,7 @@ use Rattle.lh_region_def.specs.Regions.{is_constant, with_constant, with_constan
 use Rattle.lh_region_def.specs.Typed.{known_type, Among, of_argument, IsTypedKnown, KnowsTyped, KnowsThere, JoinEdge}
 use Rattle.lh_region_def.specs.Means.{range_in, lowest_bit, held_as, KnownIsHeld}
 use Rattle.lh_region_def.specs.Right.{BlockAt}
-use Rattle.lh_region_def.proofs.Among.{in-each, among-split}
+use Rattle.lh_flat_laws.proofs.Members.{in-each, among-split}
 use Rattle.lh_region_def.proofs.Sites.{LineGood, good-lines}
 use Rattle.lh_region_def.proofs.MergedValues.{bit-condition}
 use Rattle.lh_region_def.proofs.KnowledgeChanges.{constant-typed, given-shows-typed}

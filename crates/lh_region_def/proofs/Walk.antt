@@ -25,7 +25,7 @@ use Rattle.lh_region_def.specs.Typed.{Among, IsCondition, JoinEdge}
 use Rattle.lh_region_def.specs.Means.{range_in, reads, KnownIsHeld, is_one, with_row, with_rows}
 use Rattle.lh_region_def.specs.Ending.{StandsAs}
 use Rattle.lh_region_def.specs.Right.{BlockAt}
-use Rattle.lh_region_def.proofs.Among.{in-each, among-filter, filter-among, among-split}
+use Rattle.lh_flat_laws.proofs.Members.{in-each, among-filter, filter-among, among-split}
 use Rattle.lh_region_def.proofs.Sites.{block-at}
 use Rattle.lh_region_def.proofs.MergedValues.{EachCondition, one, any-one, any-taken, none-taken, bit-condition}
 use Rattle.lh_region_def.proofs.Labels.{block-text}

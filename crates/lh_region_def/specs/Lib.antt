@@ -9,3 +9,4 @@ pub mod Ending
 pub mod Right
 pub mod Laws
 pub mod Adjacent
+pub mod Solved

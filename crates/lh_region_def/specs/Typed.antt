@@ -1,5 +1,5 @@
 -- The terms that are met are typed, each with the type of its name, and what an instruction names is known where control stands at it.
-use Rattle.std.specs.Prelude.{◌≡◌, ◌⊎◌, ℕ, List, [], ◌∷◌, false, Some, IsSome}
+use Rattle.std.specs.Prelude.{◌≡◌, ℕ, List, [], ◌∷◌, false, Some, IsSome}
 use Rattle.std.specs.Option.{option_and_then}
 use Rattle.lh_types.specs.Types.{TypeTree, int_type, void_type, signal_type, pointer_type, IsData}
 use Rattle.lh_types.specs.declared.op.Op.{Op}
@@ -12,14 +12,10 @@ use Rattle.lh_types.specs.Values.{Datum}
 use Rattle.lh_term.specs.Tree.{Tree, constant}
 use Rattle.lh_term.specs.Types.{type_of, IsTyped}
 use Rattle.lh_term.specs.declared.part.Part.{Part}
+pub use Rattle.lh_flat_laws.specs.Members.{Among}
 use Rattle.lh_region_def.specs.Known.{Known, known_value, known_cell, known_part, Knowledge, argument_part}
 use Rattle.lh_region_def.specs.Joins.{RegionEdge, phi_on}
 use Rattle.lh_region_def.specs.Places.{stepped}
-
--- x is an item of the list
-abbrev pub Among : {X : Type 0} → X → List X → Type 0
-Among x [] = ⊥
-Among x (y ∷ more) = (y ≡ x) ⊎ Among x more
 
 -- the type of a value of which this is known
 abbrev pub known_type : Known → TypeTree

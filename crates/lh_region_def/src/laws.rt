@@ -1,5 +1,6 @@
 //! The law of rows, each law as the contract of a function that does nothing.
 ghost use Rattle.lh_region_def.specs.Adjacent.{AdjacentDrivesMerge, MergedDriveIsTyped};
+ghost use Rattle.lh_region_def.specs.Solved.{RegionIsSolved};
 ghost use Rattle.lh_region_def.specs.Laws.{AgainFromHead, FirstActivation, HeadStaysKnown, RowsAreTyped, SecondRegion};
 
 /// The first activation of an instance comes to exactly one end of its first region: the one whose condition holds. Its wish has
@@ -34,4 +35,10 @@ pub fn second_region()
 pub fn adjacent_drives_merge()
     ensures merge { AdjacentDrivesMerge }
     ensures typed { MergedDriveIsTyped }
+{}
+
+/// A region is what its equations say: each place to which edges lead has the condition that one of them is taken and the knowledge in which
+/// they join, and the edges and rows of the region are those that its places give so, in the order of places.
+pub fn region_is_solved()
+    ensures { RegionIsSolved }
 {}

@@ -44,7 +44,7 @@ use Rattle.lh_flat_parts.specs.Steps.{step_if, step_in, is_result, if_result, st
 use Rattle.lh_term.specs.Parts.{whole_argument}
 use Rattle.lh_flat_parts.specs.declared.step.PartStep.{PartStep}
 use Rattle.lh_region_def.specs.Typed.{Among}
-use Rattle.lh_region_def.proofs.Among.{in-each}
+use Rattle.lh_flat_laws.proofs.Members.{in-each}
 use Rattle.lh_region_def.proofs.Operations.{carried-is}
 use Rattle.lh_region.specs.Forms.{Names}
 use Rattle.lh_region_walk.specs.Walked.{process_by}

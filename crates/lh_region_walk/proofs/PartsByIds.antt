@@ -47,7 +47,7 @@ use Rattle.lh_flat_parts.specs.declared.table.PartTable.{PartTable}
 use Rattle.lh_region_def.specs.Known.{known_part, argument_part}
 use Rattle.lh_region_def.specs.Places.{stepped}
 use Rattle.lh_region_def.specs.Typed.{Among, IsPartOf, of_argument, of_step}
-use Rattle.lh_region_def.proofs.Among.{in-each, among-split, among-left, among-right}
+use Rattle.lh_flat_laws.proofs.Members.{in-each, among-split, among-left, among-right}
 use Rattle.lh_region_def.proofs.PartsNamed.{part-argument, part-is as same-known}
 use Rattle.lh_region_def.proofs.Heads.{define-last, define-append}
 use Rattle.lh_region.specs.Forms.{Names}

@@ -1,5 +1,6 @@
+use Rattle.lh_emit_def.proofs.FirstSteps.{steps-first}
 use Rattle.lh_emit_def.proofs.ReachedParts.{part-reached}
 use Rattle.lh_emit_def.proofs.laws.steps_law.Goals as goal
 
 pub returns : goal.returns
-returns c = part-reached
+returns c = record { reached = part-reached; first = steps-first }

@@ -1,12 +1,16 @@
-use Rattle.std.proofs.Common.{◌≡◌, ◌+◌, drop, get_or, OnOk, refl, ap, sym, ◌∙◌, subst, arith}
+use Rattle.std.proofs.Common.{◌≡◌, ◌+◌, ◌-◌, drop, get_or, OnOk, refl, ap, sym, ◌∙◌, subst, arith}
 use Rattle.std.proofs.lemmas.List.{drop_all, drop_more}
 use Rattle.lh_unit.specs.declared.inst.InstId.{InstId}
 use Rattle.lh_unit.specs.declared.table.TableLine.{TableLine}
 use Rattle.lh_flat.specs.declared.build.FlatBuilder.{FlatBuilder}
 use Rattle.lh_flat.specs.Graph.{callee_of}
-use Rattle.lh_flat.specs.Building.{line_of, put, taken, line_added, insts_added, blocks_added, call_added}
+use Rattle.lh_unit.specs.Arena.{blocks_at, block_insts_at, inst_count}
+use Rattle.lh_flat.specs.Room.{inner_values, call_values}
+use Rattle.lh_flat.specs.Building.{line_of, unit_room, call_room, put, taken, line_added, insts_added, blocks_added, call_added}
 use Rattle.lh_flat.proofs.CallGraph.{placed-at}
 use Rattle.lh_flat.proofs.BuilderRoom.{call_added-none, call_added-is, copy_added}
+use Rattle.lh_unit.proofs.ModuleLaws.{insts-at}
+use Rattle.lh_flat.proofs.Rooms.{room-block, room-inst, room-call, room-less}
 use Rattle.lh_flat.proofs.build.FlatBuilder.+copying.Goals as goal
 
 pub add_call-returns-then-depth-eq0 : goal.add_call-returns-then-depth-eq0
@@ -32,9 +36,41 @@ add_copy-returns t c =
 pub add_unit-add_block-requires : goal.add_unit-add_block-requires
 add_unit-add_block-requires t c = (
   omega arith,
-  placed-at c.args.copy.now.view.module.now c.args.copy.now.view.unit.0 c.loop-block.block-index (record { 0 = 0 }) c.blocks-block-items.result.now c.blocks-block-items.ensures.sound
-      c.args.copy.now.view.in_place
-      c.blocks-block-items.ensures.blocks c.loop-block-test.true,
+  (
+    placed-at c.args.copy.now.view.module.now c.args.copy.now.view.unit.0 c.loop-block.block-index (record { 0 = 0 }) c.blocks-block-items.result.now c.blocks-block-items.ensures.sound
+        c.args.copy.now.view.in_place
+        c.blocks-block-items.ensures.blocks c.loop-block-test.true,
+    room-block c.args.copy.now.view.module.now c.args.depth c.args.copy.now.view.unit.0 c.args.copy.now.ids c.blocks-block-items.result.now c.loop-block.block-index (record { 0 = 0 })
+        (blocks_at c.args.copy.now.view.module.now c.args.copy.now.view.unit.0) c.loop-block.self c.args.self.now c.loop-block-test.true c.requires c.loop-block.invariant,
+  ),
+)
+
+pub add_block-add_inst-requires : goal.add_block-add_inst-requires
+add_block-add_inst-requires t c = (
+  omega arith,
+  (
+    insts-at (inst_count c.args.copy.now.view.module.now c.args.copy.now.view.unit.0) c.loop-id.id-index (record { 0 = 0 }) c.insts-id-items.result.now
+        (block_insts_at c.args.copy.now.view.module.now c.args.copy.now.view.unit.0 c.args.block.0) c.loop-id-test.true c.insts-id-items.ensures.insts c.requires.placed.insts,
+    room-inst c.args.copy.now.view.module.now c.args.depth c.args.copy.now.view.unit.0 c.args.copy.now.ids c.insts-id-items.result.now c.loop-id.id-index (record { 0 = 0 })
+        (block_insts_at c.args.copy.now.view.module.now c.args.copy.now.view.unit.0 c.args.block.0) c.loop-id.self c.args.self.now c.loop-id-test.true c.requires.room c.loop-id.invariant,
+  ),
+)
+
+pub add_call-copy_for-requires-clause-room : goal.add_call-copy_for-requires-clause-room
+add_call-copy_for-requires-clause-room t c =
+    let a = c.args.copy.now.view.module.now in
+    let f = c.args.function in
+    room-less c.args.self.now (unit_room (call_room (c.args.depth - 1) a) a f.0 + 1) (inst_count a f.0) (inner_values (call_values (c.args.depth - 1) a) a f.0)
+    (room-call c.args.depth a a f f c.args.self.now c.if-depth-eq0.false refl refl c.requires.room)
+
+pub add_call-add_copy-added-requires : goal.add_call-add_copy-added-requires
+add_call-add_copy-added-requires t c = (
+  omega arith,
+  (
+    c.requires.placed,
+    room-call c.args.depth c.args.copy.now.view.module.now c.in_ok-called.called.view.module.now c.args.function c.in_ok-called.called.view.unit c.args.self.now c.if-depth-eq0.false
+        c.in_ok-called.ensures.of c.in_ok-called.ensures.unit c.requires.room,
+  ),
 )
 
 pub add_unit-loop-block-preserved : goal.add_unit-loop-block-preserved

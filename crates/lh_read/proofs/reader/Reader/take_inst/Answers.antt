@@ -9,24 +9,24 @@ returns-in_default-clause-step c = inst-outside c.args.self.now (record { result
 
 pub returns-in_err-add_inst-clause-step : goal.returns-in_err-add_inst-clause-step
 returns-in_err-add_inst-clause-step c =
-    let a = line-asked c.args.self.now c.in-Some.unit c.result_id.new.m c.instruction.new.m c.in-Ok.value c.in_ok-inst.inst c.args.name.now (inst_of c.args.inst) c.requires
+    let a = line-asked c.args.self.now c.in-Some.unit c.result_id.new.self.module c.instruction.new.self.module c.in-Ok.value c.in_ok-inst.inst c.args.name.now (inst_of c.args.inst) c.requires
     (sym c.block_unit.ensures ∙ c.in-Some.is) c.in-Ok.ensures c.in_ok-inst.ensures in
-    inst-refused c.from_residual-in_err-add_inst.result c.args.self.now c.in-Some.unit c.instruction.new.m c.add_inst.new.self _ _ c.in_err-add_inst.field-0.0 _ a c.in_err-add_inst.ensures
+    inst-refused c.from_residual-in_err-add_inst.result c.args.self.now c.in-Some.unit c.instruction.new.self.module c.add_inst.new.self _ _ c.in_err-add_inst.field-0.0 _ a c.in_err-add_inst.ensures
     c.from_residual-in_err-add_inst.ensures.1
 
 pub returns-clause-step : goal.returns-clause-step
 returns-clause-step c =
-    let a = line-asked c.args.self.now c.in-Some.unit c.result_id.new.m c.instruction.new.m c.in-Ok.value c.in_ok-inst.inst c.args.name.now (inst_of c.args.inst) c.requires
+    let a = line-asked c.args.self.now c.in-Some.unit c.result_id.new.self.module c.instruction.new.self.module c.in-Ok.value c.in_ok-inst.inst c.args.name.now (inst_of c.args.inst) c.requires
     (sym c.block_unit.ensures ∙ c.in-Some.is) c.in-Ok.ensures c.in_ok-inst.ensures in
-    inst-taken c.args.self.now c.in-Some.unit c.instruction.new.m c.add_inst.new.self _ _ a c.in_ok-add_inst.ensures.0 c.in_ok-add_inst.ensures.1
+    inst-taken c.args.self.now c.in-Some.unit c.instruction.new.self.module c.add_inst.new.self _ _ a c.in_ok-add_inst.ensures.0 c.in_ok-add_inst.ensures.1
     ∙ ap (λ q. Ok (state_at c.add_inst.new.self q)) (sym c.behind_inst-self.ensures)
 
 pub returns-clause-order : goal.returns-clause-order
 returns-clause-order c =
-    let a = line-asked c.args.self.now c.in-Some.unit c.result_id.new.m c.instruction.new.m c.in-Ok.value c.in_ok-inst.inst c.args.name.now (inst_of c.args.inst) c.requires
+    let a = line-asked c.args.self.now c.in-Some.unit c.result_id.new.self.module c.instruction.new.self.module c.in-Ok.value c.in_ok-inst.inst c.args.name.now (inst_of c.args.inst) c.requires
     (sym c.block_unit.ensures ∙ c.in-Some.is) c.in-Ok.ensures c.in_ok-inst.ensures in
     record {
       place = subst (InPlace c.add_inst.new.self) (sym c.behind_inst-self.ensures)
-          (inst-placed c.args.self.now c.in-Some.unit c.instruction.new.m c.add_inst.new.self _ _ a c.in_ok-add_inst.ensures.1);
-      named = inst-named c.args.self.now c.in-Some.unit c.instruction.new.m c.add_inst.new.self _ _ c.requires a c.in_ok-add_inst.ensures.1;
+          (inst-placed c.args.self.now c.in-Some.unit c.instruction.new.self.module c.add_inst.new.self _ _ a c.in_ok-add_inst.ensures.1);
+      named = inst-named c.args.self.now c.in-Some.unit c.instruction.new.self.module c.add_inst.new.self _ _ c.requires a c.in_ok-add_inst.ensures.1;
     }

@@ -1,7 +1,0 @@
-use Rattle.lh_read.proofs.Lists.{drv-placed}
-use Rattle.lh_read.proofs.insts.drv.Goals as goal
-
-pub returns : goal.returns
-returns c =
-    drv-placed c.args.m.now c.operand.new.m c.value_id.new.m c.value_id-2.new.m c.maybe_id.new.m c.args.unit c.in_ok-to.to c.in_ok-value.value c.in_ok-after.after c.in_ok-cond.cond
-    _ _ _ _ c.in_ok-to.ensures c.in_ok-value.ensures c.in_ok-after.ensures c.in_ok-cond.ensures

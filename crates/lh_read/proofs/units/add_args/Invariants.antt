@@ -1,8 +1,0 @@
-use Rattle.std.proofs.Common.{map, take}
-use Rattle.lh_read.specs.Building.{arg_of}
-use Rattle.lh_read.specs.Mentions.{EachNamed}
-use Rattle.lh_read.proofs.Args.{At}
-use Rattle.lh_read.proofs.units.add_args.Given as goal
-
-abbrev pub invariant-loop-param : goal.invariant-loop-param
-invariant-loop-param l = At l.fn.m l.m l.unit (map (arg_of l.output) (take l.param-index l.params)) × (EachNamed l.fn.m → EachNamed l.m)
